@@ -1,0 +1,92 @@
+// Lent bytes: numbers of any width up to eight bytes, low byte first, and copies.
+ghost use mathlib.Core.Path.{_≡_};
+ghost use Prim.Native.Nat.{_+_, _^_, _≤_, _<_};
+ghost use lib.ListN.{length, getD, replicate};
+ghost use Rattle.memory.specs.Memory.{splice, part, bytesLE, readLE};
+
+// The byte at `place`, 0 past the end. Total readers serve the judging of files and traces; a step reads by `load`.
+pub fn byte_at(s: &[u8], place: usize) -> u8
+    ensures { λ r. ⌜ r ≡ getD (now (s .entry)) place 0 ⌝ }
+{
+    if place < s.len() {
+        return s[place];
+    }
+    0
+}
+
+// The 16-bit number at `place`; a byte past the end counts as 0.
+pub fn word_at(s: &[u8], place: usize) -> usize
+    ensures { λ r. ⌜ (r ≡ readLE (now (s .entry)) place 2) × (r < 65536) ⌝ }
+{
+    if s.len() <= place {
+        return 0;
+    }
+    let low = s[place] as usize;
+    let high = byte_at(s, place + 1) as usize;
+    low + 256 * high
+}
+
+// The number in the `width` bytes from `place` on.
+pub fn load(d: &[u8], place: usize, width: usize) -> u64
+    requires { ⌜ (place + width ≤ length (now d)) × (width ≤ 8) ⌝ }
+    ensures { λ r. ⌜ (r ≡ readLE (now (d .entry)) place width) × (r < 256 ^ width) ⌝ }
+{
+    let mut v: u64 = 0;
+    let mut i = width;
+    while 0 < i {
+        i -= 1;
+        let b = d[place + i] as u64;
+        v = v * 256 + b;
+    }
+    v
+}
+
+// Writes the `width` low bytes of `value` from `place` on.
+pub fn store(d: &mut [u8], place: usize, width: usize, value: u64)
+    requires { ⌜ place + width ≤ length (now d) ⌝ }
+    ensures { λ _. ⌜ now (d .exit) ≡ splice (now (d .entry)) place (bytesLE width value) ⌝ }
+{
+    let mut rest = value;
+    let mut i = 0;
+    while i < width {
+        d[place + i] = (rest % 256) as u8;
+        rest = rest / 256;
+        i += 1;
+    }
+}
+
+// Copies n bytes from src[from..] to dst[to..].
+pub fn copy(dst: &mut [u8], to: usize, src: &[u8], from: usize, n: usize)
+    requires { ⌜ (to + n ≤ length (now dst)) × (from + n ≤ length (now src)) ⌝ }
+    ensures { λ _. ⌜ now (dst .exit) ≡ splice (now (dst .entry)) to (part (now (src .entry)) from n) ⌝ }
+{
+    let mut i = 0;
+    while i < n {
+        dst[to + i] = src[from + i];
+        i += 1;
+    }
+}
+
+// The largest data of a core.
+const LARGEST: usize = 4096;
+
+// Copies n bytes within d as if all were read first; the stretches may overlap. Through a local array, which compiles to one move.
+pub fn copy_within(d: &mut [u8], to: usize, from: usize, n: usize)
+    requires { ⌜ (to + n ≤ length (now d)) × (from + n ≤ length (now d)) × (n ≤ 4096) ⌝ }
+    ensures { λ _. ⌜ now (d .exit) ≡ splice (now (d .entry)) to (part (now (d .entry)) from n) ⌝ }
+{
+    let mut t: [u8; LARGEST] = [0; LARGEST];
+    copy(&mut t, 0, d, from, n);
+    copy(d, to, &t, 0, n);
+}
+
+// Fills d with zeros.
+pub fn zero(d: &mut [u8])
+    ensures { λ _. ⌜ now (d .exit) ≡ replicate (length (now (d .entry))) 0 ⌝ }
+{
+    let mut i = 0;
+    while i < d.len() {
+        d[i] = 0;
+        i += 1;
+    }
+}

@@ -1,0 +1,1 @@
+// The typed values and commands of document 01.
