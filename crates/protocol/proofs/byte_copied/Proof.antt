@@ -1,0 +1,15 @@
+-- `protocol::byte_copied` meets its contract: field by field. Assumes nothing.
+use borrow.Author.Needs.{needs}
+use Rattle.protocol.specs.Registers.{byteCopied}
+use Rattle.protocol.proofs.byte_copied.Statement.{statement}
+use Rattle.protocol.proofs.byte_copied.Tie as tie
+
+add-s : tie.Need-add-s
+add-s c = search needs
+
+returns : tie.Need-returns
+unfolding byteCopied
+returns c = search needs
+
+pub byte-copied-spec : {M : Type 1} → statement M
+byte-copied-spec = tie.close (tie.spec add-s returns)

@@ -1,0 +1,15 @@
+-- `protocol::cycle_ended` meets its contract: field by field. Assumes nothing.
+use borrow.Author.Needs.{needs}
+use Rattle.protocol.specs.Registers.{cycleEnded}
+use Rattle.protocol.proofs.cycle_ended.Statement.{statement}
+use Rattle.protocol.proofs.cycle_ended.Tie as tie
+
+add-s : tie.Need-add-s
+add-s c = search needs
+
+returns : tie.Need-returns
+unfolding cycleEnded
+returns c = search needs
+
+pub cycle-ended-spec : {M : Type 1} → statement M
+cycle-ended-spec = tie.close (tie.spec add-s returns)

@@ -1,0 +1,10 @@
+pub mod Registers
+pub mod State
+pub mod Step
+pub mod Whole
+pub mod Instruction
+pub mod Variables
+pub mod History
+pub mod Laws
+pub mod Fresh
+pub mod Interleaving
