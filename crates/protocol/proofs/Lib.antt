@@ -1,1 +1,12 @@
 pub mod Flags
+pub mod Runs
+pub mod View
+pub mod Copy
+pub mod Steps
+pub mod Whole
+pub mod Pairing
+pub mod Readings
+pub mod Bytes
+pub mod Instance
+pub mod Interleaving
+pub mod Example

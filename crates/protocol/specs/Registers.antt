@@ -1,7 +1,7 @@
 -- Document 01, "One step of a core": what each part of a step does to a core's registers and to its call stack.
 -- Modes: 0 between two cycles, 1 reading exchange, 2 execution, 3 waiting to write, 4 writing exchange, 5 stopped.
 -- In order: flags; exchanges; instructions; the call stack. Every field is written, so what a change leaves alone can be read off.
-use Prim.Native.Nat.{ℕ, suc, _+_, _-_, _*_, _/_, _%_, _^_}
+use Prim.Native.Nat.{ℕ, _+_, _-_, _*_, _/_, _%_, _^_}
 use lib.ListN.{set}
 use Rattle.protocol.specs.declared.Registers.{Registers}
 use Rattle.protocol.specs.declared.Stack.{Stack}

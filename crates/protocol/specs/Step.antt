@@ -1,5 +1,4 @@
 -- Document 01, "One step of a core": the machine that moves one core by one step, over any instruction; runs and their takings.
-use mathlib.Core.Bool.{Bool, true, false}
 use mathlib.Core.List.{List, [], _∷_, _++_, map}
 use Prim.Native.Nat.{ℕ, zero, suc, _+_}
 use lib.Dec.{eqb}
@@ -7,7 +6,7 @@ use lib.ListN.{getD, set, take, drop}
 use Rattle.verdict.specs.Verdict.{pick, both}
 use Rattle.memory.specs.Memory.{splice}
 use Rattle.protocol.specs.Registers.{readAcquired, byteCopied, readReleased, writeAcquired, writeReleased}
-use Rattle.protocol.specs.State.{Core, Plant, State, Move, Sample, Task, core, mode, put}
+use Rattle.protocol.specs.State.{Core, State, Move, Sample, Task, core, mode, put}
 
 -- ---- exchanges
 

@@ -6,27 +6,37 @@ ghost use Rattle.protocol.specs.Registers.{readAcquired, byteCopied, rea
 
 // The modes of a core.
 pub const BETWEEN: u8 = 0; // between two cycles
+
 pub const READING: u8 = 1; // in its reading exchange
+
 pub const EXECUTING: u8 = 2;
+
 pub const WAITING: u8 = 3; // to write
+
 pub const WRITING: u8 = 4; // in its writing exchange
+
 pub const STOPPED: u8 = 5;
 
 // The flag bits that a fault sets, and the cold-start bit.
 pub const INDEX: u8 = 0;
+
 pub const LIMIT: u8 = 1;
+
 pub const COLD_START: u8 = 2;
+
 pub const DIVISOR: u8 = 3;
+
 pub const ADDRESS: u8 = 4;
+
 pub const CALL: u8 = 5;
 
 // A core's registers. The call stack stands beside them, so that a step moves no array.
 pub struct Registers {
     pub mode: u8,
     pub counter: u16, // program counter
-    pub offset: u16,  // data offset
-    pub depth: u8,    // open calls
-    pub count: u16,   // instruction count of the cycle
+    pub offset: u16, // data offset
+    pub depth: u8, // open calls
+    pub count: u16, // instruction count of the cycle
     pub exchange: u16, // exchange number: bytes copied
     pub cycles: u16,
     pub flags: u8,

@@ -13,9 +13,9 @@ widthOf t = getD (1 ∷ 1 ∷ 1 ∷ 2 ∷ 2 ∷ 4 ∷ 4 ∷ 8 ∷ 8 ∷ 4 ∷ 8 
 -- the command with this code byte has a type byte, and t is on its list
 unfoldable pub takes : ℕ → ℕ → Bool
 takes code t =
-    pick (within 16 17 code) (within 1 11 t)                             -- ADD SUB
-    (pick (within 18 19 code) (within 1 10 t)                            -- MUL DIV
-    (pick (eqb code 20) (within 1 8 t)                                   -- MOD
-    (pick (within 24 27 code) (both (leb t 8) (eqb (t % 2) 0))           -- AND OR XOR NOT: BOOL BYTE WORD DWORD LWORD
-    (pick (within 28 31 code) (both (within 2 8 t) (eqb (t % 2) 0))      -- SHL SHR ROL ROR: BYTE WORD DWORD LWORD
-    (pick (within 32 37 code) (leb t 11) false)))))                      -- GT GE EQ LE LT NE
+    pick (within 16 17 code) (within 1 11 t)  -- ADD SUB
+    (pick (within 18 19 code) (within 1 10 t)  -- MUL DIV
+    (pick (eqb code 20) (within 1 8 t)  -- MOD
+    (pick (within 24 27 code) (both (leb t 8) (eqb (t % 2) 0))  -- AND OR XOR NOT: BOOL BYTE WORD DWORD LWORD
+    (pick (within 28 31 code) (both (within 2 8 t) (eqb (t % 2) 0))  -- SHL SHR ROL ROR: BYTE WORD DWORD LWORD
+    (pick (within 32 37 code) (leb t 11) false)))))  -- GT GE EQ LE LT NE

@@ -42,9 +42,10 @@ add-result c = omega (arith, c .before .shared-slice-known2 .given (c .before .b
 
 -- src/lib.rt:18:1
 returns-2 : tie.Need-returns-2
-returns-2 c =
-    (rw (read-word (c .before .before .before .before .args .s .now) (c .before .before .before .before .args .place), c .byte-at .ensures),
-    omega (arith, c .before .shared-slice-known2 .given (c .before .before .before .before .args .place), c .byte-at .ok))
+returns-2 c = (
+  rw (read-word (c .before .before .before .before .args .s .now) (c .before .before .before .before .args .place), c .byte-at .ensures),
+  omega (arith, c .before .shared-slice-known2 .given (c .before .before .before .before .args .place), c .byte-at .ok),
+)
 
 pub word-at-spec : {M : Type 1} → statement M
 word-at-spec =

@@ -1,0 +1,111 @@
+-- What a step does, as a list of cases with the facts of each: every proof about steps goes by these eight. Assumes nothing.
+use mathlib.Core.Path.{_≡_, refl}
+use mathlib.Core.Logic.{_≢_}
+use mathlib.Core.List.{List, [], _∷_}
+use Prim.Native.Nat.{ℕ, zero, suc, _<_, suc-le-suc}
+use native.Mathlib.Nat.{zero-lt-suc}
+use native.Mathlib.Omega.{arith}
+use lib.Dec.{eqb·suc-zero, eqb·suc-suc}
+use lib.ListN.{length, getD, set, take, drop}
+use lib.Seq.{getD-set-same}
+use Rattle.verdict.specs.Verdict.{pick}
+use Rattle.protocol.specs.Registers.{readAcquired, writeAcquired}
+use Rattle.protocol.specs.State.{Core, State, Move, Sample, Task, absent, core, mode}
+use Rattle.protocol.specs.Step.{copy, left, readTaken, readNext, readDone, writeTaken, writeNext, writeDone, takeRead, readOn, takeWrite, writeOn, stepIn, step, Taking, reading, writing, taken, takingOf}
+use Rattle.protocol.specs.Laws.{Still}
+
+-- a core that is not stopped is there
+pub inside : (l : List Core) (k m : ℕ) → mode (getD l k absent) ≡ m → m < 5 → k < length l
+inside [] k m e h = omega arith
+inside (x ∷ xs) zero m e h = zero-lt-suc (length xs)
+inside (x ∷ xs) (suc k) m e h = suc-le-suc (inside xs k m e h)
+
+-- ---- the cases
+
+-- s with core k, shared memory and holder replaced
+abbrev pub after : State → ℕ → Core → List ℕ → ℕ → State
+after s k c sh h = record { plant = record { cores = set (s .plant .cores) k c; shared = sh }; holder = h }
+
+-- core k in state s
+abbrev pub at : State → ℕ → Core
+at s k = core (s .plant) k
+
+-- core k's data, or shared memory, with the next byte of its exchange
+abbrev pub readByte : Task → ℕ → State → List ℕ
+readByte t k s = copy (take 1 (left (at s k) (t .reads k))) (s .plant .shared) (at s k .memory)
+
+abbrev pub writeByte : Task → ℕ → State → List ℕ
+writeByte t k s = copy (take 1 (left (at s k) (t .writes k))) (at s k .memory) (s .plant .shared)
+
+-- what stands at k after core k is replaced
+pub there : (s : State) (k : ℕ) (c : Core) → k < length (s .plant .cores) → getD (set (s .plant .cores) k c) k absent ≡ c
+there s k c h = getD-set-same (s .plant .cores) k c absent h
+
+-- why a step of core k changes nothing: it is in no exchange or execution, and where the semaphore is free it does not wait to write, and
+-- if it is between cycles its records are spent
+pub record Idle (t : Task) (k : ℕ) (s : State) : Type 0 where
+  pub still : Still (at s k)
+  pub no-write : s .holder ≡ 0 → mode (at s k) ≢ 3
+  pub no-read : s .holder ≡ 0 → mode (at s k) ≡ 0 → drop (at s k .registers .cycles) (t .samples k) ≡ []
+
+-- a step of core k from s: the state after it and its taking, with what each case knows
+pub data Moves (t : Task) (k : ℕ) (s : State) : State → List Taking → Type 0 where
+  rests : Idle t k s → Moves t k s s []
+  takesRead : (r : Sample) (rs : List Sample) → k < length (s .plant .cores) → s .holder ≡ 0 → mode (at s k) ≡ 0 → drop (at s k .registers .cycles) (t .samples k) ≡ r ∷ rs
+      → Moves t k s (after s k (readTaken r (at s k)) (s .plant .shared) (suc k)) (reading k ∷ [])
+  readsOn : (m : Move) (ms : List Move) → k < length (s .plant .cores) → mode (at s k) ≡ 1 → drop 1 (left (at s k) (t .reads k)) ≡ m ∷ ms
+      → Moves t k s (after s k (readNext (readByte t k s) (at s k)) (s .plant .shared) (s .holder)) []
+  readsLast : k < length (s .plant .cores) → mode (at s k) ≡ 1 → drop 1 (left (at s k) (t .reads k)) ≡ []
+      → Moves t k s (after s k (readDone (readByte t k s) (at s k)) (s .plant .shared) 0) []
+  runs : k < length (s .plant .cores) → mode (at s k) ≡ 2 → Moves t k s (after s k (t .instruction k (at s k)) (s .plant .shared) (s .holder)) []
+  takesWrite : k < length (s .plant .cores) → s .holder ≡ 0 → mode (at s k) ≡ 3
+      → Moves t k s (after s k (writeTaken (at s k)) (s .plant .shared) (suc k)) (writing k ∷ [])
+  writesOn : (m : Move) (ms : List Move) → k < length (s .plant .cores) → mode (at s k) ≡ 4 → drop 1 (left (at s k) (t .writes k)) ≡ m ∷ ms
+      → Moves t k s (after s k (writeNext (at s k)) (writeByte t k s) (s .holder)) []
+  writesLast : k < length (s .plant .cores) → mode (at s k) ≡ 4 → drop 1 (left (at s k) (t .writes k)) ≡ []
+      → Moves t k s (after s k (writeDone (at s k)) (writeByte t k s) 0) []
+
+-- ---- every step is one of them
+
+-- the step s′ of core k, whose mode was m, and its taking
+abbrev Seen : Task → ℕ → State → ℕ → State → Type 0
+Seen t k s m s′ = Moves t k s s′ (taken m (mode (at s′ k)) k)
+
+module _ (t : Task) (k : ℕ) (s : State) where
+  in-range : {m : ℕ} → mode (at s k) ≡ m → m < 5 → k < length (s .plant .cores)
+  in-range {m} e h = inside (s .plant .cores) k m e h
+
+  seen0 : mode (at s k) ≡ 0 → (rs : List Sample) → drop (at s k .registers .cycles) (t .samples k) ≡ rs → (h : ℕ) → s .holder ≡ h → Seen t k s 0 (takeRead rs h k (at s k) s)
+  unfolding readTaken readAcquired pick
+  seen0 e [] d h f = rw e (rests record { still = omega arith; no-write = λ z. omega arith; no-read = λ z w. d })
+  seen0 e (r ∷ rs) d zero f = let i = in-range e (omega arith) in rw (there s k (readTaken r (at s k)) i) (takesRead r rs i f e d)
+  seen0 e (r ∷ rs) d (suc h) f = rw e (rests record { still = omega arith; no-write = λ z. omega arith; no-read = λ z w. absurd (omega arith) })
+
+  seen1 : mode (at s k) ≡ 1 → (ms : List Move) → drop 1 (left (at s k) (t .reads k)) ≡ ms → Seen t k s 1 (readOn ms (readByte t k s) k (at s k) s)
+  unfolding pick
+  seen1 e [] d = readsLast (in-range e (omega arith)) e d
+  seen1 e (m ∷ ms) d = readsOn m ms (in-range e (omega arith)) e d
+
+  seen3 : mode (at s k) ≡ 3 → (h : ℕ) → s .holder ≡ h → Seen t k s 3 (takeWrite h k (at s k) s)
+  unfolding writeTaken writeAcquired pick
+  seen3 e zero f = let i = in-range e (omega arith) in rw (there s k (writeTaken (at s k)) i) (takesWrite i f e)
+  seen3 e (suc h) f = rw e (rests record { still = omega arith; no-write = λ z. omega arith; no-read = λ z w. absurd (omega arith) })
+
+  seen4 : mode (at s k) ≡ 4 → (ms : List Move) → drop 1 (left (at s k) (t .writes k)) ≡ ms → Seen t k s 4 (writeOn ms (writeByte t k s) k (at s k) s)
+  unfolding pick
+  seen4 e [] d = writesLast (in-range e (omega arith)) e d
+  seen4 e (m ∷ ms) d = writesOn m ms (in-range e (omega arith)) e d
+
+  seen : (m : ℕ) → mode (at s k) ≡ m → Seen t k s m (stepIn m t k (at s k) s)
+  unfolding pick
+  seen zero e = seen0 e _ refl _ refl
+  seen (suc zero) e = seen1 e _ refl
+  seen (suc (suc zero)) e = runs (in-range e (omega arith)) e
+  seen (suc (suc (suc zero))) e = seen3 e _ refl
+  seen (suc (suc (suc (suc zero)))) e = seen4 e _ refl
+  seen (suc (suc (suc (suc (suc m))))) e =
+      rw (eqb·suc-zero, eqb·suc-suc, eqb·suc-suc, eqb·suc-suc, eqb·suc-zero) (rests record { still = omega arith; no-write = λ z. omega arith; no-read = λ z w. absurd (omega arith) })
+
+  pub view : Moves t k s (step t k s) (takingOf t k s)
+  unfolding step takingOf
+  view = seen (mode (at s k)) refl
