@@ -1,1 +1,5 @@
 pub mod Types
+pub mod Width
+pub mod Values
+pub mod Commands
+pub mod Marked

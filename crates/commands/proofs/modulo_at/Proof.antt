@@ -1,0 +1,38 @@
+-- `commands::modulo_at` meets its contract. What is read, computed and written is the command's effect (`plain-done`). Assumes nothing.
+use Rattle.verdict.specs.Verdict.{pick}
+use Rattle.values.specs.Commands.{result, resultType, secondWidth}
+use Rattle.values.proofs.Commands.{ready-type, result-in, second-in, not-by-zero, plain-done}
+use Rattle.values.specs.Types.{takes}
+use borrow.Author.Needs.{needs}
+use Rattle.commands.proofs.modulo_at.Statement.{statement}
+use Rattle.commands.proofs.modulo_at.Tie as tie
+
+read-value-requires : tie.Need-read-value-requires
+read-value-requires c κs = search ready-type
+
+read-value-requires-2 : tie.Need-read-value-requires-2
+unfolding secondWidth pick
+read-value-requires-2 c κs = search (ready-type, second-in)
+
+modulo-requires : tie.Need-modulo-requires
+unfolding secondWidth takes pick
+modulo-requires c κs = search not-by-zero
+
+write-value-requires : tie.Need-write-value-requires
+unfolding resultType pick
+write-value-requires c κs = search (ready-type, result-in)
+
+returns : tie.Need-returns
+unfolding result resultType secondWidth pick
+returns c = search plain-done
+
+pub modulo-at-spec : {M : Type 1} → statement M
+modulo-at-spec =
+    tie.close
+    (tie.spec
+    read-value-requires
+    read-value-requires-2
+    modulo-requires
+    write-value-requires
+    (λ c. search needs)
+    returns)

@@ -1,0 +1,40 @@
+-- `commands::mul_at` meets its contract. What is read, computed and written is the command's effect (`two-done`). Assumes nothing.
+use Rattle.verdict.specs.Verdict.{pick}
+use Rattle.values.specs.Commands.{result, resultType, secondWidth}
+use Rattle.values.proofs.Commands.{ready-type, result-in, second-in, ready-width, two-done}
+use borrow.Author.Needs.{needs}
+use Rattle.commands.proofs.mul_at.Statement.{statement}
+use Rattle.commands.proofs.mul_at.Tie as tie
+
+read-value-requires : tie.Need-read-value-requires
+read-value-requires c κs = search ready-type
+
+read-value-requires-2 : tie.Need-read-value-requires-2
+unfolding secondWidth pick
+read-value-requires-2 c κs = search (ready-type, second-in)
+
+width-of-requires : tie.Need-width-of-requires
+width-of-requires c κs = search ready-type
+
+mul-requires : tie.Need-mul-requires
+mul-requires c κs = search ready-width
+
+write-value-requires : tie.Need-write-value-requires
+unfolding resultType pick
+write-value-requires c κs = search (ready-type, result-in)
+
+returns : tie.Need-returns
+unfolding result resultType secondWidth pick
+returns c = search two-done
+
+pub mul-at-spec : {M : Type 1} → statement M
+mul-at-spec =
+    tie.close
+    (tie.spec
+    read-value-requires
+    read-value-requires-2
+    width-of-requires
+    mul-requires
+    write-value-requires
+    (λ c. search needs)
+    returns)

@@ -1,0 +1,40 @@
+-- `commands::ror_at` meets its contract. What is read, computed and written is the command's effect (`shift-done`). Assumes nothing.
+use Rattle.verdict.specs.Verdict.{pick}
+use Rattle.values.specs.Commands.{result, resultType, secondWidth}
+use Rattle.values.proofs.Commands.{ready-type, result-in, count-in, ready-width, shift-done}
+use borrow.Author.Needs.{needs}
+use Rattle.commands.proofs.ror_at.Statement.{statement}
+use Rattle.commands.proofs.ror_at.Tie as tie
+
+read-value-requires : tie.Need-read-value-requires
+read-value-requires c κs = search ready-type
+
+slice-read-count : tie.Need-slice-read-count
+unfolding secondWidth pick
+slice-read-count c = search count-in
+
+width-of-requires : tie.Need-width-of-requires
+width-of-requires c κs = search ready-type
+
+ror-requires : tie.Need-ror-requires
+ror-requires c κs = search ready-width
+
+write-value-requires : tie.Need-write-value-requires
+unfolding resultType pick
+write-value-requires c κs = search (ready-type, result-in)
+
+returns : tie.Need-returns
+unfolding result resultType secondWidth pick
+returns c = search shift-done
+
+pub ror-at-spec : {M : Type 1} → statement M
+ror-at-spec =
+    tie.close
+    (tie.spec
+    read-value-requires
+    slice-read-count
+    width-of-requires
+    ror-requires
+    write-value-requires
+    (λ c. search needs)
+    returns)

@@ -1,0 +1,32 @@
+-- `values::mul_signed` meets its contract. The product of the patterns is the pattern of the product (`pattern-mul`). Assumes nothing.
+use mathlib.Core.Path.{sym, _∙_}
+use Prim.Native.Nat.{_*_, _≤_}
+use Rattle.values.proofs.Widths as W
+use lib.IntN.{_*ℤ_}
+use Rattle.values.proofs.Signs as S
+use borrow.Author.Needs.{needs}
+use Rattle.values.proofs.mul_signed.Statement.{statement}
+use Rattle.values.proofs.mul_signed.Tie as tie
+
+mul-unsigned-requires : tie.Need-mul-unsigned-requires
+mul-unsigned-requires c κs = W.width-le (c .before .before .pre)
+
+signed-of-requires : tie.Need-signed-of-requires
+signed-of-requires c κs = (W.width-pos (c .before .before .before .pre), W.width-le (c .before .before .before .pre), W.below-full (8 * c .before .before .before .args .w) _ (c .mul-unsigned .ensures))
+
+returns : tie.Need-returns
+returns c =
+    let s = c .before .before .before .before in
+    let w = s .args .w in
+    let h : w ≤ 8 = W.width-le (s .pre) in
+    S.read64 (c .signed-of .result) (c .signed-of .ok) ∙ c .signed-of .ensures
+    ∙ W.wrap-of (8 * w) (s .args .x *ℤ s .args .y) (c .before .mul-unsigned .result)
+    (W.pattern-mul (8 * w) (s .args .x) (s .args .y) (c .before .before .before .bits-of .result) (c .before .before .bits-of2 .result)
+    (S.bits-cong w h (s .args .x) (s .fits .x .sfits) (c .before .before .before .bits-of .ensures))
+    (S.bits-cong w h (s .args .y) (s .fits .y .sfits) (c .before .before .bits-of2 .ensures))
+    ∙ sym (c .before .mul-unsigned .ensures))
+
+pub mul-signed-spec : {M : Type 1} → statement M
+mul-signed-spec =
+    tie.close
+    (tie.spec (λ c κs. search needs) (λ c κs. search needs) mul-unsigned-requires signed-of-requires returns)

@@ -1,0 +1,43 @@
+-- `values::signed_of` meets its contract. Patterns below half stand for themselves, the others for a number below zero. Assumes nothing.
+use Rattle.values.proofs.Signs.{read64}
+use lib.Pow.{pow-pos}
+use native.Mathlib.Omega.{arith}
+use mathlib.Core.Path.{sym, ap, _∙_}
+use Prim.Native.Nat.{_-_, _*_}
+use Rattle.values.proofs.Widths as W
+use lib.IntN.{negsuc}
+use mir.Syntax.{w64}
+use mir.Facts.{toZ-pos}
+use borrow.Author.Needs.{needs}
+use Rattle.values.proofs.signed_of.Statement.{statement}
+use Rattle.values.proofs.signed_of.Tie as tie
+
+cast-result : tie.Need-cast-result
+cast-result c = record { sfits = omega (arith, c .before .half-of .ensures, W.half-le (c .before .before .args .w) (c .before .before .pre .1)) }
+
+sub-below-zero : tie.Need-sub-below-zero
+sub-below-zero c = omega (arith, c .before .half-of .ensures, pow-pos (8 * c .before .before .args .w - 1))
+
+sub-below-zero-2 : tie.Need-sub-below-zero-2
+sub-below-zero-2 c = omega (arith, c .before .half-of .ensures, W.two-halves (c .before .before .args .w) (c .before .before .pre .0))
+
+below-zero-requires : tie.Need-below-zero-requires
+below-zero-requires c κs = omega (arith, c .before .half-of .ensures, W.half-le (c .before .before .args .w) (c .before .before .pre .1), pow-pos (8 * c .before .before .args .w - 1))
+
+returns : tie.Need-returns
+returns c = toZ-pos w64 (omega (arith, c .before .half-of .ensures, W.half-le (c .before .before .args .w) (c .before .before .pre .1))) ∙ sym (W.signed-low (8 * c .before .before .args .w) (c .before .before .args .p) (omega (arith, c .before .half-of .ensures)))
+
+returns-2 : tie.Need-returns-2
+returns-2 c = read64 (c .below-zero .result) (c .below-zero .ok) ∙ c .below-zero .ensures ∙ ap negsuc (omega (arith, c .before .before .half-of .ensures, W.two-halves (c .before .before .before .args .w) (c .before .before .before .pre .0))) ∙ sym (W.signed-high (8 * c .before .before .before .args .w) (c .before .before .before .args .p) (omega (arith, c .before .before .half-of .ensures)))
+
+pub signed-of-spec : {M : Type 1} → statement M
+signed-of-spec =
+    tie.close
+    (tie.spec
+    (λ c κs. search needs)
+    cast-result
+    sub-below-zero
+    sub-below-zero-2
+    below-zero-requires
+    returns
+    returns-2)

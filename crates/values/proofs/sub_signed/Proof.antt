@@ -1,0 +1,32 @@
+-- `values::sub_signed` meets its contract. The difference of the patterns is the pattern of the difference (`wrapped-difference`). Assumes nothing.
+use mathlib.Core.Path.{sym, subst, _∙_}
+use Prim.Native.Nat.{ℕ, _*_, _^_, _<_, _≤_}
+use Rattle.values.proofs.Widths as W
+use lib.IntN.{_-ℤ_}
+use Rattle.values.proofs.Signs as S
+use borrow.Author.Needs.{needs}
+use Rattle.values.proofs.sub_signed.Statement.{statement}
+use Rattle.values.proofs.sub_signed.Tie as tie
+
+sub-unsigned-requires : tie.Need-sub-unsigned-requires
+sub-unsigned-requires c κs = c .before .before .pre
+
+signed-of-requires : tie.Need-signed-of-requires
+signed-of-requires c κs = (W.width-pos (c .before .before .before .pre), W.width-le (c .before .before .before .pre), subst (λ (k : ℕ). k < 2 ^ (8 * c .before .before .before .args .w)) (sym (c .sub-unsigned .ensures)) (W.pattern-lt (8 * c .before .before .before .args .w) _))
+
+returns : tie.Need-returns
+returns c =
+    let s = c .before .before .before .before in
+    let w = s .args .w in
+    let h : w ≤ 8 = W.width-le (s .pre) in
+    S.read64 (c .signed-of .result) (c .signed-of .ok) ∙ c .signed-of .ensures
+    ∙ W.wrap-of (8 * w) (s .args .x -ℤ s .args .y) (c .before .sub-unsigned .result)
+    (W.wrapped-difference (8 * w) (s .args .x) (s .args .y) (c .before .before .before .bits-of .result) (c .before .before .bits-of2 .result)
+    (S.bits-cong w h (s .args .x) (s .fits .x .sfits) (c .before .before .before .bits-of .ensures))
+    (S.bits-cong w h (s .args .y) (s .fits .y .sfits) (c .before .before .bits-of2 .ensures))
+    ∙ sym (c .before .sub-unsigned .ensures))
+
+pub sub-signed-spec : {M : Type 1} → statement M
+sub-signed-spec =
+    tie.close
+    (tie.spec (λ c κs. search needs) (λ c κs. search needs) sub-unsigned-requires signed-of-requires returns)
