@@ -1,0 +1,196 @@
+-- Laws of one command and one instruction. In order: what a computed test of all code bytes shows; the instruction by its code byte;
+-- an accepted instruction. Assumes nothing.
+use mathlib.Core.Path.{_≡_, refl, sym, ap, _∙_, subst}
+use mathlib.Core.Bool.{Bool, true, false}
+use mathlib.Core.List.{List}
+use Prim.Native.Nat.{ℕ, zero, suc, _+_, _≤_, _<_}
+use native.Mathlib.Omega.{arith}
+use borrow.Author.Tests.{ltb-true, leb-true, eqb-true, ne-eqb, lt-ltb, le-leb}
+use lib.Dec.{T, ltb, leb, eqb, eqb→eq, leb→le}
+use lib.ListN.{length, getD}
+use Rattle.verdict.specs.Verdict.{pick, either, within, upto}
+use Rattle.verdict.proofs.Verdict.{absurd-bool, by-pick, yes, no, below, both-true, unless-zero}
+use Rattle.memory.specs.Memory.{byte}
+use Rattle.values.specs.Types.{takes}
+use Rattle.code.specs.Commands.{three, layoutOf, lengthOf, Lengths}
+use Rattle.code.specs.Instructions.{typedAt, instructionAt, instructionLength}
+use Rattle.code.specs.Flow.{kind, goesOn, goesTo, kindOf}
+use Rattle.code.specs.Code.{operandsOk, instructionOk, instructionRefusal}
+use Rattle.code.specs.declared.Instruction.{Instruction}
+use Rattle.code.specs.declared.Instruction.the-variants.{Unknown}
+
+-- ---- all code bytes
+
+-- a table that the computed test finds right is right
+pub table-right : (table : List ℕ) → T (upto (λ k. eqb (getD table k 0) (lengthOf k)) 256) → Lengths table
+table-right table t =
+    record { right = λ code h. eqb→eq _ _ (below (λ k. eqb (getD table k 0) (lengthOf k)) 256 t code h) }
+
+either-T : (a b : Bool) → T (either a b) → a ≡ false → T b
+either-T true b t e = absurd (subst T e tt)
+either-T false b t e = t
+
+not : Bool → Bool
+not true = false
+not false = true
+
+-- the commands with three addresses have eight bytes
+pub three-length : (code : ℕ) → code < 256 → three code ≡ true → lengthOf code ≡ 8
+unfolding lengthOf layoutOf pick not
+three-length code h e =
+    eqb→eq _ _ (either-T _ _ (below (λ k. either (not (three k)) (eqb (lengthOf k) 8)) 256 tt code h) (ap not e))
+
+-- the length of a code byte that is known
+pub length-at : (k : ℕ) {code : ℕ} → code ≡ k → lengthOf code ≡ lengthOf k
+length-at k e = ap lengthOf e
+
+-- a code byte takes a type only if it is typed
+untaken : ℕ → Bool
+untaken k = not (either (within 16 17 k) (either (within 18 19 k) (either (eqb k 20) (either (within 24 27 k) (either (within 28 31 k) (within 32 37 k))))))
+
+none-taken : (a b : Bool) → T (not (either a b)) → (a ≡ false) × T (not b)
+unfolding not
+none-taken true b t = absurd t
+none-taken false b t = (refl, t)
+
+last-taken : (a : Bool) → T (not a) → a ≡ false
+unfolding not
+last-taken true t = absurd t
+last-taken false t = refl
+
+pub takes-not : (code t : ℕ) → code < 256 → three code ≡ false → eqb code 27 ≡ false → takes code t ≡ false
+unfolding takes pick untaken not
+takes-not code t h e f =
+    let u : T (untaken code) = either-T _ _ (either-T _ _ (below (λ k. either (three k) (either (eqb k 27) (untaken k))) 256 tt code h) e) f in
+    let a = none-taken (within 16 17 code) _ u in
+    let b = none-taken (within 18 19 code) _ (a .1) in
+    let c = none-taken (eqb code 20) _ (b .1) in
+    let d = none-taken (within 24 27 code) _ (c .1) in
+    let g = none-taken (within 28 31 code) _ (d .1) in
+    rw (a .0, b .0, c .0, d .0, g .0, last-taken (within 32 37 code) (g .1))
+
+-- no instruction is longer than ten bytes, MCD's own apart
+pub short : (code : ℕ) → code < 256 → lengthOf code ≤ 10
+unfolding lengthOf layoutOf pick
+short code h = leb→le _ _ (below (λ k. leb (lengthOf k) 10) 256 tt code h)
+
+-- ---- the instruction by its code byte
+
+-- the type byte of what is no other command
+pub typed-takes : (c : List ℕ) (p : ℕ) → byte c p < 256 → operandsOk (typedAt c p Unknown) ≡ takes (byte c p) (byte c (p + 1))
+unfolding typedAt pick
+typed-takes c p h = go (three (byte c p)) refl
+  where
+    also : three (byte c p) ≡ false → (b : Bool) → eqb (byte c p) 27 ≡ b → operandsOk (typedAt c p Unknown) ≡ takes (byte c p) (byte c (p + 1))
+    also e true f = rw (e, f)
+    also e false f = rw (e, f) (sym (takes-not (byte c p) (byte c (p + 1)) h e f))
+
+    go : (b : Bool) → three (byte c p) ≡ b → operandsOk (typedAt c p Unknown) ≡ takes (byte c p) (byte c (p + 1))
+    go true e = rw e
+    go false e = also e (eqb (byte c p) 27) refl
+
+-- what has no code byte of another command is typed or unknown
+pub typed-left : (c : List ℕ) (p : ℕ) → (byte c p ≡ 0 → ⊥) → (byte c p ≡ 1 → ⊥) → (byte c p ≡ 2 → ⊥) → (byte c p ≡ 3 → ⊥) → (byte c p ≡ 4 → ⊥)
+    → (byte c p ≡ 5 → ⊥) → (byte c p ≡ 6 → ⊥) → (byte c p ≡ 7 → ⊥) → (byte c p ≡ 8 → ⊥) → (byte c p ≡ 9 → ⊥) → (byte c p ≡ 41 → ⊥) → (byte c p ≡ 42 → ⊥)
+    → instructionAt c p ≡ typedAt c p Unknown
+unfolding instructionAt pick
+typed-left c p n0 n1 n2 n3 n4 n5 n6 n7 n8 n9 n41 n42 =
+    simp (
+      ne-eqb _ _ n0,
+      ne-eqb _ _ n1,
+      ne-eqb _ _ n2,
+      ne-eqb _ _ n3,
+      ne-eqb _ _ n4,
+      ne-eqb _ _ n5,
+      ne-eqb _ _ n6,
+      ne-eqb _ _ n7,
+      ne-eqb _ _ n8,
+      ne-eqb _ _ n9,
+      ne-eqb _ _ n41,
+      ne-eqb _ _ n42,
+    )
+
+typed-passes : (c : List ℕ) (p : ℕ) (other : Instruction) → goesTo (kindOf other) ≡ false → goesTo (kindOf (typedAt c p other)) ≡ false
+unfolding typedAt
+typed-passes c p other z =
+    let P : Instruction → Type 0 = λ (i : Instruction). goesTo (kindOf i) ≡ false in
+    by-pick P _ _ _ (λ e. refl) (λ e. by-pick P _ _ _ (λ f. refl) (λ f. z))
+
+-- only the code bytes 1 to 5 have a T
+pub no-target : (c : List ℕ) (p : ℕ) → (byte c p ≡ 1 → ⊥) → (byte c p ≡ 2 → ⊥) → (byte c p ≡ 3 → ⊥) → (byte c p ≡ 4 → ⊥) → (byte c p ≡ 5 → ⊥)
+    → goesTo (kind c p) ≡ false
+unfolding instructionAt
+no-target c p n1 n2 n3 n4 n5 =
+    let P : Instruction → Type 0 = λ (i : Instruction). goesTo (kindOf i) ≡ false in
+    by-pick P _ _ _ (λ e. refl)
+    (λ e. by-pick P _ _ _ (λ z. absurd (n1 (eqb-true (byte c p) 1 z)))
+    (λ e. by-pick P _ _ _ (λ z. absurd (n2 (eqb-true (byte c p) 2 z)))
+    (λ e. by-pick P _ _ _ (λ z. absurd (n3 (eqb-true (byte c p) 3 z)))
+    (λ e. by-pick P _ _ _ (λ z. absurd (n4 (eqb-true (byte c p) 4 z)))
+    (λ e. by-pick P _ _ _ (λ z. absurd (n5 (eqb-true (byte c p) 5 z)))
+    (λ e. by-pick P _ _ _ (λ z. refl)
+    (λ e. by-pick P _ _ _ (λ z. refl)
+    (λ e. by-pick P _ _ _ (λ z. refl)
+    (λ e. by-pick P _ _ _ (λ z. refl)
+    (λ e. typed-passes c p _ (by-pick P _ _ _ (λ z. refl) (λ e. by-pick P _ _ _ (λ z. refl) (λ e. refl)))))))))))))
+
+-- RETURN and JMP do not go on
+pub high : (c : List ℕ) (p : ℕ) → goesOn (kind c p) ≡ true → 2 ≤ byte c p
+unfolding instructionAt pick
+high c p o = go (byte c p) refl
+  where
+    go : (b : ℕ) → byte c p ≡ b → 2 ≤ byte c p
+    go zero e = absurd-bool (rw e at o)
+    go (suc zero) e = absurd-bool (rw e at o)
+    go (suc (suc n)) e = omega arith
+
+-- ---- an instruction, accepted or refused
+
+-- an accepted instruction is known, lies in the code, and its operands lie on their lists
+pub record Whole (c : List ℕ) (p : ℕ) : Type 0 where
+  pub known : 0 < lengthOf (byte c p)
+  pub long : 0 < instructionLength c p
+  pub fixed : p + lengthOf (byte c p) ≤ length c
+  pub inside : p + instructionLength c p ≤ length c
+  pub listed : operandsOk (instructionAt c p) ≡ true
+
+-- MCD only adds to the table's length
+pub fixed-part : (c : List ℕ) (p : ℕ) → lengthOf (byte c p) ≤ instructionLength c p
+unfolding instructionLength
+fixed-part c p = omega arith
+
+pub whole : (c : List ℕ) (p : ℕ) → instructionOk c p ≡ true → Whole c p
+unfolding instructionOk
+whole c p z =
+    let a = both-true (ltb 0 (lengthOf (byte c p))) _ z in
+    let b = both-true (leb (p + instructionLength c p) (length c)) _ (a .1) in
+    let k : 0 < lengthOf (byte c p) = ltb-true _ _ (a .0) in
+    let i : p + instructionLength c p ≤ length c = leb-true _ _ (b .0) in
+    let l = fixed-part c p in
+    record { known = k; long = omega arith; fixed = omega arith; inside = i; listed = b .1 }
+
+pub accepted : (c : List ℕ) (p : ℕ) → instructionRefusal c p ≡ 0 → instructionOk c p ≡ true
+unfolding instructionRefusal
+accepted c p z = unless-zero _ 5 z
+
+pub refused-not : (c : List ℕ) (p : ℕ) → 0 < lengthOf (byte c p) → p + instructionLength c p ≤ length c → operandsOk (instructionAt c p) ≡ true
+    → 0 ≡ instructionRefusal c p
+unfolding instructionRefusal instructionOk
+refused-not c p h i e = sym (yes _ 6 (rw (lt-ltb _ _ h, le-leb _ _ i) e))
+
+refused : (c : List ℕ) (p : ℕ) → (Whole c p → ⊥) → 6 ≡ instructionRefusal c p
+unfolding instructionRefusal
+refused c p h = go (instructionOk c p) refl
+  where
+    go : (b : Bool) → instructionOk c p ≡ b → 6 ≡ instructionRefusal c p
+    go true e = absurd (h (whole c p e))
+    go false e = sym (no _ 6 e)
+
+pub refused-unknown : (c : List ℕ) (p : ℕ) → lengthOf (byte c p) ≡ 0 → 6 ≡ instructionRefusal c p
+refused-unknown c p z = refused c p (λ w. let k = w .known in let y : ⊥ = omega arith in y)
+
+pub refused-cut : (c : List ℕ) (p : ℕ) → length c < p + instructionLength c p → 6 ≡ instructionRefusal c p
+refused-cut c p h = refused c p (λ w. let i = w .inside in let y : ⊥ = omega arith in y)
+
+pub refused-operands : (c : List ℕ) (p : ℕ) → operandsOk (instructionAt c p) ≡ false → 6 ≡ instructionRefusal c p
+refused-operands c p e = refused c p (λ w. absurd-bool (sym e ∙ w .listed))

@@ -1,0 +1,5 @@
+pub mod Laws
+pub mod Passes
+pub mod Sound
+pub mod Exact
+pub mod Parts

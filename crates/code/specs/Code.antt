@@ -1,0 +1,104 @@
+-- Document 01, the code of one core: which instructions are refused (6), where instructions start, which targets and which end are refused (7).
+-- In order: one instruction; instructions laid end to end; targets and the last instruction; the judgement.
+use Prim.Native.Nat.{ℕ, zero, suc, _+_}
+use mathlib.Core.Path.{_≡_}
+use mathlib.Core.List.{List}
+use mathlib.Core.Bool.{Bool, true, false}
+use lib.ListN.{length}
+use lib.Dec.{ltb, leb, eqb}
+use Rattle.verdict.specs.Verdict.{pick, both, either, within, next, unless}
+use Rattle.memory.specs.Memory.{byte}
+use Rattle.values.specs.Types.{takes}
+use Rattle.code.specs.Commands.{lengthOf}
+use Rattle.code.specs.Instructions.{instructionAt, instructionLength}
+use Rattle.code.specs.Flow.{kind, goesTo, target, after}
+use Rattle.code.specs.declared.Instruction.{Instruction}
+use Rattle.code.specs.declared.Instruction.the-variants.{Return, Jump, JumpZero, JumpNotZero, CallInstance, CallFunction, MoveConstant, CopyMemory, ReadElement, WriteElement, Typed, CycleTime, FlagByte, Unknown}
+
+-- ---- one instruction
+
+-- a width of 1, 2, 4 or 8 bytes
+abbrev pub isWidth : ℕ → Bool
+isWidth w = either (eqb w 1) (either (eqb w 2) (either (eqb w 4) (eqb w 8)))
+
+-- an element size and a count
+abbrev pub elementOk : ℕ → ℕ → Bool
+elementOk size count = both (isWidth size) (within 1 4096 count)
+
+-- MCD's length, the element size and count, and the type byte lie on their lists
+abbrev pub operandsOk : Instruction → Bool
+operandsOk Return = true
+operandsOk (Jump t) = true
+operandsOk (JumpZero a t) = true
+operandsOk (JumpNotZero a t) = true
+operandsOk (CallInstance i t) = true
+operandsOk (CallFunction t) = true
+operandsOk (MoveConstant to n) = within 1 8 n
+operandsOk (CopyMemory to from n) = true
+operandsOk (ReadElement v a i size count) = elementOk size count
+operandsOk (WriteElement v a i size count) = elementOk size count
+operandsOk (Typed code type to a b) = takes code type
+operandsOk (CycleTime to) = true
+operandsOk (FlagByte to) = true
+operandsOk Unknown = false
+
+-- the instruction at p is known, whole, and its operands lie on their lists
+unfoldable pub instructionOk : List ℕ → ℕ → Bool
+instructionOk c p =
+    both (ltb 0 (lengthOf (byte c p))) (both (leb (p + instructionLength c p) (length c)) (operandsOk (instructionAt c p)))
+
+unfoldable pub instructionRefusal : List ℕ → ℕ → ℕ
+instructionRefusal c p = unless (instructionOk c p) 6
+
+-- ---- instructions laid end to end. In what follows the number k bounds the instructions still to come.
+
+-- the first refusal of the instructions from p on
+unfoldable pub laid : ℕ → List ℕ → ℕ → ℕ
+laid zero c p = 0
+laid (suc k) c p = pick (ltb p (length c)) (next (instructionRefusal c p) (laid k c (after c p))) 0
+
+-- t is one of the places from p on at which an instruction starts
+unfoldable pub startFrom : ℕ → List ℕ → ℕ → ℕ → Bool
+startFrom zero c p t = false
+startFrom (suc k) c p t = pick (ltb p (length c)) (pick (eqb p t) true (startFrom k c (after c p) t)) false
+
+unfoldable pub isStart : List ℕ → ℕ → Bool
+isStart c t = startFrom (length c) c 0 t
+
+-- the test holds of each instruction from p on
+unfoldable pub allFrom : (ℕ → Bool) → ℕ → List ℕ → ℕ → Bool
+allFrom test zero c p = true
+allFrom test (suc k) c p = pick (ltb p (length c)) (pick (test p) (allFrom test k c (after c p)) false) true
+
+-- ---- targets and the last instruction
+
+-- the T of the instruction at p, if it has one, is the start of an instruction
+unfoldable pub targetOk : List ℕ → ℕ → Bool
+targetOk c p = pick (goesTo (kind c p)) (isStart c (target c p)) true
+
+-- the code byte of the last instruction from p on; `code` where there is none
+unfoldable pub lastFrom : ℕ → List ℕ → ℕ → ℕ → ℕ
+lastFrom zero c p code = code
+lastFrom (suc k) c p code = pick (ltb p (length c)) (lastFrom k c (after c p) (byte c p)) code
+
+-- RETURN or JMP
+abbrev pub ends : ℕ → Bool
+ends code = ltb code 2
+
+-- ---- the judgement: all instructions before any target
+
+unfoldable pub judgeCode : List ℕ → ℕ
+judgeCode c =
+    next (laid (length c) c 0)
+    (next (unless (allFrom (targetOk c) (length c) c 0) 7) (unless (ends (lastFrom (length c) c 0 0)) 7))
+
+-- what a map of starts says: 1 exactly where an instruction starts
+abbrev pub Marked : List ℕ → List ℕ → Type 0
+Marked c marks = (t : ℕ) → eqb (byte marks t) 1 ≡ isStart c t
+
+-- what a pass over the instructions finds: their refusal, and if there is none the map of starts and the last code byte
+pub record Pass (c : List ℕ) (refusal last : ℕ) (marks : List ℕ) : Type 0 where
+  pub right : refusal ≡ laid (length c) c 0
+  pub size : length marks ≡ 8192
+  pub marked : refusal ≡ 0 → Marked c marks
+  pub latest : refusal ≡ 0 → last ≡ lastFrom (length c) c 0 0

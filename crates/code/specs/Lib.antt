@@ -1,0 +1,5 @@
+pub mod Commands
+pub mod Instructions
+pub mod Flow
+pub mod Code
+pub mod Rules

@@ -1,0 +1,645 @@
+// Document 01, "Types and commands": the instruction set, and the judging of one core's code: instructions laid end to end (refusal 6),
+// targets and the last instruction (7).
+ghost use mathlib.Core.Path.{_≡_};
+ghost use mathlib.Core.Bool.{true};
+ghost use Prim.Native.Nat.{ℕ, _+_, _<_, _≤_};
+ghost use lib.ListN.{length, getD};
+ghost use Rattle.verdict.specs.Verdict.{within};
+ghost use Rattle.memory.specs.Memory.{byte, readLE};
+ghost use Rattle.values.specs.Types.{takes};
+ghost use Rattle.code.specs.Commands.{three, lengthOf, Lengths};
+ghost use Rattle.code.specs.Instructions.{instructionAt, instructionLength, typedAt};
+ghost use Rattle.code.specs.Code.{isWidth, elementOk, operandsOk, instructionRefusal, laid, isStart, allFrom, targetOk, judgeCode, Marked, Pass};
+
+// The length of an instruction by its code byte, 0 where the byte is unknown; MCD adds n.
+const LENGTHS: [u8; 256] = [
+    1,
+    3,
+    5,
+    5,
+    5,
+    3,
+    4,
+    7,
+    10,
+    10,
+    0,
+    0,
+    0,
+    0,
+    0,
+    0,
+    8,
+    8,
+    8,
+    8,
+    8,
+    0,
+    0,
+    0,
+    8,
+    8,
+    8,
+    6,
+    8,
+    8,
+    8,
+    8,
+    8,
+    8,
+    8,
+    8,
+    8,
+    8,
+    0,
+    0,
+    0,
+    3,
+    3,
+    0,
+    0,
+    0,
+    0,
+    0,
+    0,
+    0,
+    0,
+    0,
+    0,
+    0,
+    0,
+    0,
+    0,
+    0,
+    0,
+    0,
+    0,
+    0,
+    0,
+    0,
+    0,
+    0,
+    0,
+    0,
+    0,
+    0,
+    0,
+    0,
+    0,
+    0,
+    0,
+    0,
+    0,
+    0,
+    0,
+    0,
+    0,
+    0,
+    0,
+    0,
+    0,
+    0,
+    0,
+    0,
+    0,
+    0,
+    0,
+    0,
+    0,
+    0,
+    0,
+    0,
+    0,
+    0,
+    0,
+    0,
+    0,
+    0,
+    0,
+    0,
+    0,
+    0,
+    0,
+    0,
+    0,
+    0,
+    0,
+    0,
+    0,
+    0,
+    0,
+    0,
+    0,
+    0,
+    0,
+    0,
+    0,
+    0,
+    0,
+    0,
+    0,
+    0,
+    0,
+    0,
+    0,
+    0,
+    0,
+    0,
+    0,
+    0,
+    0,
+    0,
+    0,
+    0,
+    0,
+    0,
+    0,
+    0,
+    0,
+    0,
+    0,
+    0,
+    0,
+    0,
+    0,
+    0,
+    0,
+    0,
+    0,
+    0,
+    0,
+    0,
+    0,
+    0,
+    0,
+    0,
+    0,
+    0,
+    0,
+    0,
+    0,
+    0,
+    0,
+    0,
+    0,
+    0,
+    0,
+    0,
+    0,
+    0,
+    0,
+    0,
+    0,
+    0,
+    0,
+    0,
+    0,
+    0,
+    0,
+    0,
+    0,
+    0,
+    0,
+    0,
+    0,
+    0,
+    0,
+    0,
+    0,
+    0,
+    0,
+    0,
+    0,
+    0,
+    0,
+    0,
+    0,
+    0,
+    0,
+    0,
+    0,
+    0,
+    0,
+    0,
+    0,
+    0,
+    0,
+    0,
+    0,
+    0,
+    0,
+    0,
+    0,
+    0,
+    0,
+    0,
+    0,
+    0,
+    0,
+    0,
+    0,
+    0,
+    0,
+    0,
+    0,
+    0,
+    0,
+    0,
+    0,
+    0,
+    0,
+    0,
+    0,
+    0,
+    0,
+    0,
+    0,
+    0,
+    0,
+    0,
+    0,
+    0,
+    0,
+    0,
+    0,
+    0,
+    0,
+    0,
+    0,
+    0,
+    0,
+    0,
+];
+
+// The table as a value: a `const` is rebuilt at each use, so a pass over code makes it once and lends it.
+fn lengths() -> [u8; 256]
+    ensures { λ r. ⌜ Lengths r ⌝ }
+{
+    LENGTHS
+}
+
+// The 16-bit number at `place`.
+pub fn word(s: &[u8], place: usize) -> u16
+    requires { ⌜ place + 2 ≤ length (now s) ⌝ }
+    ensures { λ r. ⌜ r ≡ readLE (now (s .entry)) place 2 ⌝ }
+{
+    let low = s[place] as u16;
+    let high = s[place + 1] as u16;
+    low + 256 * high
+}
+
+// ---- decoding
+
+pub enum Instruction {
+    Return,
+    // T
+    Jump(u16),
+    // the tested byte's address, T
+    JumpZero(u16, u16),
+    JumpNotZero(u16, u16),
+    // instance, T
+    CallInstance(u16, u16),
+    // T
+    CallFunction(u16),
+    // destination, n; the n bytes stand four places after the instruction's start
+    MoveConstant(u16, u8),
+    // destination, source, n
+    CopyMemory(u16, u16, u16),
+    // variable, array, index, element size, count
+    ReadElement(u16, u16, u16, u8, u16),
+    WriteElement(u16, u16, u16, u8, u16),
+    // code byte, type, destination, a, b; NOT's one operand stands for b too; b is a shift's address of its count
+    Typed(u8, u8, u16, u16, u16),
+    // destination
+    CycleTime(u16),
+    FlagByte(u16),
+    Unknown,
+}
+
+fn inside(low: u8, high: u8, x: u8) -> bool
+    ensures { λ r. ⌜ r ≡ within low high x ⌝ }
+{
+    if x < low {
+        return false;
+    }
+    x <= high
+}
+
+// A typed command with three addresses.
+fn has_three(code: u8) -> bool
+    ensures { λ r. ⌜ r ≡ three code ⌝ }
+{
+    if inside(16, 20, code) {
+        return true;
+    }
+    if inside(24, 26, code) {
+        return true;
+    }
+    inside(28, 37, code)
+}
+
+// The typed command at place p, if one stands there.
+fn typed(file: &[u8], p: usize) -> Instruction
+    requires { ⌜ (p < length (now file)) × (p + lengthOf (byte (now file) p) ≤ length (now file)) ⌝ }
+    ensures { λ r. ⌜ r ≡ typedAt (now (file .entry)) p Instruction.Unknown ⌝ }
+{
+    let code = file[p];
+    if has_three(code) {
+        return Instruction::Typed(
+            code,
+            file[p + 1],
+            word(file, p + 2),
+            word(file, p + 4),
+            word(file, p + 6),
+        );
+    }
+    if code == 27 {
+        let t = file[p + 1];
+        let to = word(file, p + 2);
+        let a = word(file, p + 4);
+        return Instruction::Typed(code, t, to, a, a);
+    }
+    Instruction::Unknown
+}
+
+// The instruction at place p of a file, which is whole there.
+pub fn decode(file: &[u8], p: usize) -> Instruction
+    requires { ⌜ (p < length (now file)) × (p + lengthOf (byte (now file) p) ≤ length (now file)) ⌝ }
+    ensures { λ r. ⌜ r ≡ instructionAt (now (file .entry)) p ⌝ }
+{
+    let code = file[p];
+    match code {
+        0 => Instruction::Return,
+        1 => Instruction::Jump(word(file, p + 1)),
+        2 => Instruction::JumpZero(word(file, p + 1), word(file, p + 3)),
+        3 => Instruction::JumpNotZero(word(file, p + 1), word(file, p + 3)),
+        4 => Instruction::CallInstance(word(file, p + 1), word(file, p + 3)),
+        5 => Instruction::CallFunction(word(file, p + 1)),
+        6 => Instruction::MoveConstant(word(file, p + 1), file[p + 3]),
+        7 => Instruction::CopyMemory(word(file, p + 1), word(file, p + 3), word(file, p + 5)),
+        8 => Instruction::ReadElement(
+            word(file, p + 1),
+            word(file, p + 3),
+            word(file, p + 5),
+            file[p + 7],
+            word(file, p + 8),
+        ),
+        9 => Instruction::WriteElement(
+            word(file, p + 1),
+            word(file, p + 3),
+            word(file, p + 5),
+            file[p + 7],
+            word(file, p + 8),
+        ),
+        41 => Instruction::CycleTime(word(file, p + 1)),
+        42 => Instruction::FlagByte(word(file, p + 1)),
+        _ => typed(file, p),
+    }
+}
+
+// ---- one instruction, judged
+
+// Whether the command with this code byte is typed and takes type t.
+fn takes_type(code: u8, t: u8) -> bool
+    ensures { λ r. ⌜ r ≡ takes code t ⌝ }
+{
+    if inside(16, 17, code) {
+        return inside(1, 11, t);
+    }
+    if inside(18, 19, code) {
+        return inside(1, 10, t);
+    }
+    if code == 20 {
+        return inside(1, 8, t);
+    }
+    if inside(24, 27, code) {
+        if 8 < t {
+            return false;
+        }
+        return t % 2 == 0;
+    }
+    if inside(28, 31, code) {
+        if !inside(2, 8, t) {
+            return false;
+        }
+        return t % 2 == 0;
+    }
+    if inside(32, 37, code) {
+        return t <= 11;
+    }
+    false
+}
+
+// A width of 1, 2, 4 or 8 bytes.
+pub fn is_width(w: u8) -> bool
+    ensures { λ r. ⌜ r ≡ isWidth w ⌝ }
+{
+    if w == 1 {
+        return true;
+    }
+    if w == 2 {
+        return true;
+    }
+    if w == 4 {
+        return true;
+    }
+    w == 8
+}
+
+// An element size and a count.
+fn element_ok(size: u8, count: u16) -> bool
+    ensures { λ r. ⌜ r ≡ elementOk size count ⌝ }
+{
+    if !is_width(size) {
+        return false;
+    }
+    if count < 1 {
+        return false;
+    }
+    count <= 4096
+}
+
+// The operands of the instruction at p, which is whole.
+fn operands_ok(code: &[u8], p: usize) -> bool
+    requires { ⌜ (p < length (now code)) × (p + lengthOf (byte (now code) p) ≤ length (now code)) ⌝ }
+    ensures { λ r. ⌜ r ≡ operandsOk (instructionAt (now (code .entry)) p) ⌝ }
+{
+    let b = code[p];
+    match b {
+        0 => true,
+        1 => true,
+        2 => true,
+        3 => true,
+        4 => true,
+        5 => true,
+        6 => inside(1, 8, code[p + 3]),
+        7 => true,
+        8 => element_ok(code[p + 7], word(code, p + 8)),
+        9 => element_ok(code[p + 7], word(code, p + 8)),
+        41 => true,
+        42 => true,
+        _ => takes_type(b, memory::byte_at(code, p + 1)),
+    }
+}
+
+// The length of the instruction at p, by the lent table.
+fn instruction_length(code: &[u8], lengths: &[u8; 256], p: usize) -> usize
+    requires { ⌜ (p < length (now code)) × Lengths (now lengths) ⌝ }
+    ensures { λ r. ⌜ r ≡ instructionLength (now (code .entry)) p ⌝ }
+{
+    let b = code[p];
+    let n = lengths[b as usize] as usize;
+    if b == 6 {
+        return n + memory::byte_at(code, p + 3) as usize;
+    }
+    n
+}
+
+fn instruction_refusal(code: &[u8], lengths: &[u8; 256], p: usize) -> u8
+    requires { ⌜ (p < length (now code)) × Lengths (now lengths) ⌝ }
+    ensures { λ r. ⌜ r ≡ instructionRefusal (now (code .entry)) p ⌝ }
+{
+    if lengths[code[p] as usize] == 0 {
+        return 6;
+    }
+    if code.len() - p < instruction_length(code, lengths, p) {
+        return 6;
+    }
+    if operands_ok(code, p) {
+        return 0;
+    }
+    6
+}
+
+// ---- a core's code, judged
+
+// What a pass over the instructions finds: the refusal, the last code byte, and 1 in `marks` where an instruction starts.
+pub struct Laid {
+    pub refusal: u8,
+    pub last: u8,
+    pub marks: [u8; 8192],
+}
+
+fn cleared() -> [u8; 8192]
+    ensures { λ r. ⌜ (length r ≡ 8192) × ((t : ℕ) → getD r t 0 ≡ 0) ⌝ }
+{
+    [0u8; 8192]
+}
+
+fn lay(code: &[u8], lengths: &[u8; 256]) -> Laid
+    requires { ⌜ (length (now code) ≤ 8192) × Lengths (now lengths) ⌝ }
+    ensures { λ r. ⌜ Pass (now (code .entry)) (r .refusal) (r .last) (r .marks) ⌝ }
+{
+    let mut marks = cleared();
+    let mut last: u8 = 0;
+    let mut p: usize = 0;
+    while p < code.len() {
+        let r = instruction_refusal(code, lengths, p);
+        if r != 0 {
+            return Laid {
+                refusal: r,
+                last,
+                marks,
+            };
+        }
+        marks[p] = 1;
+        last = code[p];
+        p = p + instruction_length(code, lengths, p);
+    }
+    Laid {
+        refusal: 0,
+        last,
+        marks,
+    }
+}
+
+// Whether the map of starts has the T that stands at place q.
+fn lands(code: &[u8], marks: &[u8], q: usize) -> bool
+    requires { ⌜ (q + 2 ≤ length (now code)) × Marked (now code) (now marks) ⌝ }
+    ensures { λ r. ⌜ r ≡ isStart (now (code .entry)) (readLE (now (code .entry)) q 2) ⌝ }
+{
+    memory::byte_at(marks, word(code, q) as usize) == 1
+}
+
+// Whether the T of the instruction at p, if it has one, is the start of an instruction.
+fn target_ok(code: &[u8], marks: &[u8], p: usize) -> bool
+    requires { ⌜ (p < length (now code)) × (p + lengthOf (byte (now code) p) ≤ length (now code)) × Marked (now code) (now marks) ⌝ }
+    ensures { λ r. ⌜ r ≡ targetOk (now (code .entry)) p ⌝ }
+{
+    let b = code[p];
+    match b {
+        1 => lands(code, marks, p + 1),
+        2 => lands(code, marks, p + 3),
+        3 => lands(code, marks, p + 3),
+        4 => lands(code, marks, p + 3),
+        5 => lands(code, marks, p + 1),
+        _ => true,
+    }
+}
+
+// Whether each T is the start of an instruction.
+fn targets(code: &[u8], lengths: &[u8; 256], marks: &[u8]) -> bool
+    requires { ⌜ (0 ≡ laid (length (now code)) (now code) 0) × Marked (now code) (now marks) × Lengths (now lengths) ⌝ }
+    ensures { λ r. ⌜ r ≡ allFrom (targetOk (now (code .entry))) (length (now (code .entry))) (now (code .entry)) 0 ⌝ }
+{
+    let mut p: usize = 0;
+    while p < code.len() {
+        if !target_ok(code, marks, p) {
+            return false;
+        }
+        p = p + instruction_length(code, lengths, p);
+    }
+    true
+}
+
+// The refusal of a core's code.
+pub fn judge_code(code: &[u8]) -> u8
+    requires { ⌜ length (now code) ≤ 8192 ⌝ }
+    ensures { λ r. ⌜ r ≡ judgeCode (now (code .entry)) ⌝ }
+{
+    let table = lengths();
+    let m = lay(code, &table);
+    if m.refusal != 0 {
+        return m.refusal;
+    }
+    let marks = m.marks;
+    if !targets(code, &table, &marks) {
+        return 7;
+    }
+    if 2 <= m.last {
+        return 7;
+    }
+    0
+}
+
+// The map of the instruction starts of accepted code: 1 exactly where one starts.
+pub fn starts(code: &[u8]) -> [u8; 8192]
+    requires { ⌜ (length (now code) ≤ 8192) × (judgeCode (now code) ≡ 0) ⌝ }
+    ensures { λ r. ⌜ (length r ≡ 8192) × Marked (now (code .entry)) r ⌝ }
+{
+    let table = lengths();
+    let m = lay(code, &table);
+    m.marks
+}
+
+// Whether an instruction starts at `place`, of any code.
+pub fn is_start(code: &[u8], place: usize) -> bool
+    ensures { λ r. ⌜ r ≡ isStart (now (code .entry)) place ⌝ }
+{
+    if code.len() <= place {
+        return false;
+    }
+    let table = lengths();
+    let mut p: usize = 0;
+    while p < place {
+        let n = instruction_length(code, &table, p);
+        if n == 0 {
+            return false;
+        }
+        if place - p < n {
+            return false;
+        }
+        p = p + n;
+    }
+    true
+}

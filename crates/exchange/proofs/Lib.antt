@@ -1,0 +1,4 @@
+pub mod Moves
+pub mod Records
+pub mod Cursors
+pub mod Accepted

@@ -1,0 +1,155 @@
+// Document 01, exchanges byte by byte: where an exchange under way stands, without a walk over all variables for each byte. Only the
+// semaphore's holder exchanges, so one cursor serves the whole machine.
+// In order: the search for a variable; the cursor; the bytes of an exchange; the copy of one byte.
+// `first` and `end` are the places of the first variable's record and past the last; `bit` picks the exchange: k for the writing of
+// core k, 4 + k for its reading; x is the exchange number.
+ghost use mathlib.Core.Path.{_≡_};
+ghost use mathlib.Core.Bool.{true};
+ghost use Prim.Native.Nat.{_+_, _*_, _≤_, _<_};
+ghost use lib.ListN.{length, take, drop};
+ghost use Rattle.memory.specs.Memory.{word};
+ghost use Rattle.protocol.specs.Step.{copy};
+ghost use Rattle.protocol.specs.Variables.{readsOf, writesOf};
+ghost use Rattle.records.specs.File.{cores, dataSize, variables, recordPlace};
+ghost use Rattle.taskset.specs.Task.{variablesOf};
+ghost use Rattle.exchange.specs.Exchange.{At};
+ghost use Rattle.exchange.specs.Laid.{Laid, named, exchangeBytes, Place, Passed};
+
+// The variable's record in the file, and the byte within the variable.
+pub struct Cursor {
+    pub record: usize,
+    pub byte: usize,
+}
+
+// A record has 12 bytes: shared place (16 bits), width, attribute byte, four local places (16 bits).
+const RECORD: usize = 12;
+
+const WIDTH: usize = 2;
+
+const ATTRIBUTE: usize = 3;
+
+const LOCAL: usize = 4;
+
+// ---- the search for a variable
+
+// The bit of the attribute byte of the record at `place`.
+fn named(file: &[u8], place: usize, bit: usize) -> bool
+    requires { ⌜ (place + 12 ≤ length (now file)) × (bit < 8) ⌝ }
+    ensures { λ r. ⌜ r ≡ named (now (file .entry)) bit place ⌝ }
+{
+    (file[place + ATTRIBUTE] >> bit) & 1 == 1
+}
+
+// The first record from `from` on that has the bit, or the end.
+fn seek(file: &[u8], from: usize, end: usize, bit: usize) -> usize
+    requires { ⌜ Laid (now file) × (end ≡ recordPlace (now file) (variables (now file))) × (bit < 8) × Place (now file) from ⌝ }
+    ensures { λ r. ⌜ Passed (now (file .entry)) bit from r × (r < end → named (now (file .entry)) bit r ≡ true) ⌝ }
+{
+    let mut place = from;
+    while place < end {
+        if named(file, place, bit) {
+            return place;
+        }
+        place += RECORD;
+    }
+    place
+}
+
+// ---- the cursor
+
+// At the first byte of an exchange.
+pub fn start(file: &[u8], first: usize, end: usize, bit: usize) -> Cursor
+    requires { ⌜ Laid (now file) × (first ≡ recordPlace (now file) 0) × (end ≡ recordPlace (now file) (variables (now file))) × (bit < 8) ⌝ }
+    ensures { λ r. ⌜ At (now (file .entry)) bit 0 r ⌝ }
+{
+    let place = seek(file, first, end, bit);
+    Cursor {
+        record: place,
+        byte: 0,
+    }
+}
+
+// One byte further.
+pub fn onward(file: &[u8], end: usize, bit: usize, x: u16, cursor: Cursor) -> Cursor
+    requires { ⌜ Laid (now file) × (end ≡ recordPlace (now file) (variables (now file))) × (bit < 8) × At (now file) bit x cursor × (x < exchangeBytes (now file) bit) ⌝ }
+    ensures { λ r. ⌜ At (now (file .entry)) bit (x + 1) r ⌝ }
+{
+    let place = cursor.record;
+    let byte = cursor.byte + 1;
+    if byte < (file[place + WIDTH] as usize) {
+        return Cursor {
+            record: place,
+            byte: byte,
+        };
+    }
+    let next = seek(file, place + RECORD, end, bit);
+    Cursor {
+        record: next,
+        byte: 0,
+    }
+}
+
+// After x bytes: once, where a run starts from a given state.
+pub fn locate(file: &[u8], first: usize, end: usize, bit: usize, x: u16) -> Cursor
+    requires { ⌜ Laid (now file) × (first ≡ recordPlace (now file) 0) × (end ≡ recordPlace (now file) (variables (now file))) × (bit < 8) × (x ≤ exchangeBytes (now file) bit) ⌝ }
+    ensures { λ r. ⌜ At (now (file .entry)) bit x r ⌝ }
+{
+    let mut cursor = start(file, first, end, bit);
+    let mut i: u16 = 0;
+    while i < x {
+        cursor = onward(file, end, bit, i, cursor);
+        i += 1;
+    }
+    cursor
+}
+
+// ---- the bytes of an exchange
+
+pub fn bytes(file: &[u8], first: usize, end: usize, bit: usize) -> usize
+    requires { ⌜ Laid (now file) × (first ≡ recordPlace (now file) 0) × (end ≡ recordPlace (now file) (variables (now file))) × (bit < 8) ⌝ }
+    ensures { λ r. ⌜ (r ≡ exchangeBytes (now (file .entry)) bit) × (r ≤ 512) ⌝ }
+{
+    let mut total: usize = 0;
+    let mut place = first;
+    while place < end {
+        if named(file, place, bit) {
+            total += file[place + WIDTH] as usize;
+        }
+        place += RECORD;
+    }
+    total
+}
+
+// ---- the copy of one byte
+
+// The place that the record has at `place`, and the byte in it.
+fn byte_place(file: &[u8], place: usize, byte: usize) -> usize
+    requires { ⌜ (place + 2 ≤ length (now file)) × (byte < 8) ⌝ }
+    ensures { λ r. ⌜ r ≡ word (now (file .entry)) place + byte ⌝ }
+{
+    (code::word(file, place) as usize) + byte
+}
+
+// Byte x of core k's reading, from shared memory to its data d.
+pub fn bring(file: &[u8], k: usize, x: u16, cursor: Cursor, d: &mut [u8], shared: &[u8])
+    requires { ⌜ Laid (now file) × (k < cores (now file)) × At (now file) (4 + k) x cursor × (x < exchangeBytes (now file) (4 + k)) × (length (now d) ≡ dataSize (now file) k) × (length (now shared) ≡ 1024) ⌝ }
+    ensures { λ _. ⌜ now (d .exit) ≡ copy (take 1 (drop x (readsOf (variablesOf (now (file .entry))) k))) (now (shared .entry)) (now (d .entry)) ⌝ }
+{
+    let place = cursor.record;
+    let byte = cursor.byte;
+    let from = byte_place(file, place, byte);
+    let to = byte_place(file, place + LOCAL + 2 * k, byte);
+    d[to] = shared[from];
+}
+
+// Byte x of core k's writing, from its data d to shared memory.
+pub fn publish(file: &[u8], k: usize, x: u16, cursor: Cursor, d: &[u8], shared: &mut [u8])
+    requires { ⌜ Laid (now file) × (k < cores (now file)) × At (now file) k x cursor × (x < exchangeBytes (now file) k) × (length (now d) ≡ dataSize (now file) k) × (length (now shared) ≡ 1024) ⌝ }
+    ensures { λ _. ⌜ now (shared .exit) ≡ copy (take 1 (drop x (writesOf (variablesOf (now (file .entry))) k))) (now (d .entry)) (now (shared .entry)) ⌝ }
+{
+    let place = cursor.record;
+    let byte = cursor.byte;
+    let from = byte_place(file, place + LOCAL + 2 * k, byte);
+    let to = byte_place(file, place, byte);
+    shared[to] = d[from];
+}

@@ -1,0 +1,60 @@
+-- The four tests in the order of the definition.
+use mathlib.Core.Path.{sym}
+use borrow.Author.Tests.{le-leb, lt-leb}
+use Rattle.records.specs.Records.{coreOk}
+use borrow.Author.Needs.{needs}
+use Rattle.records.proofs.core_ok.Statement.{statement}
+use Rattle.records.proofs.core_ok.Tie as tie
+
+mul-p : tie.Need-mul-p
+mul-p c = search needs
+
+add-p : tie.Need-add-p
+add-p c = search needs
+
+word-at-requires : tie.Need-word-at-requires
+word-at-requires c κs = search needs
+
+returns : tie.Need-returns
+unfolding coreOk
+returns c = rw (sym (c .before .word-at .ensures .0), lt-leb _ _ (c .if1 .taken))
+
+returns-2 : tie.Need-returns-2
+unfolding coreOk
+returns-2 c = rw (sym (c .before .before .word-at .ensures .0), le-leb _ _ (c .before .if1 .left), lt-leb _ _ (c .if2 .taken))
+
+add-word-at : tie.Need-add-word-at
+add-word-at c = search needs
+
+word-at-requires-2 : tie.Need-word-at-requires-2
+word-at-requires-2 c κs = search needs
+
+returns-3 : tie.Need-returns-3
+unfolding coreOk
+returns-3 c = rw (sym (c .before .before .before .before .word-at .ensures .0), le-leb _ _ (c .before .before .before .if1 .left), le-leb _ _ (c .before .before .if2 .left), sym (c .before .word-at2 .ensures .0), lt-leb _ _ (c .if3 .taken))
+
+add-word-at-2 : tie.Need-add-word-at-2
+add-word-at-2 c = search needs
+
+word-at-requires-3 : tie.Need-word-at-requires-3
+word-at-requires-3 c κs = search needs
+
+returns-4 : tie.Need-returns-4
+unfolding coreOk
+returns-4 c = rw (sym (c .before .before .before .before .before .word-at .ensures .0), le-leb _ _ (c .before .before .before .before .if1 .left), le-leb _ _ (c .before .before .before .if2 .left), sym (c .before .before .word-at2 .ensures .0), le-leb _ _ (c .before .if3 .left), sym (c .word-at3 .ensures .0))
+
+pub core-ok-spec : {M : Type 1} → statement M
+core-ok-spec =
+    tie.close
+    (tie.spec
+    mul-p
+    add-p
+    word-at-requires
+    returns
+    returns-2
+    add-word-at
+    word-at-requires-2
+    returns-3
+    add-word-at-2
+    word-at-requires-3
+    returns-4)

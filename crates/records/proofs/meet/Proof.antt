@@ -1,0 +1,23 @@
+-- The two tests of the definition.
+use borrow.Author.Tests.{lt-ltb, le-ltb}
+use Rattle.records.specs.Records.{meets}
+use borrow.Author.Needs.{needs}
+use Rattle.records.proofs.meet.Statement.{statement}
+use Rattle.records.proofs.meet.Tie as tie
+
+add-if1 : tie.Need-add-if1
+add-if1 c = search needs
+
+add-result : tie.Need-add-result
+add-result c = search needs
+
+returns : tie.Need-returns
+unfolding meets
+returns c = rw (lt-ltb _ _ (c .if1 .taken))
+
+returns-2 : tie.Need-returns-2
+unfolding meets
+returns-2 c = rw (le-ltb _ _ (c .if1 .left))
+
+pub meet-spec : {M : Type 1} → statement M
+meet-spec = tie.close (tie.spec add-if1 add-result returns returns-2)

@@ -1,0 +1,321 @@
+// Document 01, "The task set file": the records of cores and variables, read and judged (refusals 3, 4, 5).
+ghost use mathlib.Core.Path.{_≡_};
+ghost use Prim.Native.Nat.{ℕ, _+_, _*_, _-_, _<_, _≤_};
+ghost use lib.Dec.{eqb};
+ghost use lib.ListN.{length};
+ghost use Rattle.verdict.specs.Verdict.{first};
+ghost use Rattle.protocol.specs.Variables.{local, readsIt, writesIt};
+ghost use Rattle.records.specs.File.{cores, corePlace, variables, recordPlace, variableIn};
+ghost use Rattle.records.specs.Records.{coreOk, coreRefusal, bit, oneWriter, named, placeOk, partOk, partsOk, variableOk, variableRefusal, meets, meetsShared, meetsIn, overlap, pairRefusal, overlapRefusal};
+
+// ---- a variable's record at place p, read by plain indices
+
+// Where the record of variable i stands.
+pub fn record_place(f: &[u8], i: u8) -> usize
+    ensures { λ r. ⌜ (r ≡ recordPlace (now (f .entry)) i) × (r < 8192) ⌝ }
+{
+    5 + 6 * memory::byte_at(f, 4) as usize + 1 + 12 * i as usize
+}
+
+pub fn shared_place(f: &[u8], p: usize) -> u16
+    requires { ⌜ p + 12 ≤ length (now f) ⌝ }
+    ensures { λ r. ⌜ r ≡ variableIn (now (f .entry)) p .place ⌝ }
+{
+    code::word(f, p)
+}
+
+pub fn width(f: &[u8], p: usize) -> u8
+    requires { ⌜ p + 12 ≤ length (now f) ⌝ }
+    ensures { λ r. ⌜ r ≡ variableIn (now (f .entry)) p .width ⌝ }
+{
+    f[p + 2]
+}
+
+pub fn local_place(f: &[u8], p: usize, k: usize) -> u16
+    requires { ⌜ (p + 12 ≤ length (now f)) × (k < 4) ⌝ }
+    ensures { λ r. ⌜ r ≡ local k (variableIn (now (f .entry)) p) ⌝ }
+{
+    code::word(f, p + 4 + 2 * k)
+}
+
+// Bit k of an attribute byte.
+fn has_bit(a: u8, k: usize) -> bool
+    requires { ⌜ k < 8 ⌝ }
+    ensures { λ r. ⌜ r ≡ eqb (bit a k) 1 ⌝ }
+{
+    (a >> k) & 1 == 1
+}
+
+// Whether core k reads the variable.
+pub fn reads(f: &[u8], p: usize, k: usize) -> bool
+    requires { ⌜ (p + 12 ≤ length (now f)) × (k < 4) ⌝ }
+    ensures { λ r. ⌜ r ≡ readsIt k (variableIn (now (f .entry)) p) ⌝ }
+{
+    has_bit(f[p + 3], 4 + k)
+}
+
+// Whether core k writes the variable.
+pub fn writes(f: &[u8], p: usize, k: usize) -> bool
+    requires { ⌜ (p + 12 ≤ length (now f)) × (k < 4) ⌝ }
+    ensures { λ r. ⌜ r ≡ writesIt k (variableIn (now (f .entry)) p) ⌝ }
+{
+    has_bit(f[p + 3], k)
+}
+
+// ---- cores
+
+// A core's three numbers.
+fn core_ok(f: &[u8], k: usize) -> bool
+    requires { ⌜ k < 4 ⌝ }
+    ensures { λ r. ⌜ r ≡ coreOk (now (f .entry)) k ⌝ }
+{
+    let p = 5 + 6 * k;
+    let size = memory::word_at(f, p);
+    if size < 1 {
+        return false;
+    }
+    if 4096 < size {
+        return false;
+    }
+    if size < memory::word_at(f, p + 2) {
+        return false;
+    }
+    1 <= memory::word_at(f, p + 4)
+}
+
+fn core_refusal(f: &[u8], k: usize) -> u8
+    requires { ⌜ k < 4 ⌝ }
+    ensures { λ r. ⌜ r ≡ coreRefusal (now (f .entry)) k ⌝ }
+{
+    if f.len() < 5 + 6 * k + 6 {
+        return 1;
+    }
+    if core_ok(f, k) {
+        return 0;
+    }
+    3
+}
+
+// The records of n cores.
+pub fn cores_refusal(f: &[u8], n: usize) -> u8
+    requires { ⌜ n ≤ 4 ⌝ }
+    ensures { λ r. ⌜ r ≡ first (coreRefusal (now (f .entry))) (n - 0) 0 ⌝ }
+{
+    let mut k = 0;
+    while k < n {
+        let r = core_refusal(f, k);
+        if r != 0 {
+            return r;
+        }
+        k = k + 1;
+    }
+    0
+}
+
+// ---- one variable
+
+// Exactly one bit of the write half is set.
+fn one_writer(a: u8) -> bool
+    ensures { λ r. ⌜ r ≡ oneWriter a ⌝ }
+{
+    u8::count_ones(a & 15) == 1
+}
+
+// A named core's place in the record at p.
+fn place_ok(f: &[u8], p: usize, k: usize) -> bool
+    requires { ⌜ (p + 12 ≤ length (now f)) × (k < 4) ⌝ }
+    ensures { λ r. ⌜ r ≡ placeOk (now (f .entry)) (variableIn (now (f .entry)) p) k ⌝ }
+{
+    if memory::byte_at(f, 4) as usize <= k {
+        return false;
+    }
+    let q = 5 + 6 * k;
+    let place = local_place(f, p, k) as usize;
+    if place < memory::word_at(f, q + 2) {
+        return false;
+    }
+    place + width(f, p) as usize <= memory::word_at(f, q)
+}
+
+// Core k's part in the record at p.
+fn part_ok(f: &[u8], p: usize, k: usize) -> bool
+    requires { ⌜ (p + 12 ≤ length (now f)) × (k < 4) ⌝ }
+    ensures { λ r. ⌜ r ≡ partOk (now (f .entry)) (variableIn (now (f .entry)) p) k ⌝ }
+{
+    if reads(f, p, k) {
+        if writes(f, p, k) {
+            return false;
+        }
+        return place_ok(f, p, k);
+    }
+    if writes(f, p, k) {
+        return place_ok(f, p, k);
+    }
+    local_place(f, p, k) == 0
+}
+
+// The parts of the four cores.
+fn parts_ok(f: &[u8], p: usize) -> bool
+    requires { ⌜ p + 12 ≤ length (now f) ⌝ }
+    ensures { λ r. ⌜ r ≡ partsOk (now (f .entry)) (variableIn (now (f .entry)) p) ⌝ }
+{
+    if !part_ok(f, p, 0) {
+        return false;
+    }
+    if !part_ok(f, p, 1) {
+        return false;
+    }
+    if !part_ok(f, p, 2) {
+        return false;
+    }
+    part_ok(f, p, 3)
+}
+
+// The record at p.
+fn variable_ok(f: &[u8], p: usize) -> bool
+    requires { ⌜ p + 12 ≤ length (now f) ⌝ }
+    ensures { λ r. ⌜ r ≡ variableOk (now (f .entry)) (variableIn (now (f .entry)) p) ⌝ }
+{
+    let w = width(f, p);
+    if !code::is_width(w) {
+        return false;
+    }
+    if !one_writer(f[p + 3]) {
+        return false;
+    }
+    if 1024 < shared_place(f, p) as usize + w as usize {
+        return false;
+    }
+    parts_ok(f, p)
+}
+
+fn variable_refusal(f: &[u8], i: u8) -> u8
+    ensures { λ r. ⌜ r ≡ variableRefusal (now (f .entry)) i ⌝ }
+{
+    let p = record_place(f, i);
+    if f.len() < p + 12 {
+        return 1;
+    }
+    if variable_ok(f, p) {
+        return 0;
+    }
+    4
+}
+
+// The records of m variables.
+pub fn variables_refusal(f: &[u8], m: u8) -> u8
+    ensures { λ r. ⌜ r ≡ first (variableRefusal (now (f .entry))) (m - 0) 0 ⌝ }
+{
+    let mut i = 0;
+    while i < m {
+        let r = variable_refusal(f, i);
+        if r != 0 {
+            return r;
+        }
+        i = i + 1;
+    }
+    0
+}
+
+// ---- two variables
+
+// a bytes from x on and b bytes from y on have one in common.
+fn meet(x: u16, a: u8, y: u16, b: u8) -> bool
+    ensures { λ r. ⌜ r ≡ meets x a y b ⌝ }
+{
+    if (x as usize) < y as usize + b as usize {
+        return (y as usize) < x as usize + a as usize;
+    }
+    false
+}
+
+fn is_named(f: &[u8], p: usize, k: usize) -> bool
+    requires { ⌜ (p + 12 ≤ length (now f)) × (k < 4) ⌝ }
+    ensures { λ r. ⌜ r ≡ named k (variableIn (now (f .entry)) p) ⌝ }
+{
+    if reads(f, p, k) {
+        return true;
+    }
+    writes(f, p, k)
+}
+
+fn meet_in(f: &[u8], p: usize, q: usize, k: usize) -> bool
+    requires { ⌜ (p + 12 ≤ length (now f)) × (q + 12 ≤ length (now f)) × (k < 4) ⌝ }
+    ensures { λ r. ⌜ r ≡ meetsIn k (variableIn (now (f .entry)) p) (variableIn (now (f .entry)) q) ⌝ }
+{
+    if !is_named(f, p, k) {
+        return false;
+    }
+    if !is_named(f, q, k) {
+        return false;
+    }
+    meet(
+        local_place(f, p, k),
+        width(f, p),
+        local_place(f, q, k),
+        width(f, q),
+    )
+}
+
+fn meet_shared(f: &[u8], p: usize, q: usize) -> bool
+    requires { ⌜ (p + 12 ≤ length (now f)) × (q + 12 ≤ length (now f)) ⌝ }
+    ensures { λ r. ⌜ r ≡ meetsShared (variableIn (now (f .entry)) p) (variableIn (now (f .entry)) q) ⌝ }
+{
+    meet(
+        shared_place(f, p),
+        width(f, p),
+        shared_place(f, q),
+        width(f, q),
+    )
+}
+
+fn overlapping(f: &[u8], p: usize, q: usize) -> bool
+    requires { ⌜ (p + 12 ≤ length (now f)) × (q + 12 ≤ length (now f)) ⌝ }
+    ensures { λ r. ⌜ r ≡ overlap (variableIn (now (f .entry)) p) (variableIn (now (f .entry)) q) ⌝ }
+{
+    if meet_shared(f, p, q) {
+        return true;
+    }
+    if meet_in(f, p, q, 0) {
+        return true;
+    }
+    if meet_in(f, p, q, 1) {
+        return true;
+    }
+    if meet_in(f, p, q, 2) {
+        return true;
+    }
+    meet_in(f, p, q, 3)
+}
+
+// Variable i against each of the m after it.
+fn overlap_refusal(f: &[u8], i: u8, m: u8) -> u8
+    requires { ⌜ (i < m) × (m ≡ variables (now f)) × (recordPlace (now f) m ≤ length (now f)) ⌝ }
+    ensures { λ r. ⌜ r ≡ overlapRefusal (now (f .entry)) i ⌝ }
+{
+    let p = record_place(f, i);
+    let mut j = i + 1;
+    while j < m {
+        if overlapping(f, p, record_place(f, j)) {
+            return 5;
+        }
+        j = j + 1;
+    }
+    0
+}
+
+// Each of the m variables against each.
+pub fn overlaps_refusal(f: &[u8], m: u8) -> u8
+    requires { ⌜ (m ≡ variables (now f)) × (recordPlace (now f) m ≤ length (now f)) ⌝ }
+    ensures { λ r. ⌜ r ≡ first (overlapRefusal (now (f .entry))) (m - 0) 0 ⌝ }
+{
+    let mut i = 0;
+    while i < m {
+        let r = overlap_refusal(f, i, m);
+        if r != 0 {
+            return r;
+        }
+        i = i + 1;
+    }
+    0
+}

@@ -1,0 +1,43 @@
+-- Zero past the last core, else the count.
+use mathlib.Core.Path.{sym}
+use borrow.Author.Tests.{lt-ltb, le-ltb}
+use Rattle.verdict.specs.Verdict.{pick}
+use Rattle.taskset.specs.Trace.{countOf}
+use borrow.Author.Needs.{needs}
+use Rattle.taskset.proofs.count_of.Statement.{statement}
+use Rattle.taskset.proofs.count_of.Tie as tie
+
+byte-at-requires : tie.Need-byte-at-requires
+byte-at-requires c κs = search needs
+
+cast-if1 : tie.Need-cast-if1
+cast-if1 c = search needs
+
+returns : tie.Need-returns
+unfolding countOf pick
+returns c = rw (sym (c .before .byte-at .ensures), le-ltb _ _ (c .if1 .taken))
+
+trace-place-requires : tie.Need-trace-place-requires
+trace-place-requires c κs = search needs
+
+word-at-requires : tie.Need-word-at-requires
+word-at-requires c κs = search needs
+
+cast-result : tie.Need-cast-result
+cast-result c = search needs
+
+returns-2 : tie.Need-returns-2
+unfolding countOf pick
+returns-2 c = rw (sym (c .before .before .before .byte-at .ensures), lt-ltb _ _ (c .before .before .if1 .left), sym (c .before .trace-place .ensures .0)) (c .word-at .ensures .0)
+
+pub count-of-spec : {M : Type 1} → statement M
+count-of-spec =
+    tie.close
+    (tie.spec
+    byte-at-requires
+    cast-if1
+    returns
+    trace-place-requires
+    word-at-requires
+    cast-result
+    returns-2)

@@ -1,0 +1,71 @@
+-- Head, variables, codes.
+use Prim.Native.Nat.{ℕ, _+_, _*_}
+use mathlib.Core.Path.{sym, ap, _∙_}
+use native.Mathlib.Omega.{arith}
+use lib.ListN.{getD}
+use Rattle.verdict.proofs.Verdict.{skip, stop}
+use Rattle.records.specs.File.{recordPlace}
+use Rattle.taskset.specs.Judge.{codePlace, judge}
+use Rattle.taskset.proofs.Laws.{head-cores}
+use borrow.Author.Needs.{needs}
+use Rattle.taskset.proofs.judge_file.Statement.{statement}
+use Rattle.taskset.proofs.judge_file.Tie as tie
+
+head-refusal-requires : tie.Need-head-refusal-requires
+head-refusal-requires c κs = search needs
+
+returns : tie.Need-returns
+unfolding judge
+returns c = stop _ (c .before .head-refusal .ensures) (c .if1 .taken)
+
+variables-refusal-requires : tie.Need-variables-refusal-requires
+variables-refusal-requires c κs = search needs
+
+returns-2 : tie.Need-returns-2
+unfolding judge
+returns-2 c = skip (sym (c .before .before .before .head-refusal .ensures) ∙ c .before .before .if1 .left) (stop _ (c .before .variables-refusal .ensures) (c .if2 .taken))
+
+byte-at-requires : tie.Need-byte-at-requires
+byte-at-requires c κs = search needs
+
+cast-n : tie.Need-cast-n
+cast-n c = search needs
+
+mul-byte-at : tie.Need-mul-byte-at
+mul-byte-at c = search needs
+
+add-byte-at : tie.Need-add-byte-at
+add-byte-at c = search needs
+
+byte-at-requires-2 : tie.Need-byte-at-requires-2
+byte-at-requires-2 c κs = search needs
+
+record-place-requires : tie.Need-record-place-requires
+record-place-requires c κs = search needs
+
+codes-refusal-requires : tie.Need-codes-refusal-requires
+unfolding codePlace
+codes-refusal-requires c κs = let f = c .before .before .before .before .before .before .before .before .args .f .now in
+    let n = head-cores f (sym (c .before .before .before .before .before .before .head-refusal .ensures) ∙ c .before .before .before .before .before .if1 .left) in
+    (omega (arith, c .before .before .byte-at .ensures, n), c .before .before .byte-at .ensures, c .record-place .ensures .0 ∙ ap (recordPlace f) (c .before .byte-at2 .ensures ∙ ap (λ (k : ℕ). getD f (5 + 6 * k) 0) (c .before .before .byte-at .ensures)), omega (arith, c .record-place .ensures .1))
+
+returns-3 : tie.Need-returns-3
+unfolding judge
+returns-3 c = skip (sym (c .before .before .before .before .before .before .before .head-refusal .ensures) ∙ c .before .before .before .before .before .before .if1 .left) (skip (sym (c .before .before .before .before .before .variables-refusal .ensures) ∙ c .before .before .before .before .if2 .left) (c .codes-refusal .ensures))
+
+pub judge-file-spec : {M : Type 1} → statement M
+judge-file-spec =
+    tie.close
+    (tie.spec
+    head-refusal-requires
+    returns
+    variables-refusal-requires
+    returns-2
+    byte-at-requires
+    cast-n
+    mul-byte-at
+    add-byte-at
+    byte-at-requires-2
+    record-place-requires
+    codes-refusal-requires
+    returns-3)

@@ -1,0 +1,76 @@
+-- Each return is the first refusal of the chain; the lent part is the code.
+use Prim.Native.Nat.{ℕ, _+_, _-_}
+use mathlib.Core.Path.{_≡_, sym, ap, _∙_}
+use native.Mathlib.Omega.{arith}
+use borrow.Author.Tests.{le-leb, lt-leb}
+use lib.ListN.{take, drop}
+use Rattle.verdict.proofs.Verdict.{skip, halt, yes, no}
+use Rattle.memory.specs.Memory.{word, part}
+use Rattle.code.specs.Code.{judgeCode}
+use Rattle.taskset.specs.Judge.{sectionRefusal}
+use borrow.Author.Needs.{needs}
+use Rattle.taskset.proofs.section_refusal.Statement.{statement}
+use Rattle.taskset.proofs.section_refusal.Tie as tie
+
+add-a : tie.Need-add-a
+add-a c = search needs
+
+returns : tie.Need-returns
+unfolding sectionRefusal
+returns c = halt 0 _ (no _ _ (lt-leb _ _ (c .if1 .taken)))
+
+word-at-requires : tie.Need-word-at-requires
+word-at-requires c κs = search needs
+
+returns-2 : tie.Need-returns-2
+unfolding sectionRefusal
+returns-2 c = skip (yes _ _ (le-leb _ _ (c .before .before .if1 .left))) (halt 5 _ (no _ _ (rw (sym (c .before .word-at .ensures .0), lt-leb _ _ (c .if2 .taken)))))
+
+returns-3 : tie.Need-returns-3
+unfolding sectionRefusal
+returns-3 c = skip (yes _ _ (le-leb _ _ (c .before .before .before .if1 .left))) (halt 5 _ (no _ _ (rw (sym (c .before .before .word-at .ensures .0), le-leb _ _ (c .before .if2 .left), lt-leb _ _ (c .if3 .taken)))))
+
+add-e : tie.Need-add-e
+add-e c = search needs
+
+returns-4 : tie.Need-returns-4
+unfolding sectionRefusal
+returns-4 c = skip (yes _ _ (le-leb _ _ (c .before .before .before .before .if1 .left))) (skip (yes _ _ (rw (sym (c .before .before .before .word-at .ensures .0), le-leb _ _ (c .before .before .if2 .left), le-leb _ _ (c .before .if3 .left)))) (halt 0 _ (no _ _ (rw (sym (c .before .before .before .word-at .ensures .0), lt-leb _ _ (c .if4 .taken))))))
+
+sub-judge-code : tie.Need-sub-judge-code
+sub-judge-code c = search needs
+
+part-judge-code-start : tie.Need-part-judge-code-start
+part-judge-code-start c = search needs
+
+part-judge-code-end : tie.Need-part-judge-code-end
+part-judge-code-end c = search needs
+
+judge-code-requires : tie.Need-judge-code-requires
+judge-code-requires c κs = search needs
+
+returns-5 : tie.Need-returns-5
+unfolding sectionRefusal part
+returns-5 c = let s = c .before .before .before .before .before .before .before .before .args in
+    let e : s .p + 2 + c .before .before .before .before .before .word-at .result - (s .p + 2) ≡ word (s .f .now) (s .p) = omega (arith, c .before .before .before .before .before .word-at .ensures .0) in
+    skip (yes _ _ (le-leb _ _ (c .before .before .before .before .before .before .if1 .left)))
+    (skip (yes _ _ (rw (sym (c .before .before .before .before .before .word-at .ensures .0), le-leb _ _ (c .before .before .before .before .if2 .left), le-leb _ _ (c .before .before .before .if3 .left))))
+    (skip (yes _ _ (rw (sym (c .before .before .before .before .before .word-at .ensures .0), le-leb _ _ (c .before .before .if4 .left))))
+    (c .judge-code .ensures ∙ ap (λ (n : ℕ). judgeCode (take n (drop (s .p + 2) (s .f .now)))) e)))
+
+pub section-refusal-spec : {M : Type 1} → statement M
+section-refusal-spec =
+    tie.close
+    (tie.spec
+    add-a
+    returns
+    word-at-requires
+    returns-2
+    returns-3
+    add-e
+    returns-4
+    sub-judge-code
+    part-judge-code-start
+    part-judge-code-end
+    judge-code-requires
+    returns-5)

@@ -1,0 +1,5 @@
+pub mod Judge
+pub mod Layout
+pub mod Trace
+pub mod Rules
+pub mod Task

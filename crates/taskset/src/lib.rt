@@ -1,0 +1,351 @@
+// Document 01, "The task set file" and the trace: judged front to back (refusals 1..7 and 22), and where everything stands in them.
+ghost use mathlib.Core.Path.{_≡_};
+ghost use Prim.Native.Nat.{ℕ, _+_, _*_, _-_, _<_, _≤_};
+ghost use lib.ListN.{length};
+ghost use Rattle.records.specs.File.{cores, variables};
+ghost use Rattle.taskset.specs.Judge.{isMark, headRefusal, variablesRefusal, codePlace, sectionRefusal, codesRefusal, judge};
+ghost use Rattle.taskset.specs.Layout.{basePlace, noCore, coreLayout, layoutOf, noLayout, loadOf};
+ghost use Rattle.taskset.specs.Trace.{tracePlace, traceRefusal, countOf, firstOf, loadTraceOf};
+
+// ---- the refusal of a task set file
+
+const MARK: [u8; 4] = *b"MCS1";
+
+fn is_mark(f: &[u8]) -> bool
+    requires { ⌜ 4 ≤ length (now f) ⌝ }
+    ensures { λ r. ⌜ r ≡ isMark (now (f .entry)) ⌝ }
+{
+    if f[0] != MARK[0] {
+        return false;
+    }
+    if f[1] != MARK[1] {
+        return false;
+    }
+    if f[2] != MARK[2] {
+        return false;
+    }
+    f[3] == MARK[3]
+}
+
+// The mark, the number of cores and their records.
+fn head_refusal(f: &[u8]) -> u8
+    ensures { λ r. ⌜ r ≡ headRefusal (now (f .entry)) ⌝ }
+{
+    if f.len() < 4 {
+        return 1;
+    }
+    if !is_mark(f) {
+        return 2;
+    }
+    if f.len() < 5 {
+        return 1;
+    }
+    let n = f[4] as usize;
+    if n < 1 {
+        return 3;
+    }
+    if 4 < n {
+        return 3;
+    }
+    records::cores_refusal(f, n)
+}
+
+// The number of variables, their records and their overlap.
+fn variables_refusal(f: &[u8]) -> u8
+    ensures { λ r. ⌜ r ≡ variablesRefusal (now (f .entry)) ⌝ }
+{
+    let at = 5 + 6 * memory::byte_at(f, 4) as usize;
+    if f.len() < at + 1 {
+        return 1;
+    }
+    let m = f[at];
+    if 64 < m {
+        return 4;
+    }
+    let r = records::variables_refusal(f, m);
+    if r != 0 {
+        return r;
+    }
+    records::overlaps_refusal(f, m)
+}
+
+// The length and the code at place p.
+fn section_refusal(f: &[u8], p: usize) -> u8
+    requires { ⌜ p < 1000000 ⌝ }
+    ensures { λ r. ⌜ r ≡ sectionRefusal (now (f .entry)) p ⌝ }
+{
+    let a = p + 2;
+    if f.len() < a {
+        return 1;
+    }
+    let n = memory::word_at(f, p);
+    if n < 1 {
+        return 6;
+    }
+    if 8192 < n {
+        return 6;
+    }
+    let e = a + n;
+    if f.len() < e {
+        return 1;
+    }
+    code::judge_code(&f[a..e])
+}
+
+// The code of each of n cores, the first at place `from`, and what follows the last.
+fn codes_refusal(f: &[u8], n: usize, from: usize) -> u8
+    requires { ⌜ (n ≤ 4) × (n ≡ cores (now f)) × (from ≡ codePlace (now f) 0) × (from < 9000) ⌝ }
+    ensures { λ r. ⌜ r ≡ codesRefusal (now (f .entry)) ⌝ }
+{
+    let mut p = from;
+    let mut k = 0;
+    while k < n {
+        let r = section_refusal(f, p);
+        if r != 0 {
+            return r;
+        }
+        p = p + 2 + memory::word_at(f, p);
+        k = k + 1;
+    }
+    if p == f.len() {
+        return 0;
+    }
+    1
+}
+
+// The refusal number of a task set file, 0 where it is accepted.
+pub fn judge_file(f: &[u8]) -> u8
+    ensures { λ r. ⌜ r ≡ judge (now (f .entry)) ⌝ }
+{
+    let h = head_refusal(f);
+    if h != 0 {
+        return h;
+    }
+    let v = variables_refusal(f);
+    if v != 0 {
+        return v;
+    }
+    let n = memory::byte_at(f, 4) as usize;
+    let m = memory::byte_at(f, 5 + 6 * n);
+    codes_refusal(f, n, records::record_place(f, m))
+}
+
+// ---- the layout of an accepted file
+
+// Where a core's data stand in the data buffer, and its code in the file.
+pub struct CoreLayout {
+    pub size: usize, // of the data
+    pub inputs: usize, // bytes of an input record, the first of the data
+    pub limit: u16, // instructions of a cycle
+    pub base: usize, // of the data in the data buffer
+    pub code: usize, // place in the file
+    pub length: usize, // of the code
+}
+
+pub struct Layout {
+    pub cores: usize,
+    pub variables: usize,
+    pub first: usize, // place of the first variable's record
+    pub core: [CoreLayout; 4],
+}
+
+pub struct Loaded {
+    pub refusal: u8,
+    pub layout: Layout,
+}
+
+fn no_core() -> CoreLayout
+    ensures { λ r. ⌜ r ≡ noCore ⌝ }
+{
+    CoreLayout {
+        size: 0,
+        inputs: 0,
+        limit: 0,
+        base: 0,
+        code: 0,
+        length: 0,
+    }
+}
+
+fn base_place(f: &[u8], k: usize) -> usize
+    requires { ⌜ k < 4 ⌝ }
+    ensures { λ r. ⌜ r ≡ basePlace (now (f .entry)) k ⌝ }
+{
+    let mut b = 0;
+    let mut i = 0;
+    while i < k {
+        b = b + memory::word_at(f, 5 + 6 * i);
+        i = i + 1;
+    }
+    b
+}
+
+fn code_place(f: &[u8], k: usize) -> usize
+    requires { ⌜ k < 4 ⌝ }
+    ensures { λ r. ⌜ (r ≡ codePlace (now (f .entry)) k) × (r < 400000) ⌝ }
+{
+    let n = memory::byte_at(f, 4) as usize;
+    let m = memory::byte_at(f, 5 + 6 * n);
+    let mut p = records::record_place(f, m);
+    let mut i = 0;
+    while i < k {
+        p = p + 2 + memory::word_at(f, p);
+        i = i + 1;
+    }
+    p
+}
+
+fn core_layout(f: &[u8], k: usize) -> CoreLayout
+    requires { ⌜ k < 4 ⌝ }
+    ensures { λ r. ⌜ r ≡ coreLayout (now (f .entry)) k ⌝ }
+{
+    if memory::byte_at(f, 4) as usize <= k {
+        return no_core();
+    }
+    let q = 5 + 6 * k;
+    let p = code_place(f, k);
+    CoreLayout {
+        size: memory::word_at(f, q),
+        inputs: memory::word_at(f, q + 2),
+        limit: memory::word_at(f, q + 4) as u16,
+        base: base_place(f, k),
+        code: p + 2,
+        length: memory::word_at(f, p),
+    }
+}
+
+fn layout_of(f: &[u8]) -> Layout
+    ensures { λ r. ⌜ r ≡ layoutOf (now (f .entry)) ⌝ }
+{
+    let n = memory::byte_at(f, 4) as usize;
+    let c0 = core_layout(f, 0);
+    let c1 = core_layout(f, 1);
+    let c2 = core_layout(f, 2);
+    let c3 = core_layout(f, 3);
+    let core = [c0, c1, c2, c3];
+    Layout {
+        cores: n,
+        variables: memory::byte_at(f, 5 + 6 * n) as usize,
+        first: records::record_place(f, 0),
+        core,
+    }
+}
+
+fn no_layout() -> Layout
+    ensures { λ r. ⌜ r ≡ noLayout ⌝ }
+{
+    let c = no_core();
+    let core = [c, c, c, c];
+    Layout {
+        cores: 0,
+        variables: 0,
+        first: 0,
+        core,
+    }
+}
+
+// The refusal number and an empty layout, or 0 and the layout.
+pub fn load(f: &[u8]) -> Loaded
+    ensures { λ r. ⌜ r ≡ loadOf (now (f .entry)) ⌝ }
+{
+    let r = judge_file(f);
+    if r == 0 {
+        let l = layout_of(f);
+        return Loaded {
+            refusal: 0,
+            layout: l,
+        };
+    }
+    let e = no_layout();
+    Loaded {
+        refusal: r,
+        layout: e,
+    }
+}
+
+// ---- the trace
+
+// Record i of core k stands at first[k] + i * (4 + inputs of core k).
+pub struct TraceLayout {
+    pub refusal: u8,
+    pub count: [u16; 4],
+    pub first: [usize; 4],
+}
+
+// Where core k's count stands, k up to the number of cores.
+fn trace_place(f: &[u8], t: &[u8], k: usize) -> usize
+    requires { ⌜ k ≤ 255 ⌝ }
+    ensures { λ r. ⌜ (r ≡ tracePlace (now (f .entry)) (now (t .entry)) k) × (r ≤ 5000000000 * k) ⌝ }
+{
+    let mut p: usize = 0;
+    let mut i = 0;
+    while i < k {
+        let n = memory::word_at(t, p);
+        p = p + 2 + n * (4 + memory::word_at(f, 5 + 6 * i + 2));
+        i = i + 1;
+    }
+    p
+}
+
+// The refusal number of the trace t of the task set file f, 0 where it is sound.
+pub fn judge_trace(f: &[u8], t: &[u8]) -> u8
+    ensures { λ r. ⌜ r ≡ traceRefusal (now (f .entry)) (now (t .entry)) ⌝ }
+{
+    if trace_place(f, t, memory::byte_at(f, 4) as usize) == t.len() {
+        return 0;
+    }
+    22
+}
+
+fn count_of(f: &[u8], t: &[u8], k: usize) -> u16
+    requires { ⌜ k < 4 ⌝ }
+    ensures { λ r. ⌜ r ≡ countOf (now (f .entry)) (now (t .entry)) k ⌝ }
+{
+    if memory::byte_at(f, 4) as usize <= k {
+        return 0;
+    }
+    memory::word_at(t, trace_place(f, t, k)) as u16
+}
+
+fn first_of(f: &[u8], t: &[u8], k: usize) -> usize
+    requires { ⌜ k < 4 ⌝ }
+    ensures { λ r. ⌜ r ≡ firstOf (now (f .entry)) (now (t .entry)) k ⌝ }
+{
+    if memory::byte_at(f, 4) as usize <= k {
+        return 0;
+    }
+    trace_place(f, t, k) + 2
+}
+
+// The refusal number and zeros, or 0 and where the records of each core stand.
+pub fn load_trace(f: &[u8], t: &[u8]) -> TraceLayout
+    ensures { λ r. ⌜ r ≡ loadTraceOf (now (f .entry)) (now (t .entry)) ⌝ }
+{
+    let r = judge_trace(f, t);
+    if r == 0 {
+        let count = [
+            count_of(f, t, 0),
+            count_of(f, t, 1),
+            count_of(f, t, 2),
+            count_of(f, t, 3),
+        ];
+        let first = [
+            first_of(f, t, 0),
+            first_of(f, t, 1),
+            first_of(f, t, 2),
+            first_of(f, t, 3),
+        ];
+        return TraceLayout {
+            refusal: 0,
+            count,
+            first,
+        };
+    }
+    let count: [u16; 4] = [0; 4];
+    let first: [usize; 4] = [0; 4];
+    TraceLayout {
+        refusal: r,
+        count,
+        first,
+    }
+}
