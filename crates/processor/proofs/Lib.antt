@@ -1,0 +1,4 @@
+pub mod Operands
+pub mod Accepted
+pub mod Commands
+pub mod Kept

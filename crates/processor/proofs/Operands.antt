@@ -1,0 +1,66 @@
+-- Laws of operands. In order: operands inside the data; copying an element as a number. Assumes nothing.
+use mathlib.Core.Path.{_≡_, refl, sym, ap, _∙_}
+use mathlib.Core.Bool.{Bool, true, false}
+use mathlib.Core.List.{List, [], _∷_}
+use Prim.Native.Nat.{ℕ, zero, suc, _+_, _≤_, _<_}
+use native.Mathlib.Omega.{arith}
+use borrow.Author.Tests.{ltb-false}
+use lib.ListN.{length, getD, take, drop}
+use lib.Seq.{getD-drop}
+use mir.Syntax.{w8}
+use mir.Val.{Fits}
+use Rattle.verdict.specs.Verdict.{pick, either}
+use Rattle.verdict.proofs.Verdict.{absurd-bool, by-pick}
+use Rattle.memory.specs.Memory.{splice, part, bytesLE, readLE}
+use Rattle.memory.proofs.Laws.{length-part}
+use Rattle.memory.proofs.Number.{bytes-value}
+use Rattle.values.specs.Types.{widthOf}
+use Rattle.values.specs.Commands.{resultWidth, secondWidth}
+use Rattle.processor.specs.Processor.{beyond, anyBeyond, typedBeyond}
+
+-- ---- operands inside the data
+
+-- an operand that is not beyond the data lies inside it
+pub inside : (size place width : ℕ) → beyond size place width ≡ false → place + width ≤ size
+unfolding beyond
+inside size place width e = ltb-false size (place + width) e
+
+either-false : (a b : Bool) → either a b ≡ false → (a ≡ false) × (b ≡ false)
+either-false true b e = absurd-bool (sym e)
+either-false false b e = (refl, e)
+
+pub both-inside : (size p n q m : ℕ) → anyBeyond size p n q m ≡ false → (p + n ≤ size) × (q + m ≤ size)
+both-inside size p n q m e =
+    let a = either-false (beyond size p n) (beyond size q m) e in
+    (inside size p n (a .0), inside size q m (a .1))
+
+pub typed-inside : (op t size to a b : ℕ) → typedBeyond op t size to a b ≡ false
+    → (to + resultWidth op t ≤ size) × (a + widthOf t ≤ size) × (b + secondWidth op t ≤ size)
+typed-inside op t size to a b e =
+    let x = either-false (beyond size to (resultWidth op t)) _ e in
+    let y = both-inside size a (widthOf t) b (secondWidth op t) (x .1) in
+    (inside size to (resultWidth op t) (x .0), y .0, y .1)
+
+-- a selected stretch lies inside if both do
+pub select-both : (test : Bool) (a b p n size : ℕ) → p ≡ pick test a b → a + n ≤ size → b + n ≤ size → p + n ≤ size
+select-both test a b p n size e h l = rw e (by-pick (λ (q : ℕ). q + n ≤ size) test a b (λ f. h) (λ f. l))
+
+-- ---- copying an element as a number
+
+take-bytes : (n : ℕ) (l : List ℕ) → ((i : ℕ) → getD l i 0 < 256) → (i : ℕ) → getD (take n l) i 0 < 256
+take-bytes zero l h i = omega arith
+take-bytes (suc n) [] h i = omega arith
+take-bytes (suc n) (x ∷ l) h zero = h 0
+take-bytes (suc n) (x ∷ l) h (suc i) = take-bytes n l (λ j. h (suc j)) i
+
+bytes-read : (s : List ℕ) (p n : ℕ) → ((i : ℕ) → getD s i 0 < 256) → p + n ≤ length s → bytesLE n (readLE s p n) ≡ part s p n
+unfolding readLE part
+bytes-read s p n h k =
+    ap (λ (w : ℕ). bytesLE w (readLE s p n)) (sym (length-part s p n k))
+    ∙ bytes-value (part s p n) (take-bytes n (drop p s) (λ i. rw getD-drop (h (p + i))))
+
+-- the number in n bytes, stored, is a copy of them
+pub stored-copy : (d m : List ℕ) (to from n size v : ℕ) → ((i : ℕ) → Fits w8 (getD d i 0)) → from + size ≤ length d → size ≡ n
+    → v ≡ readLE d from n → m ≡ splice d to (bytesLE n v) → m ≡ splice d to (part d from size)
+stored-copy d m to from n size v h k e f g =
+    g ∙ ap (λ (x : ℕ). splice d to (bytesLE n x)) f ∙ ap (splice d to) (bytes-read d from n (λ i. h i .fits) (omega arith)) ∙ rw e

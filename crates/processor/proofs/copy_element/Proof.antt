@@ -1,0 +1,76 @@
+-- In each arm the number that is loaded and stored is a copy of its bytes; the last arm is width 8.
+use native.Mathlib.Omega.{arith}
+use borrow.Author.Needs.{needs}
+use Rattle.values.proofs.Widths.{last-width}
+use Rattle.processor.proofs.Operands.{stored-copy}
+use Rattle.processor.proofs.copy_element.Tie as tie
+use Rattle.processor.proofs.copy_element.Statement.{statement}
+
+load-requires : tie.Need-load-requires
+load-requires c κs = search needs
+
+store-requires : tie.Need-store-requires
+store-requires c κs = search needs
+
+load-requires-2 : tie.Need-load-requires-2
+load-requires-2 c κs = search needs
+
+store-requires-2 : tie.Need-store-requires-2
+store-requires-2 c κs = search needs
+
+load-requires-3 : tie.Need-load-requires-3
+load-requires-3 c κs = search needs
+
+store-requires-3 : tie.Need-store-requires-3
+store-requires-3 c κs = search needs
+
+load-requires-4 : tie.Need-load-requires-4
+load-requires-4 c κs = let e = last-width (c .before .before .before .before .pre .0) (c .before .before .match .rest .0 .0 .1) (c .before .before .match .rest .0 .1) (c .before .before .match .rest .1) in (omega arith, omega arith)
+
+store-requires-4 : tie.Need-store-requires-4
+store-requires-4 c κs = let e = last-width (c .before .before .before .before .before .pre .0) (c .before .before .before .match .rest .0 .0 .1) (c .before .before .before .match .rest .0 .1) (c .before .before .before .match .rest .1) in omega arith
+
+same-length : tie.Need-same-length
+same-length c = search needs
+
+returns : tie.Need-returns
+returns c = stored-copy _ _ _ _ _ _ _ (c .before .before .before .before .before .before .before .slice-known .given) (c .before .before .before .before .before .before .before .before .pre .2) (c .before .before .before .before .before .before .match .keys1) (c .before .before .before .load .ensures .0) (c .before .before .store .ensures)
+
+same-length-2 : tie.Need-same-length-2
+same-length-2 c = search needs
+
+returns-2 : tie.Need-returns-2
+returns-2 c = stored-copy _ _ _ _ _ _ _ (c .before .before .before .before .before .before .before .slice-known .given) (c .before .before .before .before .before .before .before .before .pre .2) (c .before .before .before .before .before .before .match .keys2) (c .before .before .before .load2 .ensures .0) (c .before .before .store2 .ensures)
+
+same-length-3 : tie.Need-same-length-3
+same-length-3 c = search needs
+
+returns-3 : tie.Need-returns-3
+returns-3 c = stored-copy _ _ _ _ _ _ _ (c .before .before .before .before .before .before .before .slice-known .given) (c .before .before .before .before .before .before .before .before .pre .2) (c .before .before .before .before .before .before .match .keys3) (c .before .before .before .load3 .ensures .0) (c .before .before .store3 .ensures)
+
+same-length-4 : tie.Need-same-length-4
+same-length-4 c = search needs
+
+returns-4 : tie.Need-returns-4
+returns-4 c = stored-copy _ _ _ _ _ _ _ (c .before .before .before .before .before .before .before .slice-known .given) (c .before .before .before .before .before .before .before .before .pre .2) (last-width (c .before .before .before .before .before .before .before .before .pre .0) (c .before .before .before .before .before .before .match .rest .0 .0 .1) (c .before .before .before .before .before .before .match .rest .0 .1) (c .before .before .before .before .before .before .match .rest .1)) (c .before .before .before .load4 .ensures .0) (c .before .before .store4 .ensures)
+
+pub copy-element-spec : {M : Type 1} → statement M
+copy-element-spec =
+    tie.close
+    (tie.spec
+    load-requires
+    store-requires
+    load-requires-2
+    store-requires-2
+    load-requires-3
+    store-requires-3
+    load-requires-4
+    store-requires-4
+    same-length
+    returns
+    same-length-2
+    returns-2
+    same-length-3
+    returns-3
+    same-length-4
+    returns-4)

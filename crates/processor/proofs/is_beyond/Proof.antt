@@ -1,0 +1,15 @@
+-- The test is the definition; the bounds keep the sum from wrapping.
+use borrow.Author.Needs.{needs}
+use Rattle.processor.specs.Processor.{beyond}
+use Rattle.processor.proofs.is_beyond.Tie as tie
+use Rattle.processor.proofs.is_beyond.Statement.{statement}
+
+add-result : tie.Need-add-result
+add-result c = search needs
+
+returns : tie.Need-returns
+unfolding beyond
+returns c = search needs
+
+pub is-beyond-spec : {M : Type 1} → statement M
+is-beyond-spec = tie.close (tie.spec add-result returns)

@@ -1,0 +1,3 @@
+pub mod Processor
+pub mod Executable
+pub mod Placed

@@ -1,0 +1,133 @@
+-- Document 01, mode 2 and "Types and commands": what one instruction answers, and the data after it.
+-- In order: addresses; what the data decide; the data part of each command, in the document's order; control; one instruction.
+-- The limit and the count are applied outside, once for all commands (`instructionBy` of crate protocol).
+use Prim.Native.Nat.{ℕ, _+_, _-_, _*_}
+use mathlib.Core.Bool.{Bool, true, false, not}
+use mathlib.Core.List.{List}
+use lib.ListN.{length}
+use lib.Dec.{ltb, leb, eqb}
+use Rattle.verdict.specs.Verdict.{pick, either}
+use Rattle.memory.specs.Memory.{byte, splice, part, bytesLE, readLE, word}
+use Rattle.values.specs.Types.{widthOf}
+use Rattle.values.specs.Commands.{resultWidth, secondWidth, zeroDivisor, performed}
+use Rattle.protocol.specs.declared.Registers.{Registers}
+use Rattle.protocol.specs.declared.Outcome.{Outcome}
+use Rattle.protocol.specs.declared.Outcome.the-variants.{Fault, Next, Call, Return as Returned}
+use Rattle.protocol.specs.Instruction.{Executed, halted}
+use Rattle.code.specs.declared.Instruction.{Instruction}
+use Rattle.code.specs.declared.Instruction.the-variants.{Return, Jump, JumpZero, JumpNotZero, CallInstance, CallFunction, MoveConstant, CopyMemory, ReadElement, WriteElement, Typed, CycleTime, FlagByte, Unknown}
+use Rattle.code.specs.Instructions.{instructionAt}
+use Rattle.code.specs.Flow.{Kind, Returns, Jumps, Branches, Calls, Passes, kindOf, targetOf, after}
+
+-- ---- addresses
+
+-- "An address of 16 bits below 32,768 is added to the data offset; from there on, subtract 32,768 and it is absolute."
+unfoldable pub placeOf : ℕ → ℕ → ℕ
+placeOf offset address = pick (ltb address 32768) (offset + address) (address - 32768)
+
+-- "An operand is beyond the data if its place plus its width exceeds the data size"
+unfoldable pub beyond : ℕ → ℕ → ℕ → Bool
+beyond size place width = ltb size (place + width)
+
+-- the place of an address operand of a core
+abbrev pub at : Registers → ℕ → ℕ
+at r address = placeOf (r .offset) address
+
+-- ---- what the data decide
+
+-- A fault with its flag bit; or whether a conditional jump is made, the data offset of a call, and the data afterwards
+pub data Decided : Type 0 where
+  refused : ℕ → Decided
+  decided : Bool → ℕ → List ℕ → Decided
+
+-- flag bit b where the test holds, else x
+abbrev pub faultIf : Bool → ℕ → Decided → Decided
+faultIf test b x = pick test (refused b) x
+
+-- nothing but the data afterwards
+abbrev pub changed : Registers → List ℕ → Decided
+changed r m = decided false (r .offset) m
+
+-- of two operands, of n bytes at p and of m bytes at q, one is beyond the data
+abbrev pub anyBeyond : ℕ → ℕ → ℕ → ℕ → ℕ → Bool
+anyBeyond size p n q m = either (beyond size p n) (beyond size q m)
+
+-- of a typed command's operands one is
+abbrev pub typedBeyond : ℕ → ℕ → ℕ → ℕ → ℕ → ℕ → Bool
+typedBeyond code t size to a b = either (beyond size to (resultWidth code t)) (anyBeyond size a (widthOf t) b (secondWidth code t))
+
+-- AURD, AUWD: the addresses of variable and index, the index, the address of the chosen element; a negative INT index is 32,768 or more
+-- as it is stored, above every count
+abbrev pub indexOf : Registers → List ℕ → ℕ → ℕ
+indexOf r d index = readLE d (at r index) 2
+
+abbrev pub elementAt : Registers → List ℕ → ℕ → ℕ → ℕ → ℕ
+elementAt r d array index size = at r array + indexOf r d index * size
+
+unfoldable pub ofElement : Registers → List ℕ → ℕ → ℕ → ℕ → ℕ → ℕ → Decided → Decided
+ofElement r d variable array index size count x =
+    faultIf (anyBeyond (length d) (at r variable) size (at r index) 2) 4
+    (faultIf (leb count (indexOf r d index)) 0
+    (faultIf (beyond (length d) (elementAt r d array index size) size) 4 x))
+
+-- ---- the data part of each command
+
+-- the instruction i of the code c, by a core with registers r and data d
+unfoldable pub dataPart : Instruction → List ℕ → Registers → List ℕ → Decided
+dataPart Return c r d = changed r d
+dataPart (Jump t) c r d = changed r d
+dataPart (JumpZero a t) c r d = faultIf (beyond (length d) (at r a) 1) 4 (decided (eqb (byte d (at r a)) 0) (r .offset) d)
+dataPart (JumpNotZero a t) c r d = faultIf (beyond (length d) (at r a) 1) 4 (decided (not (eqb (byte d (at r a)) 0)) (r .offset) d)
+dataPart (CallInstance i t) c r d = faultIf (leb (length d) (at r i)) 4 (decided false (at r i) d)
+dataPart (CallFunction t) c r d = changed r d
+dataPart (MoveConstant to n) c r d = faultIf (beyond (length d) (at r to) n) 4 (changed r (splice d (at r to) (part c (r .counter + 4) n)))
+dataPart (CopyMemory to from n) c r d =
+    faultIf (anyBeyond (length d) (at r to) n (at r from) n) 4 (changed r (splice d (at r to) (part d (at r from) n)))
+dataPart (ReadElement v a i size count) c r d =
+    ofElement r d v a i size count (changed r (splice d (at r v) (part d (elementAt r d a i size) size)))
+dataPart (WriteElement v a i size count) c r d =
+    ofElement r d v a i size count (changed r (splice d (elementAt r d a i size) (part d (at r v) size)))
+dataPart (Typed code t to a b) c r d =
+    faultIf (typedBeyond code t (length d) (at r to) (at r a) (at r b)) 4
+    (faultIf (zeroDivisor code t (readLE d (at r b) (secondWidth code t))) 3
+    (changed r (performed code t d (at r to) (at r a) (at r b))))
+dataPart (CycleTime to) c r d = faultIf (beyond (length d) (at r to) 4) 4 (changed r (splice d (at r to) (bytesLE 4 (r .time))))
+dataPart (FlagByte to) c r d = faultIf (beyond (length d) (at r to) 1) 4 (changed r (splice d (at r to) (bytesLE 1 (r .flags))))
+dataPart Unknown c r d = changed r d
+
+-- ---- control
+
+abbrev pub answer : Outcome → List ℕ → Executed
+answer o m = record { outcome = o; memory = m }
+
+-- a jump: to the target where it is made, else to the next instruction
+abbrev pub branched : ℕ → ℕ → List ℕ → Decided → Executed
+branched next target d (refused b) = halted b d
+branched next target d (decided made offset m) = answer (Next (pick made target next)) d
+
+abbrev pub called : ℕ → ℕ → List ℕ → Decided → Executed
+called next target d (refused b) = halted b d
+called next target d (decided made offset m) = answer (Call next target offset) d
+
+abbrev pub passed : ℕ → List ℕ → Decided → Executed
+passed next d (refused b) = halted b d
+passed next d (decided made offset m) = answer (Next next) m
+
+-- Where control goes, by the kind of the instruction, the place after it, its target, the depth, and what the data part answers.
+-- The nested call is tried before the addresses.
+abbrev pub controlled : Kind → ℕ → ℕ → ℕ → List ℕ → Decided → Executed
+controlled Returns next target depth d x = answer Returned d
+controlled Jumps next target depth d x = answer (Next target) d
+controlled Branches next target depth d x = branched next target d x
+controlled Calls next target depth d x = pick (eqb depth 16) (halted 5 d) (called next target d x)
+controlled Passes next target depth d x = passed next d x
+
+-- ---- one instruction
+
+-- the instruction i, which ends before the place `next` of the code c
+unfoldable pub meaning : Instruction → ℕ → List ℕ → Registers → List ℕ → Executed
+meaning i next c r d = controlled (kindOf i) next (targetOf i) (r .depth) d (dataPart i c r d)
+
+-- the instruction at the program counter
+unfoldable pub executed : List ℕ → Registers → List ℕ → Executed
+executed c r d = meaning (instructionAt c (r .counter)) (after c (r .counter)) c r d

@@ -1,0 +1,324 @@
+// Document 01, mode 2: one instruction of a core, from its registers, its code and its lent data. What it answers is applied to the
+// registers and the call stack by the machine, which also tries the instruction limit first.
+use protocol::Outcome;
+use protocol::Registers;
+ghost use mathlib.Core.Path.{_≡_};
+ghost use mathlib.Core.Bool.{true};
+ghost use mathlib.Core.Logic.{_⊎_};
+ghost use Prim.Native.Nat.{_+_, _*_, _≤_, _<_};
+ghost use lib.ListN.{length};
+ghost use Rattle.memory.specs.Memory.{byte, splice, part, word};
+ghost use Rattle.verdict.specs.Verdict.{pick};
+ghost use Rattle.values.specs.Width.{Width};
+ghost use Rattle.values.specs.Types.{takes};
+ghost use Rattle.values.specs.Commands.{resultWidth, secondWidth};
+ghost use Rattle.processor.specs.Processor.{placeOf, beyond, anyBeyond, typedBeyond, answer, executed};
+ghost use Rattle.processor.specs.Executable.{Executable, Stands, Reports, secondAt};
+
+// ---- addresses
+
+// From here on an address is absolute.
+const ABSOLUTE: u16 = 32768;
+
+// The place of an address, for a core with this data offset.
+fn place(offset: u16, address: u16) -> usize
+    ensures { λ r. ⌜ (r ≡ placeOf offset address) × (r < 98304) ⌝ }
+{
+    if address < ABSOLUTE {
+        return (offset as usize) + (address as usize);
+    }
+    (address - ABSOLUTE) as usize
+}
+
+// The place of the address that stands in the code at `at`.
+fn operand(offset: u16, code: &[u8], at: usize) -> usize
+    requires { ⌜ at + 2 ≤ length (now code) ⌝ }
+    ensures { λ r. ⌜ (r ≡ placeOf offset (word (now (code .entry)) at)) × (r < 98304) ⌝ }
+{
+    place(offset, code::word(code, at))
+}
+
+// Whether an operand is beyond the data.
+fn is_beyond(size: usize, place: usize, width: usize) -> bool
+    requires { ⌜ (place < 1000000) × (width < 65536) ⌝ }
+    ensures { λ r. ⌜ r ≡ beyond size place width ⌝ }
+{
+    size < place + width
+}
+
+// Whether one of two operands is, of n bytes at p and of m bytes at q.
+fn any_beyond(size: usize, p: usize, n: usize, q: usize, m: usize) -> bool
+    requires { ⌜ (p < 1000000) × (n < 65536) × (q < 1000000) × (m < 65536) ⌝ }
+    ensures { λ r. ⌜ r ≡ anyBeyond size p n q m ⌝ }
+{
+    if is_beyond(size, p, n) {
+        return true;
+    }
+    is_beyond(size, q, m)
+}
+
+// ---- control
+
+// JZ and JNZ, by the code byte.
+fn branch(op: u8, r: Registers, code: &[u8], d: &[u8]) -> Outcome
+    requires { ⌜ ((op ≡ 2) ⊎ (op ≡ 3)) × Stands op 5 (now code) r ⌝ }
+    ensures { λ o. ⌜ answer o (now (d .entry)) ≡ executed (now (code .entry)) r (now (d .entry)) ⌝ }
+{
+    let p = r.counter as usize;
+    let a = operand(r.offset, code, p + 1);
+    if is_beyond(d.len(), a, 1) {
+        return Outcome::Fault(protocol::ADDRESS);
+    }
+    let zero = d[a] == 0;
+    let on_zero = op == 2;
+    if zero == on_zero {
+        return Outcome::Next(code::word(code, p + 3));
+    }
+    Outcome::Next(r.counter + 5)
+}
+
+// The open calls that a core can have.
+const DEEPEST: u8 = 16;
+
+// CALB
+fn call_instance(r: Registers, code: &[u8], d: &[u8]) -> Outcome
+    requires { ⌜ Stands 4 5 (now code) r × (length (now d) ≤ 4096) ⌝ }
+    ensures { λ o. ⌜ answer o (now (d .entry)) ≡ executed (now (code .entry)) r (now (d .entry)) ⌝ }
+{
+    if r.depth == DEEPEST {
+        return Outcome::Fault(protocol::CALL);
+    }
+    let p = r.counter as usize;
+    let instance = operand(r.offset, code, p + 1);
+    if d.len() <= instance {
+        return Outcome::Fault(protocol::ADDRESS);
+    }
+    Outcome::Call(r.counter + 5, code::word(code, p + 3), instance as u16)
+}
+
+// CALF
+fn call_function(r: Registers, code: &[u8], d: &[u8]) -> Outcome
+    requires { ⌜ Stands 5 3 (now code) r ⌝ }
+    ensures { λ o. ⌜ answer o (now (d .entry)) ≡ executed (now (code .entry)) r (now (d .entry)) ⌝ }
+{
+    if r.depth == DEEPEST {
+        return Outcome::Fault(protocol::CALL);
+    }
+    let p = r.counter as usize;
+    Outcome::Call(r.counter + 3, code::word(code, p + 1), r.offset)
+}
+
+// ---- moves
+
+// MCD
+fn move_constant(r: Registers, code: &[u8], d: &mut [u8]) -> Outcome
+    requires { ⌜ Stands 6 (4 + byte (now code) (r .counter + 3)) (now code) r ⌝ }
+    ensures { λ o. ⌜ answer o (now (d .exit)) ≡ executed (now (code .entry)) r (now (d .entry)) ⌝ }
+{
+    let p = r.counter as usize;
+    let to = operand(r.offset, code, p + 1);
+    let n = code[p + 3] as usize;
+    if is_beyond(d.len(), to, n) {
+        return Outcome::Fault(protocol::ADDRESS);
+    }
+    memory::copy(d, to, code, p + 4, n);
+    Outcome::Next((p + 4 + n) as u16)
+}
+
+// MEMCP
+fn copy_memory(r: Registers, code: &[u8], d: &mut [u8]) -> Outcome
+    requires { ⌜ Stands 7 7 (now code) r × (length (now d) ≤ 4096) ⌝ }
+    ensures { λ o. ⌜ answer o (now (d .exit)) ≡ executed (now (code .entry)) r (now (d .entry)) ⌝ }
+{
+    let p = r.counter as usize;
+    let to = operand(r.offset, code, p + 1);
+    let from = operand(r.offset, code, p + 3);
+    let n = code::word(code, p + 5) as usize;
+    if any_beyond(d.len(), to, n, from, n) {
+        return Outcome::Fault(protocol::ADDRESS);
+    }
+    memory::copy_within(d, to, from, n);
+    Outcome::Next(r.counter + 7)
+}
+
+// ---- array elements
+
+// Copies an element. Each arm has its width as a constant, so that it is one load and one store.
+fn copy_element(d: &mut [u8], to: usize, from: usize, size: usize)
+    requires { ⌜ Width size × (to + size ≤ length (now d)) × (from + size ≤ length (now d)) ⌝ }
+    ensures { λ _. ⌜ now (d .exit) ≡ splice (now (d .entry)) to (part (now (d .entry)) from size) ⌝ }
+{
+    match size {
+        1 => memory::store(d, to, 1, memory::load(d, from, 1)),
+        2 => memory::store(d, to, 2, memory::load(d, from, 2)),
+        4 => memory::store(d, to, 4, memory::load(d, from, 4)),
+        _ => memory::store(d, to, 8, memory::load(d, from, 8)),
+    }
+}
+
+// a where the test holds, else b.
+fn select(test: bool, a: usize, b: usize) -> usize
+    ensures { λ r. ⌜ r ≡ pick test a b ⌝ }
+{
+    if test {
+        return a;
+    }
+    b
+}
+
+// The place of element i of an array at `array`.
+fn element_place(array: usize, i: u16, size: usize) -> usize
+    requires { ⌜ (array < 98304) × (size ≤ 8) ⌝ }
+    ensures { λ r. ⌜ (r ≡ array + i * size) × (r < 1000000) ⌝ }
+{
+    array + (i as usize) * size
+}
+
+// AURD and AUWD, by the code byte.
+fn access_element(op: u8, r: Registers, code: &[u8], d: &mut [u8]) -> Outcome
+    requires { ⌜ ((op ≡ 8) ⊎ (op ≡ 9)) × Stands op 10 (now code) r × Width (byte (now code) (r .counter + 7)) ⌝ }
+    ensures { λ o. ⌜ answer o (now (d .exit)) ≡ executed (now (code .entry)) r (now (d .entry)) ⌝ }
+{
+    let p = r.counter as usize;
+    let variable = operand(r.offset, code, p + 1);
+    let index = operand(r.offset, code, p + 5);
+    let size = code[p + 7] as usize;
+    if any_beyond(d.len(), variable, size, index, 2) {
+        return Outcome::Fault(protocol::ADDRESS);
+    }
+    let i = code::word(d, index);
+    if code::word(code, p + 8) <= i {
+        return Outcome::Fault(protocol::INDEX);
+    }
+    let element = element_place(operand(r.offset, code, p + 3), i, size);
+    if is_beyond(d.len(), element, size) {
+        return Outcome::Fault(protocol::ADDRESS);
+    }
+    let read = op == 8;
+    copy_element(
+        d,
+        select(read, variable, element),
+        select(read, element, variable),
+        size,
+    );
+    Outcome::Next(r.counter + 10)
+}
+
+// ---- typed commands
+
+// Where the address of the second operand stands in the instruction.
+fn second_at(op: u8) -> usize
+    ensures { λ r. ⌜ r ≡ secondAt op ⌝ }
+{
+    if op == 27 {
+        return 4;
+    }
+    6
+}
+
+// The width of the result.
+fn result_width(op: u8, t: u8) -> usize
+    requires { ⌜ takes op t ≡ true ⌝ }
+    ensures { λ r. ⌜ (r ≡ resultWidth op t) × (r ≤ 8) ⌝ }
+{
+    if 32 <= op {
+        return 1;
+    }
+    values::width_of(t)
+}
+
+// The width of the second operand.
+fn second_width(op: u8, t: u8) -> usize
+    requires { ⌜ takes op t ≡ true ⌝ }
+    ensures { λ r. ⌜ (r ≡ secondWidth op t) × (r ≤ 8) ⌝ }
+{
+    if op < 27 {
+        return values::width_of(t);
+    }
+    if op == 27 {
+        return 0;
+    }
+    if op < 32 {
+        return 1;
+    }
+    values::width_of(t)
+}
+
+// Whether an operand of a typed command is beyond the data.
+fn typed_beyond(op: u8, t: u8, size: usize, to: usize, a: usize, b: usize) -> bool
+    requires { ⌜ (takes op t ≡ true) × (to < 98304) × (a < 98304) × (b < 98304) ⌝ }
+    ensures { λ r. ⌜ r ≡ typedBeyond op t size to a b ⌝ }
+{
+    if is_beyond(size, to, result_width(op, t)) {
+        return true;
+    }
+    any_beyond(size, a, values::width_of(t), b, second_width(op, t))
+}
+
+// A typed command.
+fn typed(op: u8, r: Registers, code: &[u8], d: &mut [u8]) -> Outcome
+    requires { ⌜ Stands op (secondAt op + 2) (now code) r × (takes op (byte (now code) (r .counter + 1)) ≡ true) ⌝ }
+    ensures { λ o. ⌜ answer o (now (d .exit)) ≡ executed (now (code .entry)) r (now (d .entry)) ⌝ }
+{
+    let p = r.counter as usize;
+    let t = code[p + 1];
+    let second = second_at(op);
+    let to = operand(r.offset, code, p + 2);
+    let a = operand(r.offset, code, p + 4);
+    let b = operand(r.offset, code, p + second);
+    if typed_beyond(op, t, d.len(), to, a, b) {
+        return Outcome::Fault(protocol::ADDRESS);
+    }
+    if commands::zero_divisor(op, t, d, b) {
+        return Outcome::Fault(protocol::DIVISOR);
+    }
+    commands::perform(op, t, d, to, a, b);
+    Outcome::Next((p + second + 2) as u16)
+}
+
+// ---- the cycle's time and the flag byte
+
+// 41 and 42, by what they store.
+fn store_number(
+    op: u8,
+    r: Registers,
+    code: &[u8],
+    d: &mut [u8],
+    width: usize,
+    value: u64,
+) -> Outcome
+    requires { ⌜ Reports op r width value × Stands op 3 (now code) r ⌝ }
+    ensures { λ o. ⌜ answer o (now (d .exit)) ≡ executed (now (code .entry)) r (now (d .entry)) ⌝ }
+{
+    let p = r.counter as usize;
+    let to = operand(r.offset, code, p + 1);
+    if is_beyond(d.len(), to, width) {
+        return Outcome::Fault(protocol::ADDRESS);
+    }
+    memory::store(d, to, width, value);
+    Outcome::Next(r.counter + 3)
+}
+
+// ---- one instruction
+
+// The instruction at the program counter, by its code byte: what it answers, and the data after it in place.
+pub fn execute(r: Registers, code: &[u8], d: &mut [u8]) -> Outcome
+    requires { ⌜ Executable (now code) r (now d) ⌝ }
+    ensures { λ o. ⌜ answer o (now (d .exit)) ≡ executed (now (code .entry)) r (now (d .entry)) ⌝ }
+{
+    let p = r.counter as usize;
+    let op = code[p];
+    match op {
+        0 => Outcome::Return,
+        1 => Outcome::Next(code::word(code, p + 1)),
+        2 | 3 => branch(op, r, code, d),
+        4 => call_instance(r, code, d),
+        5 => call_function(r, code, d),
+        6 => move_constant(r, code, d),
+        7 => copy_memory(r, code, d),
+        8 | 9 => access_element(op, r, code, d),
+        41 => store_number(op, r, code, d, 4, r.time as u64),
+        42 => store_number(op, r, code, d, 1, r.flags as u64),
+        _ => typed(op, r, code, d),
+    }
+}
