@@ -16,7 +16,7 @@ use Rattle.protocol.specs.declared.Outcome.the-variants.{Fault, Next, Call, Ret
 use Rattle.protocol.specs.Instruction.{halted}
 use Rattle.code.specs.declared.Instruction.the-variants.{Typed}
 use Rattle.code.specs.Commands.{layoutOf, lengthOf}
-use Rattle.code.specs.Instructions.{instructionAt, instructionLength, typedAt}
+use Rattle.code.specs.Instructions.{typedAt, instructionAt, instructionLength}
 use Rattle.values.specs.Types.{takes}
 use Rattle.values.specs.Commands.{secondWidth, zeroDivisor, performed}
 use Rattle.processor.specs.Executable.{Reports, secondAt}
@@ -95,7 +95,7 @@ module _ (c : List ℕ) (r : Registers) (d : List ℕ) where
   report-at : (op width value : ℕ) → Reports op r width value → byte c (r .counter) ≡ op
       → executed c r d
       ≡ passed (r .counter + 3) d (faultIf (beyond (length d) (operandAt 1) width) 4 (changed r (splice d (operandAt 1) (bytesLE width value))))
-  unfolding executed meaning dataPart instructionAt typedAt instructionLength lengthOf layoutOf pick
+  unfolding executed meaning dataPart typedAt instructionAt instructionLength lengthOf layoutOf pick
   report-at op width value (inl (z, w, v)) e = rw (e, z, w, v)
   report-at op width value (inr (z, w, v)) e = rw (e, z, w, v)
 

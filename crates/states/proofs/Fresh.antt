@@ -1,0 +1,69 @@
+-- The fresh state of an accepted file is fit on every sound trace. Assumes nothing.
+use mathlib.Core.Path.{_≡_, refl, sym, ap, _∙_, subst}
+use mathlib.Core.Logic.{_⊎_, inl, inr}
+use mathlib.Core.List.{List, [], _∷_, map}
+use Prim.Native.Nat.{ℕ, zero, suc, _<_}
+use native.Mathlib.Nat.{le-of-suc-le-suc, not-suc-le-zero}
+use native.Mathlib.Omega.{arith}
+use lib.ListN.{length, getD, length-map, length-replicate}
+use Rattle.protocol.specs.State.{absent, core}
+use Rattle.protocol.specs.Fresh.{freshCore, fresh}
+use Rattle.protocol.proofs.Instance.{fresh-is}
+use Rattle.code.proofs.Sound.{inside-code}
+use Rattle.processor.proofs.Kept.{fresh-placed}
+use Rattle.records.specs.File.{cores, dataSize}
+use Rattle.taskset.specs.Judge.{codeOf}
+use Rattle.taskset.specs.Task.{sizesOf}
+use Rattle.taskset.proofs.Accepted.{length-listed, listed-at}
+use Rattle.states.specs.Set.{Set}
+use Rattle.states.specs.Fit.{FitCore, Fit}
+
+map-at : {A B : Type 0} (g : A → B) (l : List A) (k : ℕ) (d : A) (e : B) → k < length l → getD (map g l) k e ≡ g (getD l k d)
+map-at g [] k d e h = absurd (not-suc-le-zero h)
+map-at g (x ∷ l) zero d e h = refl
+map-at g (x ∷ l) (suc k) d e h = map-at g l k d e (le-of-suc-le-suc h)
+
+pub sizes-length : (f : List ℕ) → length (sizesOf f) ≡ cores f
+unfolding sizesOf
+sizes-length f = length-listed (dataSize f) (cores f) 0
+
+pub sizes-at : (f : List ℕ) (k : ℕ) → k < cores f → getD (sizesOf f) k 0 ≡ dataSize f k
+unfolding sizesOf
+sizes-at f k h = listed-at (dataSize f) (cores f) k 0 h
+
+fresh-core : (f : List ℕ) (k : ℕ) → k < cores f → core (fresh (sizesOf f) .plant) k ≡ freshCore (dataSize f k)
+fresh-core f k h = map-at freshCore (sizesOf f) k 0 absent (rw (sizes-length f) h) ∙ ap freshCore (sizes-at f k h)
+
+fresh-fit-core : (f t : List ℕ) → Set f t → (k : ℕ) → k < cores f → FitCore f t k (freshCore (dataSize f k))
+fresh-fit-core f t ok k h =
+    record {
+      modes = omega arith;
+      placed = fresh-placed (codeOf f k) (dataSize f k) (inside-code (codeOf f k) 0 (ok .start k h)) (ok .data-size k h .0);
+      shallow = λ a b. refl;
+      counts = omega arith;
+      reading = λ a. omega arith;
+      writing = λ a. omega arith;
+      outside = λ a b. refl;
+      cycles = omega arith;
+      under-way = λ a b. absurd (let y : ⊥ = omega arith in y);
+      flags = omega arith;
+      size = length-replicate {A = ℕ} (dataSize f k) 0;
+    }
+
+-- between two cycles, or no core at all
+still : {m : ℕ} → (m ≡ 0) ⊎ (m ≡ 5) → (m ≡ 1) ⊎ (m ≡ 4) → ⊥
+still (inl a) (inl b) = omega arith
+still (inl a) (inr b) = omega arith
+still (inr a) (inl b) = omega arith
+still (inr a) (inr b) = omega arith
+
+pub fresh-fit : (f t : List ℕ) → Set f t → Fit f t (fresh (sizesOf f))
+fresh-fit f t ok = record {
+  table = length-map (sizesOf f) freshCore ∙ sizes-length f;
+  each = λ k h. subst (FitCore f t k) (sym (fresh-core f k h)) (fresh-fit-core f t ok k h);
+  held = record {
+    held = λ k h. absurd (still (fresh-is (sizesOf f) .between k) h);
+    holding = λ k e. absurd (let y : ⊥ = omega arith in y);
+  };
+  shared = length-replicate {A = ℕ} 1024 0;
+}

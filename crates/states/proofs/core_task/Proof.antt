@@ -1,0 +1,83 @@
+-- What loading has found, and the bytes of the two exchanges.
+use mathlib.Core.Path.{_≡_, ap}
+use mathlib.Core.List.{List}
+use Prim.Native.Nat.{ℕ, _+_, _*_, _<_}
+use native.Mathlib.Omega.{arith}
+use Rattle.records.specs.File.{variables, recordPlace}
+use Rattle.taskset.specs.declared.Layout.{Layout}
+use Rattle.taskset.specs.Layout.{layoutOf}
+use Rattle.exchange.specs.Laid.{Laid}
+use Rattle.states.specs.Set.{Set}
+use Rattle.states.proofs.Tasks.{count-at, task-is}
+use borrow.Author.Needs.{needs}
+use Rattle.states.proofs.core_task.Statement.{statement}
+use Rattle.states.proofs.core_task.Tie as tie
+
+-- the variables' records, as the layout has them
+asked : {f t : List ℕ} {l : Layout} {bit : ℕ} → Set f t → l ≡ layoutOf f → bit < 8
+    → Laid f × (l .first ≡ recordPlace f 0) × (l .first + 12 * l .variables ≡ recordPlace f (variables f)) × (bit < 8)
+asked {f} ok e h =
+    let a = ap (λ (m : Layout). m .first) e in
+    let b = ap (λ (m : Layout). m .variables) e in
+    (ok .laid, a, rw (a, b) (omega arith), h)
+
+mul-core : tie.Need-mul-core
+mul-core c = search needs
+
+element-copy-out-core : tie.Need-element-copy-out-core
+element-copy-out-core c = search needs
+
+mul-end : tie.Need-mul-end
+mul-end c = record { fits = omega (arith, ap (λ (l : Layout). l .variables) (c .before .before .before .pre .1), c .before .before .before .pre .0 .laid .few) }
+
+add-end : tie.Need-add-end
+add-end c = record { fits = omega (arith, ap (λ (l : Layout). l .variables) (c .before .before .before .pre .1), ap (λ (l : Layout). l .first) (c .before .before .before .pre .1), c .before .before .before .pre .0 .laid .few, c .before .before .before .pre .0 .few) }
+
+cast-t11 : tie.Need-cast-t11
+cast-t11 c = search needs
+
+add-bytes : tie.Need-add-bytes
+add-bytes c = search needs
+
+bytes-requires : tie.Need-bytes-requires
+bytes-requires c κs = asked (c .before .before .before .before .pre .0) (c .before .before .before .before .pre .1) (omega (arith, c .before .before .before .before .pre .3, c .before .before .before .before .pre .0 .few))
+
+bytes-requires-2 : tie.Need-bytes-requires-2
+bytes-requires-2 c κs = asked (c .before .before .before .before .before .pre .0) (c .before .before .before .before .before .pre .1) (omega (arith, c .before .before .before .before .before .pre .3, c .before .before .before .before .before .pre .0 .few))
+
+mul-t18 : tie.Need-mul-t18
+mul-t18 c = search needs
+
+element-copy-out-t21 : tie.Need-element-copy-out-t21
+element-copy-out-t21 c = search needs
+
+mul-t22 : tie.Need-mul-t22
+mul-t22 c = search needs
+
+element-copy-out-t25 : tie.Need-element-copy-out-t25
+element-copy-out-t25 c = search needs
+
+cast-t26 : tie.Need-cast-t26
+cast-t26 c = record { fits = omega (arith, count-at _ _ (c .before .before .before .before .before .before .before .before .pre .0) _ (c .before .before .before .before .before .before .before .before .pre .3) _ (c .before .before .before .before .before .before .before .before .pre .2), c .before .before .before .before .before .before .before .before .pre .0 .counts (c .before .before .before .before .before .before .before .before .args .k)) }
+
+returns : tie.Need-returns
+returns c = task-is _ _ (c .before .before .before .before .before .before .before .before .pre .0) _ (c .before .before .before .before .before .before .before .before .pre .3) _ _ _ _ (c .before .before .before .before .before .before .before .before .pre .1) (c .before .before .before .before .before .before .before .before .pre .2) (c .before .before .before .bytes .ensures .0) (c .before .before .bytes2 .ensures .0)
+
+pub core-task-spec : {M : Type 1} → statement M
+core-task-spec =
+    tie.close
+    (tie.spec
+    mul-core
+    element-copy-out-core
+    mul-end
+    add-end
+    cast-t11
+    add-bytes
+    bytes-requires
+    bytes-requires-2
+    mul-t18
+    element-copy-out-t21
+    mul-t22
+    element-copy-out-t25
+    cast-t26
+    returns)

@@ -1,0 +1,114 @@
+-- Document 01: "A state is unfit if ..": refusal 23. In order: the test, rule by rule in the document's order; the same as properties of the
+-- state, which every step keeps (`fit-kept`) and which hold exactly where the test does (`fit-exactly`).
+use mathlib.Core.Path.{_≡_}
+use mathlib.Core.Logic.{_≢_}
+use Prim.Native.Nat.{ℕ, _+_, _*_, _≤_, _<_}
+use mathlib.Core.Bool.{Bool, true, false}
+use mathlib.Core.List.{List}
+use lib.ListN.{getD, length}
+use lib.Dec.{ltb, leb, eqb}
+use Rattle.verdict.specs.Verdict.{pick, both, either, within, upto, unless}
+use Rattle.code.specs.Code.{isStart}
+use Rattle.protocol.specs.declared.Registers.{Registers}
+use Rattle.protocol.specs.State.{Core, State as Whole, core, mode}
+use Rattle.protocol.specs.Variables.{readsOf, writesOf}
+use Rattle.protocol.specs.Laws.{Held}
+use Rattle.processor.specs.Placed.{Placed}
+use Rattle.records.specs.File.{cores, dataSize, limit}
+use Rattle.taskset.specs.Judge.{codeOf}
+use Rattle.taskset.specs.Task.{variablesOf}
+use Rattle.taskset.specs.Trace.{recordCount}
+use Rattle.states.specs.declared.State.{State}
+use Rattle.states.specs.Machine.{none}
+
+-- two tests agree
+abbrev pub agree : Bool → Bool → Bool
+agree true b = b
+agree false true = false
+agree false false = true
+
+-- entry i of core k's call stack, among the return places or the offsets of all
+abbrev pub entry : List ℕ → ℕ → ℕ → ℕ
+entry l k i = getD l (16 * k + i) 0
+
+-- program counter and return places start instructions
+unfoldable pub placesFit : List ℕ → Registers → (ℕ → ℕ) → Bool
+placesFit c r place = both (isStart c (r .counter)) (upto (λ i. isStart c (place i)) 16)
+
+-- no offset reaches the data size
+unfoldable pub offsetsFit : ℕ → Registers → (ℕ → ℕ) → Bool
+offsetsFit size r offset = both (ltb (r .offset) size) (upto (λ i. ltb (offset i) size) 16)
+
+-- the depth is at most 16, and 0 outside modes 2 and 5
+unfoldable pub depthFit : Registers → Bool
+depthFit r = pick (either (eqb (r .mode) 2) (eqb (r .mode) 5)) (leb (r .depth) 16) (eqb (r .depth) 0)
+
+-- the exchange number doesn't pass its exchange's bytes, and is 0 outside modes 1 and 4
+unfoldable pub exchangeFit : ℕ → ℕ → Registers → Bool
+exchangeFit reads writes r =
+    pick (eqb (r .mode) 1) (leb (r .exchange) reads) (pick (eqb (r .mode) 4) (leb (r .exchange) writes) (eqb (r .exchange) 0))
+
+-- cycles don't exceed the trace's count, nor equal it in modes 1 to 4
+unfoldable pub cyclesFit : ℕ → Registers → Bool
+cyclesFit count r = pick (within 1 4 (r .mode)) (ltb (r .cycles) count) (leb (r .cycles) count)
+
+-- a core is in mode 1 or 4 exactly if it is the semaphore's holder: so no two cores are, and the semaphore is free exactly if none is
+unfoldable pub holderFit : ℕ → ℕ → Registers → Bool
+holderFit holder k r = agree (either (eqb (r .mode) 1) (eqb (r .mode) 4)) (eqb holder (k + 1))
+
+-- a stack entry above the depth is 0
+abbrev pub freedAt : ℕ → ℕ → ℕ → ℕ → Bool
+freedAt depth i place offset = either (ltb i depth) (both (eqb place 0) (eqb offset 0))
+
+unfoldable pub freedFit : Registers → (ℕ → ℕ) → (ℕ → ℕ) → Bool
+freedFit r place offset = upto (λ i. freedAt (r .depth) i (place i) (offset i)) 16
+
+-- the rules of execution: mode, places, offsets, depth, count
+unfoldable pub executionFit : List ℕ → ℕ → ℕ → Registers → (ℕ → ℕ) → (ℕ → ℕ) → Bool
+executionFit c size most r place offset =
+    both (leb (r .mode) 5) (both (placesFit c r place) (both (offsetsFit size r offset) (both (depthFit r) (leb (r .count) most))))
+
+-- the rules of exchanges: exchange number, cycles, semaphore
+unfoldable pub exchangesFit : ℕ → ℕ → ℕ → ℕ → ℕ → Registers → Bool
+exchangesFit reads writes count holder k r = both (exchangeFit reads writes r) (both (cyclesFit count r) (holderFit holder k r))
+
+-- all rules; flag bits 6, 7 are not set
+unfoldable pub coreFit : List ℕ → List ℕ → ℕ → ℕ → Registers → (ℕ → ℕ) → (ℕ → ℕ) → Bool
+coreFit f t holder k r place offset =
+    both (executionFit (codeOf f k) (dataSize f k) (limit f k) r place offset)
+    (both (exchangesFit (length (readsOf (variablesOf f) k)) (length (writesOf (variablesOf f) k)) (recordCount f t k) holder k r)
+    (both (freedFit r place offset) (ltb (r .flags) 64)))
+
+-- core k of a state
+unfoldable pub fitAt : List ℕ → List ℕ → State → ℕ → Bool
+fitAt f t s k = coreFit f t (s .holder) k (getD (s .cores) k none) (entry (s .places) k) (entry (s .offsets) k)
+
+-- the table has n records, the semaphore names one of them or is free, and each core is fit
+unfoldable pub stateFit : List ℕ → List ℕ → State → Bool
+stateFit f t s = both (eqb (s .count) (cores f)) (both (leb (s .holder) (cores f)) (upto (fitAt f t s) (cores f)))
+
+unfoldable pub stateRefusal : List ℕ → List ℕ → State → ℕ
+stateRefusal f t s = unless (stateFit f t s) 23
+
+-- ---- the same as properties
+
+-- Core k of the file f on the trace t
+pub record FitCore (f t : List ℕ) (k : ℕ) (c : Core) : Type 0 where
+  pub modes : mode c ≤ 5
+  pub placed : Placed (codeOf f k) (dataSize f k) (c .registers) (c .stack)
+  pub shallow : mode c ≢ 2 → mode c ≢ 5 → c .registers .depth ≡ 0
+  pub counts : c .registers .count ≤ limit f k
+  pub reading : mode c ≡ 1 → c .registers .exchange ≤ length (readsOf (variablesOf f) k)
+  pub writing : mode c ≡ 4 → c .registers .exchange ≤ length (writesOf (variablesOf f) k)
+  pub outside : mode c ≢ 1 → mode c ≢ 4 → c .registers .exchange ≡ 0
+  pub cycles : c .registers .cycles ≤ recordCount f t k
+  pub under-way : 1 ≤ mode c → mode c ≤ 4 → c .registers .cycles < recordCount f t k
+  pub flags : c .registers .flags < 64
+  pub size : length (c .memory) ≡ dataSize f k
+
+-- The state: its n cores, the semaphore, and lent memory of the right size
+pub record Fit (f t : List ℕ) (s : Whole) : Type 0 where
+  pub table : length (s .plant .cores) ≡ cores f
+  pub each : (k : ℕ) → k < cores f → FitCore f t k (core (s .plant) k)
+  pub held : Held s
+  pub shared : length (s .plant .shared) ≡ 1024

@@ -1,0 +1,5 @@
+pub mod Task
+pub mod Machine
+pub mod Tasks
+pub mod Set
+pub mod Fit

@@ -1,0 +1,339 @@
+// The state that a caller holds and lends; what a step needs of each core's task; which states are unfit (refusal 23).
+ghost use mathlib.Core.Path.{_≡_};
+ghost use mathlib.Core.Bool.{true};
+ghost use Prim.Native.Nat.{_<_};
+ghost use lib.Dec.{ltb};
+ghost use Rattle.code.specs.Code.{isStart};
+ghost use Rattle.records.specs.File.{cores};
+ghost use Rattle.taskset.specs.Layout.{layoutOf};
+ghost use Rattle.taskset.specs.Trace.{traceLayout};
+ghost use Rattle.states.specs.Set.{Set};
+ghost use Rattle.states.specs.Tasks.{noTask, coreTask, taskAt, tasksOf};
+ghost use Rattle.states.specs.Fit.{entry, placesFit, offsetsFit, depthFit, exchangeFit, cyclesFit, holderFit, freedAt, freedFit, executionFit, exchangesFit, fitAt, stateRefusal};
+use protocol::Registers;
+use taskset::Layout;
+use taskset::TraceLayout;
+
+// The state of up to four cores. The call stack of core k is entries 16k to 16k + 15 of `places` and `offsets`.
+pub struct State {
+    pub count: u8, // records of the core table
+    pub holder: u8, // of the semaphore: 0 where it is free, k + 1 where core k holds it
+    pub cores: [Registers; 4],
+    pub places: [u16; 64],
+    pub offsets: [u16; 64],
+}
+
+// ---- the cores' tasks
+
+// What a step needs of a core's task, read from file and trace once a run.
+pub struct CoreTask {
+    pub base: usize, // of its data in the data buffer
+    pub size: usize, // of its data
+    pub inputs: usize, // input bytes
+    pub limit: usize, // instructions of a cycle
+    pub code: usize, // place of its code in the file
+    pub length: usize, // of its code
+    pub reads: usize, // bytes of its reading exchange
+    pub writes: usize, // bytes of its writing exchange
+    pub records: usize, // place of its first input record in the trace
+    pub count: usize, // of its input records
+}
+
+const RECORD: usize = 12; // bytes of a variable's record
+
+fn no_task() -> CoreTask
+    ensures { λ r. ⌜ r ≡ noTask ⌝ }
+{
+    CoreTask {
+        base: 0,
+        size: 0,
+        inputs: 0,
+        limit: 0,
+        code: 0,
+        length: 0,
+        reads: 0,
+        writes: 0,
+        records: 0,
+        count: 0,
+    }
+}
+
+// The task of core k, from what loading file and trace has found.
+pub fn core_task(
+    file: &[u8],
+    trace: &[u8],
+    layout: Layout,
+    traces: TraceLayout,
+    k: usize,
+) -> CoreTask
+    requires { ⌜ Set (now file) (now trace) × (layout ≡ layoutOf (now file)) × (traces ≡ traceLayout (now file) (now trace)) × (k < cores (now file)) ⌝ }
+    ensures { λ r. ⌜ r ≡ coreTask (now (file .entry)) (now (trace .entry)) k ⌝ }
+{
+    let core = layout.core[k];
+    let first = layout.first;
+    let end = first + RECORD * layout.variables;
+    CoreTask {
+        base: core.base,
+        size: core.size,
+        inputs: core.inputs,
+        limit: core.limit as usize,
+        code: core.code,
+        length: core.length,
+        reads: exchange::bytes(file, first, end, 4 + k),
+        writes: exchange::bytes(file, first, end, k),
+        records: traces.first[k],
+        count: traces.count[k] as usize,
+    }
+}
+
+fn task_at(file: &[u8], trace: &[u8], layout: Layout, traces: TraceLayout, k: usize) -> CoreTask
+    requires { ⌜ Set (now file) (now trace) × (layout ≡ layoutOf (now file)) × (traces ≡ traceLayout (now file) (now trace)) ⌝ }
+    ensures { λ r. ⌜ r ≡ taskAt (now (file .entry)) (now (trace .entry)) k ⌝ }
+{
+    if layout.cores <= k {
+        return no_task();
+    }
+    core_task(file, trace, layout, traces, k)
+}
+
+// The tasks of all cores; zeros for a core number from n on.
+pub fn core_tasks(file: &[u8], trace: &[u8], layout: Layout, traces: TraceLayout) -> [CoreTask; 4]
+    requires { ⌜ Set (now file) (now trace) × (layout ≡ layoutOf (now file)) × (traces ≡ traceLayout (now file) (now trace)) ⌝ }
+    ensures { λ r. ⌜ r ≡ tasksOf (now (file .entry)) (now (trace .entry)) ⌝ }
+{
+    let t0 = task_at(file, trace, layout, traces, 0);
+    let t1 = task_at(file, trace, layout, traces, 1);
+    let t2 = task_at(file, trace, layout, traces, 2);
+    let t3 = task_at(file, trace, layout, traces, 3);
+    [t0, t1, t2, t3]
+}
+
+// ---- fitness: document 01, "A state is unfit if ..", one function a rule
+
+const UNFIT: u8 = 23;
+
+const ENTRIES: usize = 16; // of a call stack
+
+const CALLS: u8 = 16; // that may be open
+
+const FLAGS: u8 = 64; // above the six flag bits
+
+// An instruction starts at a place of accepted code; place 0 is the start of the first.
+fn starts(code: &[u8], place: u16) -> bool
+    requires { ⌜ isStart (now code) 0 ≡ true ⌝ }
+    ensures { λ r. ⌜ r ≡ isStart (now (code .entry)) place ⌝ }
+{
+    if place == 0 {
+        return true;
+    }
+    code::is_start(code, place as usize)
+}
+
+// Program counter and return places start instructions.
+fn places_fit(code: &[u8], r: Registers, places: &[u16; 64], k: usize) -> bool
+    requires { ⌜ (isStart (now code) 0 ≡ true) × (k < 4) ⌝ }
+    ensures { λ ok. ⌜ ok ≡ placesFit (now (code .entry)) r (entry (now (places .entry)) k) ⌝ }
+{
+    if !starts(code, r.counter) {
+        return false;
+    }
+    let mut i: usize = 0;
+    while i < ENTRIES {
+        if !starts(code, places[ENTRIES * k + i]) {
+            return false;
+        }
+        i += 1;
+    }
+    true
+}
+
+// An offset doesn't reach the data size.
+fn below(offset: u16, size: usize) -> bool
+    ensures { λ r. ⌜ r ≡ ltb offset size ⌝ }
+{
+    (offset as usize) < size
+}
+
+// No offset does.
+fn offsets_fit(size: usize, r: Registers, offsets: &[u16; 64], k: usize) -> bool
+    requires { ⌜ k < 4 ⌝ }
+    ensures { λ ok. ⌜ ok ≡ offsetsFit size r (entry (now (offsets .entry)) k) ⌝ }
+{
+    if !below(r.offset, size) {
+        return false;
+    }
+    let mut i: usize = 0;
+    while i < ENTRIES {
+        if !below(offsets[ENTRIES * k + i], size) {
+            return false;
+        }
+        i += 1;
+    }
+    true
+}
+
+// The depth is at most 16, and 0 outside modes 2 and 5.
+fn depth_fit(r: Registers) -> bool
+    ensures { λ ok. ⌜ ok ≡ depthFit r ⌝ }
+{
+    if r.mode == protocol::EXECUTING {
+        return r.depth <= CALLS;
+    }
+    if r.mode == protocol::STOPPED {
+        return r.depth <= CALLS;
+    }
+    r.depth == 0
+}
+
+// The exchange number doesn't pass its exchange's bytes, and is 0 outside modes 1 and 4.
+fn exchange_fit(reads: usize, writes: usize, r: Registers) -> bool
+    ensures { λ ok. ⌜ ok ≡ exchangeFit reads writes r ⌝ }
+{
+    if r.mode == protocol::READING {
+        return r.exchange as usize <= reads;
+    }
+    if r.mode == protocol::WRITING {
+        return r.exchange as usize <= writes;
+    }
+    r.exchange == 0
+}
+
+// Cycles don't exceed the trace's count, nor equal it in modes 1 to 4.
+fn cycles_fit(count: usize, r: Registers) -> bool
+    ensures { λ ok. ⌜ ok ≡ cyclesFit count r ⌝ }
+{
+    if r.mode < protocol::READING {
+        return r.cycles as usize <= count;
+    }
+    if protocol::WRITING < r.mode {
+        return r.cycles as usize <= count;
+    }
+    (r.cycles as usize) < count
+}
+
+// A core is in mode 1 or 4 exactly if it holds the semaphore.
+fn holder_fit(holder: u8, k: usize, r: Registers) -> bool
+    requires { ⌜ k < 4 ⌝ }
+    ensures { λ ok. ⌜ ok ≡ holderFit holder k r ⌝ }
+{
+    let holds = holder as usize == k + 1;
+    if r.mode == protocol::READING {
+        return holds;
+    }
+    if r.mode == protocol::WRITING {
+        return holds;
+    }
+    !holds
+}
+
+// A stack entry from the depth on is 0.
+fn entry_freed(depth: u8, i: usize, place: u16, offset: u16) -> bool
+    ensures { λ ok. ⌜ ok ≡ freedAt depth i place offset ⌝ }
+{
+    if i < depth as usize {
+        return true;
+    }
+    if place != 0 {
+        return false;
+    }
+    offset == 0
+}
+
+fn freed_fit(r: Registers, places: &[u16; 64], offsets: &[u16; 64], k: usize) -> bool
+    requires { ⌜ k < 4 ⌝ }
+    ensures { λ ok. ⌜ ok ≡ freedFit r (entry (now (places .entry)) k) (entry (now (offsets .entry)) k) ⌝ }
+{
+    let mut i: usize = 0;
+    while i < ENTRIES {
+        let at = ENTRIES * k + i;
+        if !entry_freed(r.depth, i, places[at], offsets[at]) {
+            return false;
+        }
+        i += 1;
+    }
+    true
+}
+
+// The rules of execution.
+fn execution_fit(
+    code: &[u8],
+    task: CoreTask,
+    r: Registers,
+    places: &[u16; 64],
+    offsets: &[u16; 64],
+    k: usize,
+) -> bool
+    requires { ⌜ (isStart (now code) 0 ≡ true) × (k < 4) ⌝ }
+    ensures { λ ok. ⌜ ok ≡ executionFit (now (code .entry)) (task .size) (task .limit) r (entry (now (places .entry)) k) (entry (now (offsets .entry)) k) ⌝ }
+{
+    if protocol::STOPPED < r.mode {
+        return false;
+    }
+    if !places_fit(code, r, places, k) {
+        return false;
+    }
+    if !offsets_fit(task.size, r, offsets, k) {
+        return false;
+    }
+    if !depth_fit(r) {
+        return false;
+    }
+    r.count as usize <= task.limit
+}
+
+// The rules of exchanges.
+fn exchanges_fit(task: CoreTask, holder: u8, k: usize, r: Registers) -> bool
+    requires { ⌜ k < 4 ⌝ }
+    ensures { λ ok. ⌜ ok ≡ exchangesFit (task .reads) (task .writes) (task .count) holder k r ⌝ }
+{
+    if !exchange_fit(task.reads, task.writes, r) {
+        return false;
+    }
+    if !cycles_fit(task.count, r) {
+        return false;
+    }
+    holder_fit(holder, k, r)
+}
+
+// Core k of a state.
+fn core_fit(file: &[u8], trace: &[u8], task: CoreTask, s: State, k: usize) -> bool
+    requires { ⌜ Set (now file) (now trace) × (k < cores (now file)) × (task ≡ coreTask (now file) (now trace) k) ⌝ }
+    ensures { λ ok. ⌜ ok ≡ fitAt (now (file .entry)) (now (trace .entry)) s k ⌝ }
+{
+    let r = s.cores[k];
+    let places = s.places;
+    let offsets = s.offsets;
+    let from = task.code;
+    let to = from + task.length;
+    if !execution_fit(&file[from..to], task, r, &places, &offsets, k) {
+        return false;
+    }
+    if !exchanges_fit(task, s.holder, k, r) {
+        return false;
+    }
+    if !freed_fit(r, &places, &offsets, k) {
+        return false;
+    }
+    r.flags < FLAGS
+}
+
+// The refusal of a state of an accepted file with n cores, whose tasks on a sound trace are given; 0 where it is fit.
+pub fn state_refusal(file: &[u8], trace: &[u8], tasks: [CoreTask; 4], n: usize, s: State) -> u8
+    requires { ⌜ Set (now file) (now trace) × (tasks ≡ tasksOf (now file) (now trace)) × (n ≡ cores (now file)) ⌝ }
+    ensures { λ r. ⌜ r ≡ stateRefusal (now (file .entry)) (now (trace .entry)) s ⌝ }
+{
+    if s.count as usize != n {
+        return UNFIT;
+    }
+    if n < s.holder as usize {
+        return UNFIT;
+    }
+    let mut k: usize = 0;
+    while k < n {
+        if !core_fit(file, trace, tasks[k], s, k) {
+            return UNFIT;
+        }
+        k += 1;
+    }
+    0
+}

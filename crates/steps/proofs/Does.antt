@@ -1,0 +1,269 @@
+-- Each case of a step as an effect: what the functions of a step cite. In order: idle steps; readings; instructions; writings.
+-- Assumes nothing.
+use mathlib.Core.Path.{_≡_, refl, sym, ap, ap₂, _∙_, subst}
+use mathlib.Core.List.{List, [], _∷_}
+use Prim.Native.Nat.{ℕ, zero, suc, _+_, _-_, _≤_, _<_}
+use native.Mathlib.Omega.{arith}
+use lib.ListN.{length, take, drop}
+use lib.Seq.{getD-set-same, set-getD}
+use Rattle.verdict.specs.Verdict.{pick}
+use Rattle.memory.specs.Memory.{splice}
+use Rattle.protocol.specs.declared.Registers.{Registers}
+use Rattle.protocol.specs.Registers.{readAcquired, byteCopied, readReleased, writeAcquired, writeReleased, faulted}
+use Rattle.protocol.specs.State.{Core, State, Task, Move, Sample, absent, core, mode, put}
+use Rattle.protocol.specs.Step.{copy, left, readTaken, readNext, readDone, writeTaken, writeNext, writeDone, takeRead, readOn, takeWrite, writeOn, stepIn, step, reading, writing, taken, takingOf}
+use borrow.Author.Tests.{ne-eqb}
+use Rattle.steps.specs.declared.Effect.{Effect}
+use Rattle.steps.specs.declared.Effect.the-variants.{Idle, ReadAcquired, ByteRead, ReadReleased, WriteAcquired, ByteWritten, WriteReleased, Fault, Next, Call, Return, CycleEnded}
+use Rattle.protocol.specs.declared.Outcome.{Outcome}
+use Rattle.protocol.specs.declared.Outcome.the-variants.{Fault as Failed, Next as Onward, Call as Calls, Return as Returns}
+use Rattle.protocol.specs.Instruction.{Executed, backFrom, appliedBy, applied}
+use Rattle.steps.specs.Effects.{registersBy, stackBy, holderBy, takenBy, effected, Takes, Does}
+
+-- the hypotheses of `Does`: core k of the state
+record Here (k : ℕ) (r : Registers) (d sh : List ℕ) (h : ℕ) (s : State) : Type 0 where
+  inside : k < length (s .plant .cores)
+  registers : core (s .plant) k .registers ≡ r
+  memory : core (s .plant) k .memory ≡ d
+  shared : s .plant .shared ≡ sh
+  holder : s .holder ≡ h
+
+-- ---- a step by its mode
+
+step-in : (t : Task) (k : ℕ) (s : State) (m : ℕ) → mode (core (s .plant) k) ≡ m → step t k s ≡ stepIn m t k (core (s .plant) k) s
+unfolding step
+step-in t k s m e = ap (λ (n : ℕ). stepIn n t k (core (s .plant) k) s) e
+
+module _ (t : Task) (k : ℕ) (r : Registers) (d sh : List ℕ) (h : ℕ) (s : State) (x : Here k r d sh h s) where
+  mode-is : (m : ℕ) → r .mode ≡ m → mode (core (s .plant) k) ≡ m
+  mode-is m e = ap (λ (q : Registers). q .mode) (x .registers) ∙ e
+
+  -- mode 0, with the records that are left and the holder
+  step-0 : r .mode ≡ 0 → (l : List Sample) → drop (r .cycles) (t .samples k) ≡ l → step t k s ≡ takeRead l h k (core (s .plant) k) s
+  step-0 m l e =
+      step-in t k s 0 (mode-is 0 m)
+      ∙ ap (λ (u : List Sample). takeRead u (s .holder) k (core (s .plant) k) s) (ap (λ (q : Registers). drop (q .cycles) (t .samples k)) (x .registers) ∙ e)
+      ∙ ap (λ (u : ℕ). takeRead l u k (core (s .plant) k) s) (x .holder)
+
+  -- mode 1, with the bytes that are left
+  step-1 : r .mode ≡ 1 → (l : List Move) → drop (r .exchange) (t .reads k) ≡ l → step t k s ≡ readOn (drop 1 l) (copy (take 1 l) sh d) k (core (s .plant) k) s
+  step-1 m l e =
+      step-in t k s 1 (mode-is 1 m)
+      ∙ ap (λ (u : List Move). readOn (drop 1 u) (copy (take 1 u) (s .plant .shared) (core (s .plant) k .memory)) k (core (s .plant) k) s)
+      (ap (λ (q : Registers). drop (q .exchange) (t .reads k)) (x .registers) ∙ e)
+      ∙ ap₂ (λ (u v : List ℕ). readOn (drop 1 l) (copy (take 1 l) u v) k (core (s .plant) k) s) (x .shared) (x .memory)
+
+  step-2 : r .mode ≡ 2 → step t k s ≡ record { plant = put (s .plant) k (t .instruction k (core (s .plant) k)); holder = s .holder }
+  step-2 m = step-in t k s 2 (mode-is 2 m)
+
+  step-3 : r .mode ≡ 3 → step t k s ≡ takeWrite h k (core (s .plant) k) s
+  step-3 m = step-in t k s 3 (mode-is 3 m) ∙ ap (λ (u : ℕ). takeWrite u k (core (s .plant) k) s) (x .holder)
+
+  -- mode 4, with the bytes that are left
+  step-4 : r .mode ≡ 4 → (l : List Move) → drop (r .exchange) (t .writes k) ≡ l → step t k s ≡ writeOn (drop 1 l) (copy (take 1 l) d sh) k (core (s .plant) k) s
+  step-4 m l e =
+      step-in t k s 4 (mode-is 4 m)
+      ∙ ap (λ (u : List Move). writeOn (drop 1 u) (copy (take 1 u) (core (s .plant) k .memory) (s .plant .shared)) k (core (s .plant) k) s)
+      (ap (λ (q : Registers). drop (q .exchange) (t .writes k)) (x .registers) ∙ e)
+      ∙ ap₂ (λ (u v : List ℕ). writeOn (drop 1 l) (copy (take 1 l) u v) k (core (s .plant) k) s) (x .memory) (x .shared)
+
+  step-5 : (m : ℕ) → r .mode ≡ 5 + m → step t k s ≡ s
+  step-5 m e = step-in t k s (suc (suc (suc (suc (suc m))))) (mode-is (suc (suc (suc (suc (suc m))))) (e ∙ omega arith))
+
+-- core k after an effect
+by-effected : (k : ℕ) (z : Effect) (d′ sh′ : List ℕ) (s : State) → k < length (s .plant .cores) → mode (core (effected z k d′ sh′ s .plant) k) ≡ registersBy z (core (s .plant) k) .mode
+unfolding effected
+by-effected k z d′ sh′ s i = rw (getD-set-same (s .plant .cores) k record { registers = registersBy z (core (s .plant) k); stack = stackBy z (core (s .plant) k); memory = d′ } absent i)
+
+taking-is : (t : Task) (k : ℕ) (s : State) → takingOf t k s ≡ taken (mode (core (s .plant) k)) (mode (core (step t k s .plant) k)) k
+unfolding takingOf
+taking-is t k s = refl
+
+-- a step's taking follows from the modes before and after
+does : (t : Task) (k : ℕ) (r : Registers) (d sh : List ℕ) (h : ℕ) (z : Effect) (d′ sh′ : List ℕ)
+    → ((s : State) → Here k r d sh h s → effected z k d′ sh′ s ≡ step t k s)
+    → ((c : Core) → c .registers ≡ r → taken (r .mode) (registersBy z c .mode) k ≡ takenBy z k)
+    → Takes r z → Does t k r d sh h z d′ sh′
+does t k r d sh h z d′ sh′ f e y = record {
+  moves = λ s i a b g u. f s record { inside = i; registers = a; memory = b; shared = g; holder = u };
+  takes = λ s i a b g u. go s record { inside = i; registers = a; memory = b; shared = g; holder = u };
+  ready = y;
+}
+  where
+    mode-after : (s : State) → Here k r d sh h s → mode (core (step t k s .plant) k) ≡ registersBy z (core (s .plant) k) .mode
+    mode-after s x = sym (ap (λ (u : State). mode (core (u .plant) k)) (f s x)) ∙ by-effected k z d′ sh′ s (x .inside)
+
+    go : (s : State) → Here k r d sh h s → takingOf t k s ≡ takenBy z k
+    go s x =
+        taking-is t k s
+        ∙ ap (λ (m : ℕ). taken (mode (core (s .plant) k)) m k) (mode-after s x)
+        ∙ ap (λ (q : Registers). taken (q .mode) (registersBy z (core (s .plant) k) .mode) k) (x .registers)
+        ∙ e (core (s .plant) k) (x .registers)
+
+-- ---- idle steps
+
+idle : (t : Task) (k : ℕ) (r : Registers) (d sh : List ℕ) (h : ℕ) → ((s : State) → Here k r d sh h s → step t k s ≡ s) → taken (r .mode) (r .mode) k ≡ [] → Does t k r d sh h Idle d sh
+unfolding effected
+idle t k r d sh h f e = does t k r d sh h Idle d sh (λ s x. same s x ∙ sym (f s x)) (λ c q. ap (λ (u : Registers). taken (r .mode) (u .mode) k) q ∙ e) tt
+  where
+    same : (s : State) → Here k r d sh h s → effected Idle k d sh s ≡ s
+    same s x = rw (← x .memory, ← x .shared) (ap (λ (l : List Core). record { plant = record { cores = l; shared = s .plant .shared }; holder = s .holder }) (set-getD (s .plant .cores) k absent))
+
+-- mode 0, records spent
+pub does-spent : (t : Task) (k : ℕ) (r : Registers) (d sh : List ℕ) (h : ℕ) → r .mode ≡ 0 → drop (r .cycles) (t .samples k) ≡ [] → Does t k r d sh h Idle d sh
+unfolding pick
+does-spent t k r d sh h m e = idle t k r d sh h (λ s x. step-0 t k r d sh h s x m [] e) (rw m)
+
+-- mode 0, the semaphore held
+pub does-held : (t : Task) (k : ℕ) (r : Registers) (d sh : List ℕ) (h : ℕ) → r .mode ≡ 0 → 0 < h → Does t k r d sh h Idle d sh
+unfolding pick
+does-held t k r d sh h m e = idle t k r d sh h (λ s x. step-0 t k r d sh h s x m (drop (r .cycles) (t .samples k)) refl ∙ go (drop (r .cycles) (t .samples k)) h e s) (rw m)
+  where
+    go : (l : List Sample) (j : ℕ) → 0 < j → (s : State) → takeRead l j k (core (s .plant) k) s ≡ s
+    go [] j w s = refl
+    go (y ∷ ys) zero w s = absurd (omega arith)
+    go (y ∷ ys) (suc j) w s = refl
+
+-- mode 3, the semaphore held
+pub does-waits : (t : Task) (k : ℕ) (r : Registers) (d sh : List ℕ) (h : ℕ) → r .mode ≡ 3 → 0 < h → Does t k r d sh h Idle d sh
+unfolding pick
+does-waits t k r d sh h m e = idle t k r d sh h (λ s x. step-3 t k r d sh h s x m ∙ go h e s) (rw m)
+  where
+    go : (j : ℕ) → 0 < j → (s : State) → takeWrite j k (core (s .plant) k) s ≡ s
+    go zero w s = absurd (omega arith)
+    go (suc j) w s = refl
+
+-- mode 5, stopped
+pub does-stopped : (t : Task) (k : ℕ) (r : Registers) (d sh : List ℕ) (h : ℕ) → 5 ≤ r .mode → Does t k r d sh h Idle d sh
+unfolding pick
+does-stopped t k r d sh h m =
+    let e : r .mode ≡ 5 + (r .mode - 5) = omega arith in
+    idle t k r d sh h (λ s x. step-5 t k r d sh h s x (r .mode - 5) e) (rw (ne-eqb (r .mode) 0 (λ z. omega arith), ne-eqb (r .mode) 3 (λ z. omega arith)))
+
+-- ---- readings and writings
+
+-- the effect with other lists for the data and the shared memory afterwards
+with-lists : (z : Effect) (k : ℕ) (s : State) (a b a′ b′ : List ℕ) → a ≡ a′ → b ≡ b′ → effected z k a b s ≡ effected z k a′ b′ s
+with-lists z k s a b a′ b′ e f = ap₂ (λ (u v : List ℕ). effected z k u v s) e f
+
+-- mode 0 to 1
+pub does-read-acquired : (t : Task) (k : ℕ) (r : Registers) (d sh : List ℕ) (y : Sample) (ys : List Sample) (time : ℕ) (d′ : List ℕ)
+    → r .mode ≡ 0 → drop (r .cycles) (t .samples k) ≡ y ∷ ys → time ≡ y .time → d′ ≡ splice d 0 (y .input) → Does t k r d sh 0 (ReadAcquired time) d′ sh
+unfolding pick effected readTaken readAcquired
+does-read-acquired t k r d sh y ys time d′ m e p q =
+    does t k r d sh 0 (ReadAcquired time) d′ sh
+    (λ s x. rw (p, q, ← x .memory, ← x .shared) (sym (step-0 t k r d sh 0 s x m (y ∷ ys) e))) (λ c u. rw m) tt
+
+module _ (t : Task) (k : ℕ) (r : Registers) (d sh : List ℕ) (h : ℕ) (l : List Move) where
+  -- one byte of a reading, and others are left
+  pub does-byte-read : (n : Move) (ns : List Move) (d′ : List ℕ) → r .mode ≡ 1 → drop (r .exchange) (t .reads k) ≡ l → drop 1 l ≡ n ∷ ns → d′ ≡ copy (take 1 l) sh d → r .exchange < 65535
+      → Does t k r d sh h ByteRead d′ sh
+  unfolding pick effected readNext byteCopied
+  does-byte-read n ns d′ m e g q b =
+      does t k r d sh h ByteRead d′ sh
+      (λ s x. with-lists ByteRead k s d′ sh (copy (take 1 l) sh d) (s .plant .shared) q (sym (x .shared))
+      ∙ sym (step-1 t k r d sh h s x m l e ∙ ap (λ (u : List Move). readOn u (copy (take 1 l) sh d) k (core (s .plant) k) s) g))
+      (λ c u. rw m) b
+
+  -- the last byte, or none at all: mode 1 to 2
+  pub does-read-released : (d′ : List ℕ) → r .mode ≡ 1 → drop (r .exchange) (t .reads k) ≡ l → drop 1 l ≡ [] → d′ ≡ copy (take 1 l) sh d → Does t k r d sh h ReadReleased d′ sh
+  unfolding pick effected readDone readReleased
+  does-read-released d′ m e g q =
+      does t k r d sh h ReadReleased d′ sh
+      (λ s x. with-lists ReadReleased k s d′ sh (copy (take 1 l) sh d) (s .plant .shared) q (sym (x .shared))
+      ∙ sym (step-1 t k r d sh h s x m l e ∙ ap (λ (u : List Move). readOn u (copy (take 1 l) sh d) k (core (s .plant) k) s) g))
+      (λ c u. rw m) tt
+
+  -- one byte of a writing, and others are left
+  pub does-byte-written : (n : Move) (ns : List Move) (sh′ : List ℕ) → r .mode ≡ 4 → drop (r .exchange) (t .writes k) ≡ l → drop 1 l ≡ n ∷ ns → sh′ ≡ copy (take 1 l) d sh → r .exchange < 65535
+      → Does t k r d sh h ByteWritten d sh′
+  unfolding pick effected writeNext byteCopied
+  does-byte-written n ns sh′ m e g q b =
+      does t k r d sh h ByteWritten d sh′
+      (λ s x. with-lists ByteWritten k s d sh′ (core (s .plant) k .memory) (copy (take 1 l) d sh) (sym (x .memory)) q
+      ∙ sym (step-4 t k r d sh h s x m l e ∙ ap (λ (u : List Move). writeOn u (copy (take 1 l) d sh) k (core (s .plant) k) s) g))
+      (λ c u. rw m) b
+
+  -- the last byte, or none at all: mode 4 to 0
+  pub does-write-released : (sh′ : List ℕ) → r .mode ≡ 4 → drop (r .exchange) (t .writes k) ≡ l → drop 1 l ≡ [] → sh′ ≡ copy (take 1 l) d sh → r .cycles < 65535
+      → Does t k r d sh h WriteReleased d sh′
+  unfolding pick effected writeDone writeReleased
+  does-write-released sh′ m e g q b =
+      does t k r d sh h WriteReleased d sh′
+      (λ s x. with-lists WriteReleased k s d sh′ (core (s .plant) k .memory) (copy (take 1 l) d sh) (sym (x .memory)) q
+      ∙ sym (step-4 t k r d sh h s x m l e ∙ ap (λ (u : List Move). writeOn u (copy (take 1 l) d sh) k (core (s .plant) k) s) g))
+      (λ c u. rw m) b
+
+-- mode 3 to 4
+pub does-write-acquired : (t : Task) (k : ℕ) (r : Registers) (d sh : List ℕ) → r .mode ≡ 3 → Does t k r d sh 0 WriteAcquired d sh
+unfolding pick effected writeTaken writeAcquired
+does-write-acquired t k r d sh m =
+    does t k r d sh 0 WriteAcquired d sh
+    (λ s x. with-lists WriteAcquired k s d sh (core (s .plant) k .memory) (s .plant .shared) (sym (x .memory)) (sym (x .shared)) ∙ sym (step-3 t k r d sh 0 s x m))
+    (λ c u. rw m) tt
+
+-- ---- instructions
+
+-- an outcome at a depth as an effect
+abbrev pub backAt : ℕ → Effect
+backAt zero = CycleEnded
+backAt (suc d) = Return d
+
+abbrev pub effectOf : ℕ → Outcome → Effect
+effectOf depth (Failed b) = Fault b
+effectOf depth (Onward p) = Next p
+effectOf depth (Calls next target offset) = Call next target offset
+effectOf depth Returns = backAt depth
+
+-- what an outcome does to a core is what its effect does; a fault leaves the data
+abbrev pub Leaves : Outcome → List ℕ → List ℕ → Type 0
+Leaves (Failed b) m d = m ≡ d
+Leaves (Onward p) m d = Unit {0}
+Leaves (Calls next target offset) m d = Unit {0}
+Leaves Returns m d = Unit {0}
+
+back : (n : ℕ) (m : List ℕ) (c : Core) → record { registers = registersBy (backAt n) c; stack = stackBy (backAt n) c; memory = m } ≡ backFrom n m c
+back zero m c = refl
+back (suc n) m c = refl
+
+outcome-effect : (o : Outcome) (m : List ℕ) (c : Core) → Leaves o m (c .memory)
+    → record { registers = registersBy (effectOf (c .registers .depth) o) c; stack = stackBy (effectOf (c .registers .depth) o) c; memory = m } ≡ appliedBy o m c
+outcome-effect (Failed b) m c e = ap (λ (u : List ℕ). record { registers = faulted b (c .registers); stack = c .stack; memory = u }) e
+outcome-effect (Onward p) m c e = refl
+outcome-effect (Calls next target offset) m c e = refl
+outcome-effect Returns m c e = back (c .registers .depth) m c
+
+back-holder : (n k h : ℕ) → holderBy (backAt n) k h ≡ h
+back-holder zero k h = refl
+back-holder (suc n) k h = refl
+
+same-holder : (n : ℕ) (o : Outcome) (k h : ℕ) → holderBy (effectOf n o) k h ≡ h
+same-holder n (Failed b) k h = refl
+same-holder n (Onward p) k h = refl
+same-holder n (Calls next target offset) k h = refl
+same-holder n Returns k h = back-holder n k h
+
+back-taking : (n k : ℕ) → takenBy (backAt n) k ≡ []
+back-taking zero k = refl
+back-taking (suc n) k = refl
+
+no-taking : (n : ℕ) (o : Outcome) (k : ℕ) → takenBy (effectOf n o) k ≡ []
+no-taking n (Failed b) k = refl
+no-taking n (Onward p) k = refl
+no-taking n (Calls next target offset) k = refl
+no-taking n Returns k = back-taking n k
+
+-- mode 2: what the instruction answers, with the limit tried first
+pub does-instruction : (t : Task) (k : ℕ) (r : Registers) (d sh : List ℕ) (h : ℕ) (x : Executed) (z : Effect) (d′ : List ℕ) → r .mode ≡ 2
+    → ((c : Core) → c .registers ≡ r → c .memory ≡ d → t .instruction k c ≡ applied x c)
+    → z ≡ effectOf (r .depth) (x .outcome) → d′ ≡ x .memory → Leaves (x .outcome) (x .memory) d → Takes r z → Does t k r d sh h z d′ sh
+unfolding pick effected applied
+does-instruction t k r d sh h x z d′ m f e q l y =
+    does t k r d sh h z d′ sh
+    (λ s w. ap (λ (u : Effect). effected u k d′ sh s) (e ∙ ap (λ (u : Registers). effectOf (u .depth) (x .outcome)) (sym (w .registers)))
+    ∙ with-lists (effectOf (core (s .plant) k .registers .depth) (x .outcome)) k s d′ sh (x .memory) (s .plant .shared) q (sym (w .shared))
+    ∙ ap₂ (λ (u : Core) (v : ℕ). record { plant = put (s .plant) k u; holder = v })
+    (outcome-effect (x .outcome) (x .memory) (core (s .plant) k) (subst (Leaves (x .outcome) (x .memory)) (sym (w .memory)) l) ∙ sym (f (core (s .plant) k) (w .registers) (w .memory)))
+    (same-holder (core (s .plant) k .registers .depth) (x .outcome) k (s .holder))
+    ∙ sym (step-2 t k r d sh h s w m))
+    (λ c u. rw m (sym (ap (λ (v : Effect). takenBy v k) e ∙ no-taking (r .depth) (x .outcome) k))) y

@@ -1,0 +1,327 @@
+-- Each case of a step, from what the functions of a step are given of their core (`Ready`). In order: input records; what an instruction
+-- answers; waiting to write; the cases with the core's task: the record of a cycle, the bytes of an exchange, the instruction; the data of
+-- core k in the buffer of all. Assumes nothing.
+use mathlib.Core.Path.{_≡_, refl, sym, ap, ap₂, _∙_, subst, subst⁻¹}
+use mathlib.Core.Logic.{_≢_}
+use mathlib.Core.List.{List, [], _∷_, _++_}
+use Prim.Native.Nat.{ℕ, zero, suc, _+_, _-_, _*_, _≤_, _<_}
+use native.Mathlib.Omega.{arith}
+use borrow.Author.Tests.{eq-eqb, ne-eqb, eqb-true, eqb-false}
+use lib.Dec.{eqb}
+use lib.ListN.{length, getD, set, take, drop, drop-of-length-le}
+use lib.Seq.{drop-cons, drop-drop, map-set-same}
+use Rattle.verdict.specs.Verdict.{pick}
+use Rattle.verdict.proofs.Verdict.{pick-true, pick-false, by-pick}
+use Rattle.memory.specs.Memory.{splice, part, readLE, start, total, split}
+use Rattle.memory.proofs.Cores.{split-at, flat-set, split-flat-of, lengths-split, start-end}
+use Rattle.protocol.specs.declared.Registers.{Registers}
+use Rattle.protocol.specs.declared.Outcome.{Outcome}
+use Rattle.protocol.specs.declared.Outcome.the-variants.{Fault as Failed, Next as Onward, Call as Calls, Return as Returns}
+use Rattle.protocol.specs.State.{Core, Sample}
+use Rattle.protocol.specs.Step.{copy}
+use Rattle.protocol.specs.Variables.{readsOf, writesOf}
+use Rattle.protocol.specs.Instruction.{Executed, halted, applied, limited, instructionBy}
+use Rattle.records.specs.File.{cores, dataSize, inputSize, limit}
+use Rattle.taskset.specs.Judge.{codeOf}
+use Rattle.taskset.specs.Trace.{recordCount, samplePlace}
+use Rattle.taskset.specs.Task.{sizesOf, variablesOf, sampleAt, samplesOf}
+use Rattle.taskset.proofs.Accepted.{length-listed, listed-at, core-facts}
+use Rattle.exchange.specs.declared.Cursor.{Cursor}
+use Rattle.exchange.specs.Laid.{exchangeBytes}
+use Rattle.exchange.proofs.Moves.{left-more, left-last, left-none}
+use Rattle.exchange.proofs.Cursors.{length-reads, length-writes}
+use Rattle.exchange.proofs.Records.{bytes-few}
+use Rattle.code.specs.Flow.{Kind, Returns as Ends, Jumps, Branches, Calls as Enters, Passes, kindOf}
+use Rattle.code.specs.Instructions.{instructionAt}
+use Rattle.processor.specs.Executable.{Executable}
+use Rattle.processor.specs.Placed.{Leads}
+use Rattle.processor.specs.Processor.{Decided, refused, decided, answer, controlled, meaning, executed}
+use Rattle.processor.proofs.Kept.{executed-leads}
+use Rattle.states.specs.declared.CoreTask.{CoreTask}
+use Rattle.states.specs.Task.{taskOf}
+use Rattle.states.specs.Tasks.{coreTask}
+use Rattle.steps.specs.declared.Effect.{Effect}
+use Rattle.steps.specs.declared.Effect.the-variants.{Idle, ReadAcquired, ByteRead, ReadReleased, WriteAcquired, ByteWritten, WriteReleased, Fault, Return}
+use Rattle.steps.specs.Effects.{Takes, Does, Alone, More, Steps}
+use Rattle.steps.specs.Moving.{Ready, Moving}
+use Rattle.steps.proofs.Does.{does-spent, does-waits, does-write-acquired, does-read-acquired, does-byte-read, does-read-released, does-byte-written, does-write-released, effectOf, backAt, Leaves, does-instruction}
+
+-- ---- input records
+
+samples-left : (f t : List ℕ) (k i : ℕ) → i < recordCount f t k → drop i (samplesOf f t k) ≡ sampleAt f t k i ∷ drop (suc i) (samplesOf f t k)
+unfolding samplesOf
+samples-left f t k i h =
+    drop-cons (samplesOf f t k) i (sampleAt f t k i) (omega (arith, length-listed (sampleAt f t k) (recordCount f t k) 0))
+    ∙ ap (λ (y : Sample). y ∷ drop (suc i) (samplesOf f t k)) (listed-at (sampleAt f t k) (recordCount f t k) i (sampleAt f t k i) h)
+
+samples-spent : (f t : List ℕ) (k i : ℕ) → recordCount f t k ≤ i → drop i (samplesOf f t k) ≡ []
+unfolding samplesOf
+samples-spent f t k i h = drop-of-length-le (samplesOf f t k) {i = i} (omega (arith, length-listed (sampleAt f t k) (recordCount f t k) 0))
+
+-- ---- what an instruction answers
+
+-- a fault leaves the data
+controlled-leaves : (i : Kind) (next target depth : ℕ) (d : List ℕ) (x : Decided)
+    → Leaves (controlled i next target depth d x .outcome) (controlled i next target depth d x .memory) d
+controlled-leaves Ends next target depth d x = tt
+controlled-leaves Jumps next target depth d x = tt
+controlled-leaves Branches next target depth d (refused b) = refl
+controlled-leaves Branches next target depth d (decided made offset m) = tt
+controlled-leaves Enters next target depth d (refused b) =
+    by-pick (λ (y : Executed). Leaves (y .outcome) (y .memory) d) (eqb depth 16) (halted 5 d) (halted b d) (λ e. refl) (λ e. refl)
+controlled-leaves Enters next target depth d (decided made offset m) =
+    by-pick (λ (y : Executed). Leaves (y .outcome) (y .memory) d) (eqb depth 16) (halted 5 d) (answer (Calls next target offset) d) (λ e. refl) (λ e. tt)
+controlled-leaves Passes next target depth d (refused b) = refl
+controlled-leaves Passes next target depth d (decided made offset m) = tt
+
+executed-leaves : (c : List ℕ) (r : Registers) (d : List ℕ) → Leaves (executed c r d .outcome) (executed c r d .memory) d
+unfolding executed meaning
+executed-leaves c r d = controlled-leaves (kindOf (instructionAt c (r .counter))) _ _ _ d _
+
+-- the registers can take what an instruction answers
+back-takes : (r : Registers) (n : ℕ) → r .depth ≡ n → r .count < 65535 → r .depth ≤ 16 → Takes r (backAt n)
+back-takes r zero e h l = h
+back-takes r (suc n) e h l = (h, omega arith, omega arith)
+
+takes-outcome : (r : Registers) (c : List ℕ) (size : ℕ) (o : Outcome) → Leads c size (r .depth) o → r .count < 65535 → r .depth ≤ 16 → Takes r (effectOf (r .depth) o)
+takes-outcome r c size (Failed b) a h l = a
+takes-outcome r c size (Onward p) a h l = h
+takes-outcome r c size (Calls next target offset) a h l = (h, a .3)
+takes-outcome r c size Returns a h l = back-takes r (r .depth) refl h l
+
+back-more : (f : List ℕ) (k : ℕ) (r : Registers) (n : ℕ) → More f k r (backAt n)
+back-more f k r zero = tt
+back-more f k r (suc n) = tt
+
+more-outcome : (f : List ℕ) (k : ℕ) (r : Registers) (n : ℕ) (o : Outcome) → More f k r (effectOf n o)
+more-outcome f k r n (Failed b) = tt
+more-outcome f k r n (Onward p) = tt
+more-outcome f k r n (Calls next target offset) = tt
+more-outcome f k r n Returns = back-more f k r n
+
+-- RETURN below the first call
+pub back-below : (n : ℕ) → 0 < n → Return (n - 1) ≡ backAt n
+back-below zero h = absurd (omega arith)
+back-below (suc n) h = ap Return (let e : suc n - 1 ≡ n = omega arith in e)
+
+-- ---- mode 3: waiting to write
+
+pub waiting : (f t : List ℕ) (k : ℕ) (r : Registers) (d sh : List ℕ) (h : ℕ) (z : Effect) → r .mode ≡ 3 → z ≡ pick (eqb h 0) WriteAcquired Idle
+    → Does (taskOf f t) k r d sh h z d sh × More f k r z
+waiting f t k r d sh h z m e =
+    subst⁻¹ (λ (u : Effect). Does (taskOf f t) k r d sh h u d sh × More f k r u) e
+    (by-pick (λ (u : Effect). Does (taskOf f t) k r d sh h u d sh × More f k r u) (eqb h 0) WriteAcquired Idle
+    (λ q. (subst⁻¹ (λ (i : ℕ). Does (taskOf f t) k r d sh i WriteAcquired d sh) (eqb-true h 0 q) (does-write-acquired (taskOf f t) k r d sh m), tt))
+    (λ q. (does-waits (taskOf f t) k r d sh h m (let n : (h ≡ 0 → ⊥) = eqb-false h 0 q in omega arith), tt)))
+
+-- ---- the cases with the core's task
+
+module _ {f t : List ℕ} {k : ℕ} {c : CoreTask} {r : Registers} {d : List ℕ} (w : Ready f t k c r d) where
+  -- ---- mode 0: the record of a cycle
+
+  count-is : c .count ≡ recordCount f t k
+  unfolding coreTask
+  count-is = ap (λ (x : CoreTask). x .count) (w .task)
+
+  inputs-are : c .inputs ≡ inputSize f k
+  unfolding coreTask
+  inputs-are = ap (λ (x : CoreTask). x .inputs) (w .task)
+
+  -- its place
+  record-is : c .records + r .cycles * (4 + c .inputs) ≡ samplePlace f t k (r .cycles)
+  unfolding coreTask
+  record-is = ap (λ (x : CoreTask). x .records + r .cycles * (4 + x .inputs)) (w .task)
+
+  pub record-inside : r .cycles < c .count → c .records + r .cycles * (4 + c .inputs) + (4 + c .inputs) ≤ length t
+  record-inside h = omega (arith, record-is, inputs-are, w .accepted .records k (w .known) (r .cycles) (omega (arith, count-is)))
+
+  pub inputs-inside : c .inputs ≤ length d
+  inputs-inside = omega (arith, inputs-are, w .accepted .inputs k (w .known), w .fit .size)
+
+  pub spent : (h : ℕ) → r .mode ≡ 0 → c .count ≤ r .cycles → Alone f t k r d h Idle d
+  unfolding taskOf
+  spent h m l sh = does-spent (taskOf f t) k r d sh h m (samples-spent f t k (r .cycles) (omega (arith, count-is)))
+
+  pub read-acquired : (h time place : ℕ) (d′ : List ℕ) → h ≡ 0 → r .mode ≡ 0 → r .cycles < c .count → place ≡ c .records + r .cycles * (4 + c .inputs)
+      → time ≡ readLE t place 4 → d′ ≡ splice d 0 (part t (place + 4) (c .inputs)) → Alone f t k r d h (ReadAcquired time) d′
+  unfolding taskOf sampleAt
+  read-acquired h time place d′ z m l p e g sh =
+      subst⁻¹ (λ (i : ℕ). Does (taskOf f t) k r d sh i (ReadAcquired time) d′ sh) z
+      (does-read-acquired (taskOf f t) k r d sh (sampleAt f t k (r .cycles)) (drop (suc (r .cycles)) (samplesOf f t k)) time d′ m
+      (samples-left f t k (r .cycles) (omega (arith, count-is)))
+      (e ∙ ap (λ (q : ℕ). readLE t q 4) (p ∙ record-is))
+      (g ∙ ap₂ (λ (q n : ℕ). splice d 0 (part t (q + 4) n)) (p ∙ record-is) inputs-are))
+
+  -- ---- modes 1 and 4: the bytes of an exchange
+
+  four : k < 4
+  four = omega (arith, w .known, w .accepted .few)
+
+  reads-are : c .reads ≡ length (readsOf (variablesOf f) k)
+  unfolding coreTask
+  reads-are = ap (λ (x : CoreTask). x .reads) (w .task)
+
+  writes-are : c .writes ≡ length (writesOf (variablesOf f) k)
+  unfolding coreTask
+  writes-are = ap (λ (x : CoreTask). x .writes) (w .task)
+
+  pub reads-left : r .exchange < c .reads → r .exchange < exchangeBytes f (4 + k)
+  reads-left h = omega (arith, reads-are, length-reads f k four)
+
+  pub writes-left : r .exchange < c .writes → r .exchange < exchangeBytes f k
+  writes-left h = omega (arith, writes-are, length-writes f k four)
+
+  cycles-few : r .mode ≡ 4 → r .cycles < 65535
+  cycles-few m = omega (arith, w .fit .under-way (omega arith) (omega arith), w .accepted .counts k)
+
+  module _ (sh : List ℕ) (h : ℕ) where
+    pub read-none : r .mode ≡ 1 → c .reads ≤ r .exchange → Does (taskOf f t) k r d sh h ReadReleased d sh
+    unfolding taskOf
+    read-none m l =
+        let e = left-none (readsOf (variablesOf f) k) (sym reads-are) (r .exchange) l in
+        does-read-released (taskOf f t) k r d sh h [] d m e refl refl
+
+    pub read-last : (d′ : List ℕ) → r .mode ≡ 1 → c .reads ≤ r .exchange + 1 → d′ ≡ copy (take 1 (drop (r .exchange) (readsOf (variablesOf f) k))) sh d
+        → Does (taskOf f t) k r d sh h ReadReleased d′ sh
+    unfolding taskOf
+    read-last d′ m l e =
+        does-read-released (taskOf f t) k r d sh h (drop (r .exchange) (readsOf (variablesOf f) k)) d′ m refl
+        (left-last (readsOf (variablesOf f) k) (sym reads-are) (r .exchange) l) e
+
+    pub read-more : (d′ : List ℕ) → r .mode ≡ 1 → r .exchange + 1 < c .reads → d′ ≡ copy (take 1 (drop (r .exchange) (readsOf (variablesOf f) k))) sh d
+        → Does (taskOf f t) k r d sh h ByteRead d′ sh
+    unfolding taskOf
+    read-more d′ m l e =
+        let n = left-more (readsOf (variablesOf f) k) (sym reads-are) (r .exchange) l in
+        does-byte-read (taskOf f t) k r d sh h (drop (r .exchange) (readsOf (variablesOf f) k)) (n .head) (n .tail) d′ m refl (n .is) e
+        (omega (arith, reads-left (omega arith), bytes-few f (4 + k) (w .accepted .laid)))
+
+    pub write-none : r .mode ≡ 4 → c .writes ≤ r .exchange → Does (taskOf f t) k r d sh h WriteReleased d sh
+    unfolding taskOf
+    write-none m l =
+        let e = left-none (writesOf (variablesOf f) k) (sym writes-are) (r .exchange) l in
+        does-write-released (taskOf f t) k r d sh h [] sh m e refl refl (cycles-few m)
+
+    pub write-last : (sh′ : List ℕ) → r .mode ≡ 4 → c .writes ≤ r .exchange + 1 → sh′ ≡ copy (take 1 (drop (r .exchange) (writesOf (variablesOf f) k))) d sh
+        → Does (taskOf f t) k r d sh h WriteReleased d sh′
+    unfolding taskOf
+    write-last sh′ m l e =
+        does-write-released (taskOf f t) k r d sh h (drop (r .exchange) (writesOf (variablesOf f) k)) sh′ m refl
+        (left-last (writesOf (variablesOf f) k) (sym writes-are) (r .exchange) l) e (cycles-few m)
+
+    pub write-more : (sh′ : List ℕ) → r .mode ≡ 4 → r .exchange + 1 < c .writes → sh′ ≡ copy (take 1 (drop (r .exchange) (writesOf (variablesOf f) k))) d sh
+        → Does (taskOf f t) k r d sh h ByteWritten d sh′
+    unfolding taskOf
+    write-more sh′ m l e =
+        let n = left-more (writesOf (variablesOf f) k) (sym writes-are) (r .exchange) l in
+        does-byte-written (taskOf f t) k r d sh h (drop (r .exchange) (writesOf (variablesOf f) k)) (n .head) (n .tail) sh′ m refl (n .is) e
+        (omega (arith, writes-left (omega arith), bytes-few f k (w .accepted .laid)))
+
+  -- ---- mode 2: the instruction
+
+  limit-is : c .limit ≡ limit f k
+  unfolding coreTask
+  limit-is = ap (λ (x : CoreTask). x .limit) (w .task)
+
+  pub code-inside : c .code + c .length ≤ length f
+  unfolding coreTask
+  code-inside = rw (w .task) (w .accepted .code-inside k (w .known))
+
+  -- the code as the file lends it
+  code-is : (e : ℕ) → e ≡ c .code + c .length → take (e - c .code) (drop (c .code) f) ≡ codeOf f k
+  unfolding coreTask part
+  code-is e p =
+      let n : e - c .code ≡ c .length = omega arith in
+      ap (λ (q : ℕ). take q (drop (c .code) f)) n ∙ ap (λ (x : CoreTask). take (x .length) (drop (x .code) f)) (w .task)
+
+  pub executable : (e : ℕ) → e ≡ c .code + c .length → Executable (take (e - c .code) (drop (c .code) f)) r d
+  executable e p = rw (code-is e p) record {
+    accepted = w .accepted .code k (w .known);
+    short = omega (arith, w .accepted .code-length k (w .known), core-facts f (w .accepted .file) k (w .known) .code-length);
+    start = w .fit .placed .counter;
+    small = omega (arith, w .fit .size, w .accepted .data-size k (w .known));
+  }
+
+  module _ (x : Core) (p : x .registers ≡ r) (q : x .memory ≡ d) where
+    at-limit : r .count ≡ c .limit → taskOf f t .instruction k x ≡ applied (halted 1 d) x
+    unfolding taskOf instructionBy limited
+    at-limit e =
+        ap (λ (y : Executed). applied y x)
+        (pick-true _ _ _ (eq-eqb (x .registers .count) (limit f k) (ap (λ (u : Registers). u .count) p ∙ e ∙ limit-is)) ∙ ap (halted 1) q)
+
+    below-limit : r .count ≢ c .limit → taskOf f t .instruction k x ≡ applied (executed (codeOf f k) r d) x
+    unfolding taskOf instructionBy limited
+    below-limit n =
+        ap (λ (y : Executed). applied y x)
+        (pick-false _ _ _ (ne-eqb (x .registers .count) (limit f k) (λ z. n (sym (ap (λ (u : Registers). u .count) p) ∙ z ∙ sym limit-is)))
+        ∙ ap₂ (executed (codeOf f k)) p q)
+
+  pub limit-reached : (h : ℕ) → r .mode ≡ 2 → r .count ≡ c .limit → Alone f t k r d h (Fault 1) d
+  limit-reached h m e sh =
+      does-instruction (taskOf f t) k r d sh h (halted 1 d) (Fault 1) d m (λ x p q. at-limit x p q e) refl refl refl (omega arith)
+
+  pub instruction-done : (h e : ℕ) (o : Outcome) (z : Effect) (d′ : List ℕ) → r .mode ≡ 2 → r .count ≢ c .limit → e ≡ c .code + c .length
+      → answer o d′ ≡ executed (take (e - c .code) (drop (c .code) f)) r d → z ≡ effectOf (r .depth) o → Alone f t k r d h z d′ × More f k r z
+  instruction-done h e o z d′ m n p a g =
+      let b : answer o d′ ≡ executed (codeOf f k) r d = a ∙ ap (λ (u : List ℕ). executed u r d) (code-is e p) in
+      let offset : r .offset < length d = omega (arith, w .fit .placed .offset, w .fit .size) in
+      let leads : Leads (codeOf f k) (length d) (r .depth) o = subst⁻¹ (λ (y : Executed). Leads (codeOf f k) (length d) (r .depth) (y .outcome)) b
+      (executed-leads (codeOf f k) r d offset (w .fit .placed .depth) (w .accepted .code k (w .known)) (w .fit .placed .counter)) in
+      let count : r .count < 65535 = omega (arith, w .fit .counts, w .accepted .limits k (w .known), limit-is) in (
+        (λ sh. does-instruction (taskOf f t) k r d sh h (answer o d′) z d′ m (λ x u v. below-limit x u v n ∙ ap (λ (y : Executed). applied y x) (sym b)) g refl
+            (subst⁻¹ (λ (y : Executed). Leaves (y .outcome) (y .memory) d) b (executed-leaves (codeOf f k) r d))
+            (subst⁻¹ (Takes r) g (takes-outcome r (codeOf f k) (length d) o leads count (w .fit .placed .depth)))),
+        subst⁻¹ (More f k r) g (more-outcome f k r (r .depth) o),
+      )
+
+-- ---- the data of core k in the buffer of all
+
+-- other data m in the stretch that was lent
+stretch-set : (ns s m : List ℕ) (k a e : ℕ) → k < length ns → length s ≡ total ns → a ≡ start ns k → e ≡ a + getD ns k 0
+    → length m ≡ length (getD (split ns s) k []) → split ns (take a s ++ (m ++ drop (e - a) (drop a s))) ≡ set (split ns s) k m
+stretch-set ns s m k a e h n p q l =
+    let z : a + (e - a) ≡ start ns k + getD ns k 0 = omega arith in
+    ap (split ns) (ap₂ (λ (i : ℕ) (u : List ℕ). take i s ++ (m ++ u)) p (drop-drop (e - a) a s ∙ ap (λ (i : ℕ). drop i s) z) ∙ sym (flat-set ns s k m h (sym n)))
+    ∙ split-flat-of ns (set (split ns s) k m) (map-set-same length (split ns s) k m [] l ∙ lengths-split ns s (omega arith))
+
+module _ {f t : List ℕ} {k : ℕ} {c : CoreTask} {r : Registers} {d sh : List ℕ} {cursor : Cursor} (w : Moving f t k c r d sh cursor) where
+  size-at : getD (sizesOf f) k 0 ≡ dataSize f k
+  unfolding sizesOf
+  size-at = listed-at (dataSize f) (cores f) k 0 (w .ready .known)
+
+  core-at : k < length (sizesOf f)
+  unfolding sizesOf
+  core-at = omega (arith, length-listed (dataSize f) (cores f) 0, w .ready .known)
+
+  base-is : c .base ≡ start (sizesOf f) k
+  unfolding coreTask
+  base-is = ap (λ (x : CoreTask). x .base) (w .ready .task)
+
+  size-is : c .size ≡ getD (sizesOf f) k 0
+  unfolding coreTask
+  size-is = ap (λ (x : CoreTask). x .size) (w .ready .task) ∙ sym size-at
+
+  pub stretch-inside : c .base + c .size ≤ length d
+  stretch-inside = omega (arith, base-is, size-is, start-end (sizesOf f) k core-at, w .buffer)
+
+  module _ (e : ℕ) (p : e ≡ c .base + c .size) where
+    pub stretch-is : take (e - c .base) (drop (c .base) d) ≡ getD (split (sizesOf f) d) k []
+    stretch-is =
+        let n : e - c .base ≡ getD (sizesOf f) k 0 = omega (arith, size-is) in
+        ap₂ (λ (i j : ℕ). take i (drop j d)) n base-is ∙ sym (split-at (sizesOf f) d k core-at)
+
+    pub stretch-kept : (m : List ℕ) → length m ≡ length (take (e - c .base) (drop (c .base) d))
+        → split (sizesOf f) (take (c .base) d ++ (m ++ drop (e - c .base) (drop (c .base) d))) ≡ set (split (sizesOf f) d) k m
+    stretch-kept m l =
+        stretch-set (sizesOf f) d m k (c .base) e core-at (w .buffer) base-is (omega (arith, size-is)) (l ∙ ap length stretch-is)
+
+    -- the step in the stretch is the step in the buffer
+    pub steps-in : (h : ℕ) (z : Effect) (m sh′ : List ℕ) → Does (taskOf f t) k r (take (e - c .base) (drop (c .base) d)) sh h z m sh′ × More f k r z
+        → length m ≡ length (take (e - c .base) (drop (c .base) d))
+        → Steps f t k r d sh h z (take (c .base) d ++ (m ++ drop (e - c .base) (drop (c .base) d))) sh′
+    steps-in h z m sh′ q l = record {
+      memory = m;
+      does = subst (λ (u : List ℕ). Does (taskOf f t) k r u sh h z m sh′) stretch-is (q .0);
+      more = q .1;
+      kept = stretch-kept m l;
+    }

@@ -1,0 +1,39 @@
+-- What the functions of a step are given: what the judging of file, trace and state has shown of core k.
+use mathlib.Core.Path.{_≡_}
+use mathlib.Core.List.{List, []}
+use Prim.Native.Nat.{ℕ, _+_, _<_}
+use lib.ListN.{length, getD}
+use Rattle.memory.specs.Memory.{total, split}
+use Rattle.protocol.specs.declared.Registers.{Registers}
+use Rattle.protocol.specs.declared.Stack.{Stack}
+use Rattle.protocol.specs.State.{core}
+use Rattle.exchange.specs.declared.Cursor.{Cursor}
+use Rattle.exchange.specs.Exchange.{At}
+use Rattle.records.specs.File.{cores}
+use Rattle.taskset.specs.Task.{sizesOf}
+use Rattle.states.specs.declared.CoreTask.{CoreTask}
+use Rattle.states.specs.Tasks.{coreTask}
+use Rattle.states.specs.Set.{Set}
+use Rattle.states.specs.Fit.{FitCore}
+
+-- ---- a step
+
+-- core k of the file, with its task c, the registers r and the data d
+pub record Ready (f t : List ℕ) (k : ℕ) (c : CoreTask) (r : Registers) (d : List ℕ) : Type 0 where
+  pub accepted : Set f t
+  pub known : k < cores f
+  pub task : c ≡ coreTask f t k
+  pub stack : Stack
+  pub fit : FitCore f t k record { registers = r; stack = stack; memory = d }
+
+-- where the exchange of core k with the registers r stands
+pub record Aimed (f : List ℕ) (k : ℕ) (r : Registers) (cursor : Cursor) : Type 0 where
+  pub reading : r .mode ≡ 1 → At f (4 + k) (r .exchange) cursor
+  pub writing : r .mode ≡ 4 → At f k (r .exchange) cursor
+
+-- the same with the data buffer d of all cores
+pub record Moving (f t : List ℕ) (k : ℕ) (c : CoreTask) (r : Registers) (d sh : List ℕ) (cursor : Cursor) : Type 0 where
+  pub ready : Ready f t k c r (getD (split (sizesOf f) d) k [])
+  pub buffer : length d ≡ total (sizesOf f)
+  pub shared : length sh ≡ 1024
+  pub aimed : Aimed f k r cursor
