@@ -1,1 +1,5 @@
 pub mod Interleaving
+pub mod Calls
+pub mod Aims
+pub mod Judged
+pub mod Steps

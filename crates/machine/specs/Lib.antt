@@ -1,1 +1,2 @@
 pub mod Interleaving
+pub mod Calls

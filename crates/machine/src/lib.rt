@@ -1,10 +1,251 @@
-// The machine that users call, by value.
+// The machine that users call, by value. No call requires anything: each gives the refusal number of document 01 that fits, in the order
+// file, 21, 22, 23, 20, and then changes no lent byte.
+use exchange::Cursor;
+use protocol::Registers;
+use runner::Ran;
+use states::{CoreTask, State};
+use taskset::Layout;
 ghost use mathlib.Core.Path.{_≡_};
+ghost use mathlib.Core.Bool.{true};
+ghost use Prim.Native.Nat.{ℕ, suc, _<_};
+ghost use mathlib.Core.List.{[]};
+ghost use lib.ListN.{length, getD};
+ghost use Rattle.memory.specs.Memory.{total};
+ghost use Rattle.protocol.specs.State.{cleared as clearedTo};
+ghost use Rattle.records.specs.File.{cores, recordPlace, variables};
 ghost use Rattle.taskset.specs.Judge.{judge};
+ghost use Rattle.taskset.specs.Layout.{layoutOf};
+ghost use Rattle.taskset.specs.Task.{sizesOf};
+ghost use Rattle.states.specs.Machine.{none, stateOf};
+ghost use Rattle.states.specs.Set.{Set};
+ghost use Rattle.states.specs.Tasks.{tasksOf};
+ghost use Rattle.states.specs.Fit.{Fit};
+ghost use Rattle.steps.specs.Moving.{Aimed};
+ghost use Rattle.runner.specs.Runs.{allBelow, left, ranCall};
+ghost use Rattle.machine.specs.Calls.{lentFits, setRefusal, answerOf, tableOf, freshCall, runRefusal, runCall, stepCall};
+
+// Bytes of shared memory.
+const SHARED: usize = 1024;
+
+// Bytes of a variable's record.
+const RECORD: usize = 12;
+
+// The flag byte of a fresh core: the cold-start bit.
+const COLD_START: u8 = 4;
+
+// ---- checks
 
 // The refusal number of a task set file alone.
 pub fn check_file(file: &[u8]) -> u8
     ensures { λ r. ⌜ r ≡ judge (now (file .entry)) ⌝ }
 {
     taskset::judge_file(file)
+}
+
+// The refusal number of a state, with its file and trace.
+pub fn check_state(file: &[u8], trace: &[u8], s: State) -> u8
+    ensures { λ r. ⌜ r ≡ setRefusal (now (file .entry)) (now (trace .entry)) s ⌝ }
+{
+    let loaded = taskset::load(file);
+    if loaded.refusal != 0 {
+        return loaded.refusal;
+    }
+    let prepared = states::prepare(file, trace, loaded.layout, s);
+    prepared.refusal
+}
+
+// ---- lent memory
+
+// The sum of the data sizes.
+fn buffer_size(file: &[u8], layout: Layout) -> usize
+    requires { ⌜ (judge (now file) ≡ 0) × (layout ≡ layoutOf (now file)) ⌝ }
+    ensures { λ r. ⌜ r ≡ total (sizesOf (now (file .entry))) ⌝ }
+{
+    let core = layout.core;
+    core[0].size + core[1].size + core[2].size + core[3].size
+}
+
+// Whether data buffer and shared memory have their sizes.
+fn lent_fits(file: &[u8], layout: Layout, buffer: usize, shared: usize) -> bool
+    requires { ⌜ (judge (now file) ≡ 0) × (layout ≡ layoutOf (now file)) ⌝ }
+    ensures { λ r. ⌜ r ≡ lentFits (now (file .entry)) buffer shared ⌝ }
+{
+    if buffer == buffer_size(file, layout) {
+        return shared == SHARED;
+    }
+    false
+}
+
+// ---- the fresh state
+
+// Registers of a fresh core.
+fn cleared(flags: u8) -> Registers
+    ensures { λ r. ⌜ r ≡ clearedTo 0 flags ⌝ }
+{
+    Registers {
+        mode: protocol::BETWEEN,
+        counter: 0,
+        offset: 0,
+        depth: 0,
+        count: 0,
+        exchange: 0,
+        cycles: 0,
+        flags,
+        time: 0,
+    }
+}
+
+// A table of n cores with these flags, all else 0.
+fn table_of(n: u8, flags: u8) -> State
+    ensures { λ r. ⌜ r ≡ tableOf n flags ⌝ }
+{
+    let core = cleared(flags);
+    let cores = [core, core, core, core];
+    let places = [0u16; 64];
+    let offsets = [0u16; 64];
+    State {
+        count: n,
+        holder: 0,
+        cores,
+        places,
+        offsets,
+    }
+}
+
+// The fresh state of a file: memories zeroed, mode 0, registers 0, flags 4, semaphore free. A refused call gives a table of no cores.
+pub fn fresh(file: &[u8], buffer: &mut [u8], shared: &mut [u8]) -> Ran
+    ensures { λ r. ⌜ left r (now (buffer .exit)) (now (shared .exit)) [] ≡ freshCall (now (file .entry)) (now (buffer .entry)) (now (shared .entry)) ⌝ }
+{
+    let loaded = taskset::load(file);
+    if loaded.refusal != 0 {
+        return answer(loaded.refusal, table_of(0, 0));
+    }
+    if !lent_fits(file, loaded.layout, buffer.len(), shared.len()) {
+        return answer(21, table_of(0, 0));
+    }
+    memory::zero(buffer);
+    memory::zero(shared);
+    answer(0, table_of(loaded.layout.cores as u8, COLD_START))
+}
+
+// ---- a run and a step
+
+// Whether an order names no core from n on.
+fn all_below(order: &[u8], n: usize) -> bool
+    ensures { λ r. ⌜ r ≡ allBelow n (now (order .entry)) ⌝ }
+{
+    let mut i = 0;
+    while i < order.len() {
+        if n <= order[i] as usize {
+            return false;
+        }
+        i += 1;
+    }
+    true
+}
+
+// The place of the exchange under way in a fit state, if there is one.
+fn aim_of(file: &[u8], trace: &[u8], first: usize, end: usize, s: State, buffer: &[u8], shared: &[u8]) -> Cursor
+    requires { ⌜ Set (now file) (now trace) × (first ≡ recordPlace (now file) 0) × (end ≡ recordPlace (now file) (variables (now file))) × Fit (now file) (now trace) (stateOf (now file) s (now buffer) (now shared)) ⌝ }
+    ensures { λ r. ⌜ ((k : ℕ) → k < cores (now (file .entry)) → s .holder ≡ suc k → Aimed (now (file .entry)) k (getD (s .cores) k none) r) ⌝ }
+{
+    let none = Cursor { record: 0, byte: 0 };
+    let holder = s.holder;
+    if holder == 0 {
+        return none;
+    }
+    let k = (holder - 1) as usize;
+    let cores = s.cores;
+    if cores[k].mode == protocol::READING {
+        return exchange::locate(file, first, end, 4 + k, cores[k].exchange);
+    }
+    if cores[k].mode == protocol::WRITING {
+        return exchange::locate(file, first, end, k, cores[k].exchange);
+    }
+    none
+}
+
+// What a call answers that steps no core.
+fn answer(number: u8, s: State) -> Ran
+    ensures { λ r. ⌜ r ≡ answerOf number s ⌝ }
+{
+    Ran {
+        refusal: number,
+        taken: 0,
+        state: s,
+    }
+}
+
+// The steps of an order where nothing is refused.
+fn run_judged(
+    file: &[u8],
+    trace: &[u8],
+    layout: Layout,
+    tasks: [CoreTask; 4],
+    s: State,
+    buffer: &mut [u8],
+    shared: &mut [u8],
+    order: &[u8],
+    list: &mut [u8],
+) -> Ran
+    requires { ⌜ (layout ≡ layoutOf (now file)) × (tasks ≡ tasksOf (now file) (now trace)) × (runRefusal (now file) (now trace) s (now buffer) (now shared) (now order) (now list) ≡ 0) ⌝ }
+    ensures { λ r. ⌜ left r (now (buffer .exit)) (now (shared .exit)) (now (list .exit)) ≡ ranCall (now (file .entry)) (now (trace .entry)) s (now (buffer .entry)) (now (shared .entry)) (now (order .entry)) (now (list .entry)) ⌝ }
+{
+    // for the lengths of the arrays alone
+    let places = runner::places_of(s);
+    let offsets = runner::offsets_of(s);
+    let first = layout.first;
+    let end = first + RECORD * layout.variables;
+    let aim = aim_of(file, trace, first, end, s, buffer, shared);
+    runner::run_order(file, trace, tasks, first, end, order, s, aim, buffer, shared, list)
+}
+
+// The steps of an order, one after another. The takings go to the front of `list`: the core, plus 16 for a writing; bytes after those stay.
+pub fn run(
+    file: &[u8],
+    trace: &[u8],
+    s: State,
+    buffer: &mut [u8],
+    shared: &mut [u8],
+    order: &[u8],
+    list: &mut [u8],
+) -> Ran
+    ensures { λ r. ⌜ left r (now (buffer .exit)) (now (shared .exit)) (now (list .exit)) ≡ runCall (now (file .entry)) (now (trace .entry)) s (now (buffer .entry)) (now (shared .entry)) (now (order .entry)) (now (list .entry)) ⌝ }
+{
+    let loaded = taskset::load(file);
+    if loaded.refusal != 0 {
+        return answer(loaded.refusal, s);
+    }
+    let layout = loaded.layout;
+    if !lent_fits(file, layout, buffer.len(), shared.len()) {
+        return answer(21, s);
+    }
+    if list.len() < order.len() {
+        return answer(21, s);
+    }
+    let prepared = states::prepare(file, trace, layout, s);
+    if prepared.refusal != 0 {
+        return answer(prepared.refusal, s);
+    }
+    if !all_below(order, layout.cores) {
+        return answer(20, s);
+    }
+    let tasks = prepared.tasks;
+    run_judged(file, trace, layout, tasks, s, buffer, shared, order, list)
+}
+
+// One step of a core, as the run of an order of one byte: so the machine has one place that executes.
+pub fn step(
+    file: &[u8],
+    trace: &[u8],
+    s: State,
+    buffer: &mut [u8],
+    shared: &mut [u8],
+    core: u8,
+) -> Ran
+    ensures { λ r. ⌜ left r (now (buffer .exit)) (now (shared .exit)) [] ≡ stepCall (now (file .entry)) (now (trace .entry)) s (now (buffer .entry)) (now (shared .entry)) core ⌝ }
+{
+    let order = [core];
+    let mut list = [0u8; 1];
+    run(file, trace, s, buffer, shared, &order, &mut list)
 }

@@ -34,19 +34,19 @@ fn set_entry(entries: &mut [u16; 64], k: usize, depth: u8, value: u16)
 }
 
 // The parts of a state; that its arrays have their lengths is known of a result.
-fn table_of(s: State) -> [Registers; 4]
+pub fn table_of(s: State) -> [Registers; 4]
     ensures { λ r. ⌜ (r ≡ s .cores) × (length r ≡ 4) ⌝ }
 {
     s.cores
 }
 
-fn places_of(s: State) -> [u16; 64]
+pub fn places_of(s: State) -> [u16; 64]
     ensures { λ r. ⌜ (r ≡ s .places) × (length r ≡ 64) ⌝ }
 {
     s.places
 }
 
-fn offsets_of(s: State) -> [u16; 64]
+pub fn offsets_of(s: State) -> [u16; 64]
     ensures { λ r. ⌜ (r ≡ s .offsets) × (length r ≡ 64) ⌝ }
 {
     s.offsets

@@ -6,3 +6,4 @@ pub mod Executes
 pub mod Says
 pub mod Fresh
 pub mod Exactly
+pub mod Preparing

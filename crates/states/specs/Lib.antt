@@ -3,3 +3,4 @@ pub mod Machine
 pub mod Tasks
 pub mod Set
 pub mod Fit
+pub mod Preparing

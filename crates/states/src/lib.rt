@@ -6,10 +6,12 @@ ghost use lib.Dec.{ltb};
 ghost use Rattle.code.specs.Code.{isStart};
 ghost use Rattle.records.specs.File.{cores};
 ghost use Rattle.taskset.specs.Layout.{layoutOf};
+ghost use Rattle.taskset.specs.Judge.{judge};
 ghost use Rattle.taskset.specs.Trace.{traceLayout};
 ghost use Rattle.states.specs.Set.{Set};
 ghost use Rattle.states.specs.Tasks.{noTask, coreTask, taskAt, tasksOf};
 ghost use Rattle.states.specs.Fit.{entry, placesFit, offsetsFit, depthFit, exchangeFit, cyclesFit, holderFit, freedAt, freedFit, executionFit, exchangesFit, fitAt, stateRefusal};
+ghost use Rattle.states.specs.Preparing.{prepared};
 use protocol::Registers;
 use taskset::Layout;
 use taskset::TraceLayout;
@@ -336,4 +338,32 @@ pub fn state_refusal(file: &[u8], trace: &[u8], tasks: [CoreTask; 4], n: usize, 
         k += 1;
     }
     0
+}
+
+// ---- trace and state of an accepted file
+
+// What judging a trace and then a state finds: the refusal, and the cores' tasks where the trace is sound.
+pub struct Prepared {
+    pub refusal: u8,
+    pub tasks: [CoreTask; 4],
+}
+
+pub fn prepare(file: &[u8], trace: &[u8], layout: Layout, s: State) -> Prepared
+    requires { ⌜ (judge (now file) ≡ 0) × (layout ≡ layoutOf (now file)) ⌝ }
+    ensures { λ r. ⌜ r ≡ prepared (now (file .entry)) (now (trace .entry)) s ⌝ }
+{
+    let traces = taskset::load_trace(file, trace);
+    if traces.refusal != 0 {
+        let none = no_task();
+        return Prepared {
+            refusal: traces.refusal,
+            tasks: [none, none, none, none],
+        };
+    }
+    let tasks = core_tasks(file, trace, layout, traces);
+    let refusal = state_refusal(file, trace, tasks, layout.cores, s);
+    Prepared {
+        refusal,
+        tasks,
+    }
 }

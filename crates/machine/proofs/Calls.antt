@@ -1,0 +1,215 @@
+-- The judging of a call: what each refusal is, and what is known where there is none. In order: loading; lent memory; the order; the chain of
+-- refusals, forward and backward; the answers. Assumes nothing.
+use mathlib.Core.Path.{_≡_, refl, sym, ap, ap₂, _∙_, subst}
+use mathlib.Core.Logic.{_≢_}
+use mathlib.Core.Bool.{Bool, true, false}
+use mathlib.Core.List.{List, [], _∷_}
+use Prim.Native.Nat.{ℕ, zero, suc, _+_, _-_, _≤_, _<_}
+use native.Mathlib.Omega.{arith}
+use native.Mathlib.Numerals.{add-one}
+use borrow.Author.Tests.{lt-ltb, le-ltb, eq-eqb, ne-eqb, ltb-true, eqb-true}
+use lib.Dec.{ltb, eqb}
+use lib.ListN.{length, getD, drop, replicate}
+use lib.Seq.{drop-cons, drop-length}
+use Rattle.verdict.specs.Verdict.{pick, both, next, unless}
+use Rattle.verdict.proofs.Verdict.{skip, stop, halt, yes, no, pick-true, pick-false, next-none, next-zero, unless-zero, both-true}
+use Rattle.memory.specs.Memory.{total}
+use Rattle.records.specs.File.{cores, dataSize}
+use Rattle.taskset.specs.declared.Layout.{Layout}
+use Rattle.taskset.specs.declared.Loaded.{Loaded}
+use Rattle.taskset.specs.Judge.{judge}
+use Rattle.taskset.specs.Layout.{noCore, coreAt, coreLayout, layoutOf, noLayout, loadOf}
+use Rattle.taskset.specs.Trace.{traceRefusal}
+use Rattle.taskset.specs.Task.{listed, sizesOf}
+use Rattle.taskset.proofs.Exact.{keeps-rules}
+use Rattle.states.specs.declared.State.{State}
+use Rattle.states.specs.declared.Prepared.{Prepared}
+use Rattle.states.specs.Fit.{stateRefusal}
+use Rattle.states.specs.Tasks.{tasksOf}
+use Rattle.states.specs.Preparing.{heldRefusal, prepared}
+use Rattle.runner.specs.declared.Ran.{Ran}
+use Rattle.runner.specs.Runs.{allBelow, Left, left, ranCall}
+use Rattle.machine.specs.Calls.{lentFits, setRefusal, callRefusal, answerOf, tableOf, freshRefusal, freshCall, runRefusal, runCall}
+
+-- ---- loading
+
+module _ (f : List ℕ) (x : Loaded) (e : x ≡ loadOf f) where
+  pub file-judged : x .refusal ≡ judge f
+  unfolding loadOf
+  file-judged = ap (λ (y : Loaded). y .refusal) e
+
+  pub file-accepted : x .refusal ≡ 0 → judge f ≡ 0
+  file-accepted z = sym file-judged ∙ z
+
+  pub file-laid : x .refusal ≡ 0 → x .layout ≡ layoutOf f
+  unfolding loadOf
+  file-laid z = ap (λ (y : Loaded). y .layout) e ∙ pick-true _ _ _ (eq-eqb _ _ (file-accepted z))
+
+module _ (f t : List ℕ) (h : State) where
+  -- the two parts of a held refusal
+  pub held-none : heldRefusal f t h ≡ 0 → (traceRefusal f t ≡ 0) × (stateRefusal f t h ≡ 0)
+  unfolding heldRefusal
+  held-none e = next-zero _ _ e
+
+  module _ (x : Prepared) (e : x ≡ prepared f t h) where
+    pub held-judged : x .refusal ≡ heldRefusal f t h
+    unfolding prepared
+    held-judged = ap (λ (y : Prepared). y .refusal) e
+
+    pub held-tasks : x .refusal ≡ 0 → x .tasks ≡ tasksOf f t
+    unfolding prepared
+    held-tasks z = ap (λ (y : Prepared). y .tasks) e ∙ pick-true _ _ _ (eq-eqb _ _ (held-none (sym held-judged ∙ z) .0))
+
+  pub set-file : {r : ℕ} → r ≡ judge f → r ≢ 0 → r ≡ setRefusal f t h
+  unfolding setRefusal
+  set-file e n = stop _ e n
+
+  pub set-held : {r : ℕ} → judge f ≡ 0 → r ≡ heldRefusal f t h → r ≡ setRefusal f t h
+  unfolding setRefusal
+  set-held z e = skip z e
+
+-- ---- lent memory
+
+-- the sizes of four cores, 0 for those from n on, added up
+four-sizes : (g : ℕ → ℕ) (n : ℕ) → n ≤ 4 → pick (ltb 0 n) (g 0) 0 + pick (ltb 1 n) (g 1) 0 + pick (ltb 2 n) (g 2) 0 + pick (ltb 3 n) (g 3) 0 ≡ total (listed g n 0)
+unfolding pick total listed
+four-sizes g zero h = refl
+four-sizes g (suc zero) h = omega arith
+four-sizes g (suc (suc zero)) h = omega arith
+four-sizes g (suc (suc (suc zero))) h = omega arith
+four-sizes g (suc (suc (suc (suc zero)))) h = omega arith
+four-sizes g (suc (suc (suc (suc (suc n))))) h = absurd (omega arith)
+
+size-of : (f : List ℕ) (k : ℕ) → coreLayout f k .size ≡ pick (ltb k (cores f)) (dataSize f k) 0
+unfolding coreLayout pick
+size-of f k = go (ltb k (cores f))
+  where
+    go : (b : Bool) → pick b (coreAt f k) noCore .size ≡ pick b (dataSize f k) 0
+    go true = refl
+    go false = refl
+
+pub sizes-added : (f : List ℕ) → cores f ≤ 4 → coreLayout f 0 .size + coreLayout f 1 .size + coreLayout f 2 .size + coreLayout f 3 .size ≡ total (sizesOf f)
+unfolding sizesOf
+sizes-added f h = rw (size-of f 0, size-of f 1, size-of f 2, size-of f 3) (four-sizes (dataSize f) (cores f) h)
+
+pub size-small : (f : List ℕ) → judge f ≡ 0 → (k : ℕ) → coreLayout f k .size ≤ 4096
+unfolding pick
+size-small f accepted k = rw (size-of f k) (go (ltb k (cores f)) refl)
+  where
+    go : (b : Bool) → ltb k (cores f) ≡ b → pick b (dataSize f k) 0 ≤ 4096
+    go true e = keeps-rules f accepted .core-rules k (ltb-true k (cores f) e) .most-data
+    go false e = omega arith
+
+-- ---- the order
+
+pub below-stop : (n : ℕ) (order : List ℕ) (i : ℕ) → i < length order → n ≤ getD order i 0 → allBelow n (drop i order) ≡ false
+below-stop n order i h e = rw (drop-cons order i 0 h, le-ltb (getD order i 0) n e)
+
+pub below-more : (n : ℕ) (order : List ℕ) (i : ℕ) → i < length order → getD order i 0 < n → allBelow n (drop i order) ≡ allBelow n (drop (i + 1) order)
+below-more n order i h e = rw (drop-cons order i 0 h, lt-ltb (getD order i 0) n e) (ap (λ (k : ℕ). allBelow n (drop k order)) (sym (add-one i)))
+
+pub below-done : (n : ℕ) (order : List ℕ) (i : ℕ) → length order ≤ i → i ≤ length order → allBelow n (drop i order) ≡ true
+below-done n order i h k = let e : i ≡ length order = omega arith in rw (e, drop-length)
+
+-- with n from the loaded layout
+pub below-laid : (f order : List ℕ) (l : Layout) → l ≡ layoutOf f → (b : Bool) → b ≡ allBelow (l .cores) order → allBelow (cores f) order ≡ b
+below-laid f order l e b q = sym (q ∙ ap (λ (x : Layout). allBelow (x .cores) order) e)
+
+-- ---- the chain of refusals
+
+module _ (f t : List ℕ) (h : State) (buffer shared : ℕ) (room named : Bool) where
+  pub refuse-file : {r : ℕ} → r ≡ judge f → r ≢ 0 → r ≡ callRefusal f t h buffer shared room named
+  unfolding callRefusal
+  refuse-file e n = stop _ e n
+
+  module _ (z : judge f ≡ 0) where
+    pub refuse-lent : lentFits f buffer shared ≡ false → 21 ≡ callRefusal f t h buffer shared room named
+    unfolding callRefusal
+    refuse-lent e = skip z (halt 20 _ (no _ 21 (rw e)))
+
+    module _ (a : lentFits f buffer shared ≡ true) where
+      pub refuse-room : room ≡ false → 21 ≡ callRefusal f t h buffer shared room named
+      unfolding callRefusal
+      refuse-room e = skip z (halt 20 _ (no _ 21 (rw (a, e))))
+
+      module _ (b : room ≡ true) where
+        fits : unless (both (lentFits f buffer shared) room) 21 ≡ 0
+        fits = yes _ 21 (rw (a, b))
+
+        pub refuse-held : {r : ℕ} → r ≡ heldRefusal f t h → r ≢ 0 → r ≡ callRefusal f t h buffer shared room named
+        unfolding callRefusal
+        refuse-held e n = skip z (skip fits (stop _ e n))
+
+        module _ (y : heldRefusal f t h ≡ 0) where
+          pub refuse-named : named ≡ false → 20 ≡ callRefusal f t h buffer shared room named
+          unfolding callRefusal
+          refuse-named e = skip z (skip fits (skip y (sym (no _ 20 e))))
+
+          pub refuse-none : named ≡ true → callRefusal f t h buffer shared room named ≡ 0
+          unfolding callRefusal
+          refuse-none e = next-none _ _ z (next-none _ _ fits (next-none _ _ y (yes _ 20 e)))
+
+-- what a call knows that is not refused
+pub record Granted (f t : List ℕ) (h : State) (buffer shared : ℕ) (room named : Bool) : Type 0 where
+  pub accepted : judge f ≡ 0
+  pub sound : traceRefusal f t ≡ 0
+  pub state : stateRefusal f t h ≡ 0
+  pub memory : buffer ≡ total (sizesOf f)
+  pub shared-memory : shared ≡ 1024
+  pub listed : room ≡ true
+  pub below : named ≡ true
+
+pub granted : (f t : List ℕ) (h : State) (buffer shared : ℕ) (room named : Bool) → callRefusal f t h buffer shared room named ≡ 0 → Granted f t h buffer shared room named
+unfolding callRefusal lentFits
+granted f t h buffer shared room named e =
+    let a = next-zero _ _ e in
+    let b = next-zero _ _ (a .1) in
+    let c = next-zero _ _ (b .1) in
+    let fits = both-true _ _ (unless-zero _ 20 (b .0)) in
+    let sizes = both-true _ _ (fits .0) in
+    record {
+      accepted = a .0;
+      sound = held-none f t h (c .0) .0;
+      state = held-none f t h (c .0) .1;
+      memory = eqb-true _ _ (sizes .0);
+      shared-memory = eqb-true _ _ (sizes .1);
+      listed = fits .1;
+      below = unless-zero _ 19 (c .1);
+    }
+
+-- ---- the answers
+
+module _ (f t : List ℕ) (h : State) (d sh order list : List ℕ) where
+  pub run-refused : {r : ℕ} (x : Ran) → r ≡ runRefusal f t h d sh order list → r ≢ 0 → x ≡ answerOf r h → left x d sh list ≡ runCall f t h d sh order list
+  unfolding runCall
+  run-refused x e n q =
+      ap (λ (y : Ran). left y d sh list) (q ∙ ap (λ (m : ℕ). answerOf m h) e)
+      ∙ sym (pick-false _ _ _ (ne-eqb _ _ (λ w. n (e ∙ w))))
+
+  pub run-granted : (x : Left) → runRefusal f t h d sh order list ≡ 0 → x ≡ ranCall f t h d sh order list → x ≡ runCall f t h d sh order list
+  unfolding runCall
+  run-granted x e q = q ∙ sym (pick-true _ _ _ (eq-eqb _ _ e))
+
+module _ (f : List ℕ) (d sh : List ℕ) where
+  pub fresh-file : {r : ℕ} → r ≡ judge f → r ≢ 0 → r ≡ freshRefusal f (length d) (length sh)
+  unfolding freshRefusal
+  fresh-file e n = stop _ e n
+
+  pub fresh-lent : judge f ≡ 0 → lentFits f (length d) (length sh) ≡ false → 21 ≡ freshRefusal f (length d) (length sh)
+  unfolding freshRefusal
+  fresh-lent z e = skip z (sym (no _ 21 e))
+
+  pub fresh-none : judge f ≡ 0 → lentFits f (length d) (length sh) ≡ true → freshRefusal f (length d) (length sh) ≡ 0
+  unfolding freshRefusal
+  fresh-none z e = next-none _ _ z (yes _ 21 e)
+
+  pub fresh-refused : {r : ℕ} (x : Ran) → r ≡ freshRefusal f (length d) (length sh) → r ≢ 0 → x ≡ answerOf r (tableOf 0 0) → left x d sh [] ≡ freshCall f d sh
+  unfolding freshCall
+  fresh-refused x e n q =
+      ap (λ (y : Ran). left y d sh []) (q ∙ ap (λ (m : ℕ). answerOf m (tableOf 0 0)) e)
+      ∙ sym (pick-false _ _ _ (ne-eqb _ _ (λ w. n (e ∙ w))))
+
+  pub fresh-granted : (x : Ran) (d′ sh′ : List ℕ) → freshRefusal f (length d) (length sh) ≡ 0 → x ≡ answerOf 0 (tableOf (cores f) 4) → d′ ≡ replicate (length d) 0 → sh′ ≡ replicate (length sh) 0
+      → left x d′ sh′ [] ≡ freshCall f d sh
+  unfolding freshCall
+  fresh-granted x d′ sh′ e q a b = ap₂ (λ (y : Ran) (l : List ℕ). left y l sh′ []) q a ∙ ap (λ (l : List ℕ). left (answerOf 0 (tableOf (cores f) 4)) (replicate (length d) 0) l []) b ∙ sym (pick-true _ _ _ (eq-eqb _ _ e))

@@ -1,0 +1,91 @@
+-- Each public call for every input: its refusal number, in the order file, 21, 22, 23, 20, or what it does. A refused call changes nothing.
+-- In order: refusals; the fresh state; a run; a step.
+use Prim.Native.Nat.{ℕ}
+use mathlib.Core.Bool.{Bool, true}
+use mathlib.Core.List.{List, [], _∷_}
+use lib.ListN.{length, replicate}
+use lib.Dec.{ltb, leb, eqb}
+use Rattle.verdict.specs.Verdict.{pick, both, next, unless}
+use Rattle.memory.specs.Memory.{total}
+use Rattle.protocol.specs.State.{cleared}
+use Rattle.protocol.specs.Step.{step, takingOf}
+use Rattle.records.specs.File.{cores}
+use Rattle.taskset.specs.Judge.{judge}
+use Rattle.taskset.specs.Task.{sizesOf}
+use Rattle.states.specs.declared.State.{State}
+use Rattle.states.specs.Task.{taskOf}
+use Rattle.states.specs.Machine.{stateOf, heldAfter, dataOf}
+use Rattle.states.specs.Preparing.{heldRefusal}
+use Rattle.runner.specs.declared.Ran.{Ran}
+use Rattle.runner.specs.Runs.{allBelow, Left, left, ranCall}
+
+-- ---- refusals
+
+-- the data buffer has the sum of the data sizes, and shared memory 1,024 bytes
+unfoldable pub lentFits : List ℕ → ℕ → ℕ → Bool
+lentFits f buffer shared = both (eqb buffer (total (sizesOf f))) (eqb shared 1024)
+
+-- of a file, a trace and a state, where no memory is lent
+unfoldable pub setRefusal : List ℕ → List ℕ → State → ℕ
+setRefusal f t h = next (judge f) (heldRefusal f t h)
+
+-- of a call that lends memory of these sizes, and an order list with room or not; `named` says that it names no core from n on
+unfoldable pub callRefusal : List ℕ → List ℕ → State → ℕ → ℕ → Bool → Bool → ℕ
+callRefusal f t h buffer shared room named =
+    next (judge f) (next (unless (both (lentFits f buffer shared) room) 21) (next (heldRefusal f t h) (unless named 20)))
+
+-- what a call answers that steps no core: the refusal number, no takings, a state
+abbrev pub answerOf : ℕ → State → Ran
+answerOf r h = record { refusal = r; taken = 0; state = h }
+
+-- ---- the fresh state
+
+-- n cores with these flags, all else 0
+unfoldable pub tableOf : ℕ → ℕ → State
+tableOf n flags = record {
+  count = n;
+  holder = 0;
+  cores = replicate 4 (cleared 0 flags);
+  places = replicate 64 0;
+  offsets = replicate 64 0;
+}
+
+unfoldable pub freshRefusal : List ℕ → ℕ → ℕ → ℕ
+freshRefusal f buffer shared = next (judge f) (unless (lentFits f buffer shared) 21)
+
+-- memories zero, mode 0, all registers 0, flags 4, semaphore free; a refused call gives a table of no cores
+unfoldable pub freshCall : List ℕ → List ℕ → List ℕ → Left
+freshCall f d sh =
+    pick (eqb (freshRefusal f (length d) (length sh)) 0)
+    (left (answerOf 0 (tableOf (cores f) 4)) (replicate (length d) 0) (replicate (length sh) 0) [])
+    (left (answerOf (freshRefusal f (length d) (length sh)) (tableOf 0 0)) d sh [])
+
+-- ---- a run: the steps of an order, which is judged whole before the first; its takings go to the front of the order list
+
+unfoldable pub runRefusal : List ℕ → List ℕ → State → List ℕ → List ℕ → List ℕ → List ℕ → ℕ
+runRefusal f t h d sh order list = callRefusal f t h (length d) (length sh) (leb (length order) (length list)) (allBelow (cores f) order)
+
+unfoldable pub runCall : List ℕ → List ℕ → State → List ℕ → List ℕ → List ℕ → List ℕ → Left
+runCall f t h d sh order list =
+    pick (eqb (runRefusal f t h d sh order list) 0)
+    (ranCall f t h d sh order list)
+    (left (answerOf (runRefusal f t h d sh order list) h) d sh list)
+
+-- ---- a step of core k; no order list is lent
+
+unfoldable pub stepRefusal : List ℕ → List ℕ → State → List ℕ → List ℕ → ℕ → ℕ
+stepRefusal f t h d sh k = callRefusal f t h (length d) (length sh) true (ltb k (cores f))
+
+abbrev pub stepped : List ℕ → List ℕ → State → List ℕ → List ℕ → ℕ → Left
+stepped f t h d sh k =
+    left
+    (record { refusal = 0; taken = length (takingOf (taskOf f t) k (stateOf f h d sh)); state = heldAfter (cores f) h (step (taskOf f t) k (stateOf f h d sh)) })
+    (dataOf (step (taskOf f t) k (stateOf f h d sh)))
+    (step (taskOf f t) k (stateOf f h d sh) .plant .shared)
+    []
+
+unfoldable pub stepCall : List ℕ → List ℕ → State → List ℕ → List ℕ → ℕ → Left
+stepCall f t h d sh k =
+    pick (eqb (stepRefusal f t h d sh k) 0)
+    (stepped f t h d sh k)
+    (left (answerOf (stepRefusal f t h d sh k) h) d sh [])
