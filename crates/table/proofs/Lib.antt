@@ -1,0 +1,4 @@
+pub mod Moves
+pub mod Ring
+pub mod Scan
+pub mod Next

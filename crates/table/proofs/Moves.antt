@@ -1,0 +1,93 @@
+-- A step of a core changes the state exactly where the core can move: each case of a step but rest moves the mode, the exchange number or the
+-- instruction count. In order: the tests by the mode; a core replaced by another; the eight cases. Assumes nothing.
+use mathlib.Core.Path.{_≡_, refl, sym, ap, _∙_}
+use mathlib.Core.Logic.{_≢_}
+use mathlib.Core.Bool.{Bool, true, false}
+use mathlib.Core.List.{List}
+use Prim.Native.Nat.{ℕ, zero, suc, _<_}
+use native.Mathlib.Omega.{arith}
+use borrow.Author.Tests.{lt-ltb, le-ltb, ne-eqb, ltb-true, eqb-true}
+use lib.Dec.{ltb}
+use lib.ListN.{length, drop, length-drop}
+use Rattle.verdict.proofs.Verdict.{absurd-bool, both-not}
+use Rattle.protocol.specs.Registers.{readAcquired, byteCopied, readReleased, writeAcquired, writeReleased}
+use Rattle.protocol.specs.State.{Core, State, Task, mode}
+use Rattle.protocol.specs.Step.{readTaken, readNext, readDone, writeTaken, writeNext, writeDone, step, Taking, takingOf}
+use Rattle.protocol.specs.Laws.{Laws}
+use Rattle.protocol.proofs.View.{after, at, there, Idle, Moves, rests, takesRead, readsOn, readsLast, runs, takesWrite, writesOn, writesLast, view}
+use Rattle.table.specs.Table.{canMoveIn, canMove}
+
+-- ---- the tests
+
+-- in every mode but 0 and 3 a core moves until it is stopped
+pub other-modes : (m holder count cycles : ℕ) → m ≢ 0 → m ≢ 3 → ltb m 5 ≡ canMoveIn m holder count cycles
+other-modes zero h n c a b = absurd (a refl)
+other-modes (suc zero) h n c a b = refl
+other-modes (suc (suc zero)) h n c a b = refl
+other-modes (suc (suc (suc zero))) h n c a b = absurd (b refl)
+other-modes (suc (suc (suc (suc zero)))) h n c a b = refl
+other-modes (suc (suc (suc (suc (suc m))))) h n c a b = le-ltb (suc (suc (suc (suc (suc m))))) 5 (omega arith)
+
+-- ---- steps
+
+-- what a test says of a step from s to s′: it changes something exactly if the test holds
+pub data Seen (b : Bool) (s s′ : State) : Type 0 where
+  changes : b ≡ true → s′ ≢ s → Seen b s s′
+  stays : b ≡ false → s′ ≡ s → Seen b s s′
+
+pub moving-changes : {b : Bool} {s s′ : State} → Seen b s s′ → b ≡ true → s′ ≢ s
+moving-changes (changes a n) e = n
+moving-changes (stays a n) e = absurd-bool (sym a ∙ e)
+
+pub changing-moves : {b : Bool} {s s′ : State} → Seen b s s′ → s′ ≢ s → b ≡ true
+changing-moves (changes a n) m = a
+changing-moves (stays a n) m = absurd (m n)
+
+pub resting-stays : {b : Bool} {s s′ : State} → Seen b s s′ → b ≡ false → s′ ≡ s
+resting-stays (changes a n) e = absurd-bool (sym e ∙ a)
+resting-stays (stays a n) e = n
+
+pub staying-rests : {b : Bool} {s s′ : State} → Seen b s s′ → s′ ≡ s → b ≡ false
+staying-rests (changes a n) e = absurd (n e)
+staying-rests (stays a n) e = a
+
+module _ (t : Task) (k : ℕ) (s : State) where
+  -- another core in place of core k is another state
+  other : (c : Core) (sh : List ℕ) (h : ℕ) → k < length (s .plant .cores) → c ≢ at s k → after s k c sh h ≢ s
+  other c sh h i n e = n (sym (there s k c i) ∙ ap (λ (x : State). at x k) e)
+
+  abbrev able : Bool
+  able = canMove (s .holder) (length (t .samples k)) (at s k .registers)
+
+  resting : Idle t k s → (m : ℕ) → mode (at s k) ≡ m → canMoveIn m (s .holder) (length (t .samples k)) (at s k .registers .cycles) ≡ false
+  resting z zero e =
+      both-not _ _
+      (λ a b.
+      let l : at s k .registers .cycles < length (t .samples k) = ltb-true _ _ b in
+      let none : length (drop (at s k .registers .cycles) (t .samples k)) ≡ 0 = ap length (z .no-read (eqb-true _ _ a) e) in
+      omega (arith, length-drop (at s k .registers .cycles) (t .samples k)))
+  resting z (suc zero) e = absurd (z .still .0 e)
+  resting z (suc (suc zero)) e = absurd (z .still .1 e)
+  resting z (suc (suc (suc zero))) e = ne-eqb _ _ (λ f. z .no-write f e)
+  resting z (suc (suc (suc (suc zero)))) e = absurd (z .still .2 e)
+  resting z (suc (suc (suc (suc (suc m))))) e = refl
+
+  seen : Laws t → (s′ : State) (ts : List Taking) → Moves t k s s′ ts → Seen able s s′
+  unfolding canMove readTaken readAcquired readNext byteCopied readDone readReleased writeTaken writeAcquired writeNext writeDone writeReleased
+  seen l s′ ts (rests z) = stays (resting z _ refl) refl
+  seen l s′ ts (takesRead r rs i f e d) =
+      let some : length (drop (at s k .registers .cycles) (t .samples k)) ≡ suc (length rs) = ap length d in
+      changes (rw (e, f, lt-ltb (at s k .registers .cycles) (length (t .samples k)) (omega (arith, length-drop (at s k .registers .cycles) (t .samples k)))))
+      (other _ _ _ i (λ z. omega (arith, ap (λ (c : Core). c .registers .mode) z)))
+  seen l s′ ts (readsOn m ms i e d) = changes (rw e) (other _ _ _ i (λ z. omega (arith, ap (λ (c : Core). c .registers .exchange) z)))
+  seen l s′ ts (readsLast i e d) = changes (rw e) (other _ _ _ i (λ z. omega (arith, ap (λ (c : Core). c .registers .mode) z)))
+  seen l s′ ts (runs i e) =
+      changes (rw e) (other _ _ _ i (λ z.
+      let same : mode (t .instruction k (at s k)) ≡ mode (at s k) = ap (λ (c : Core). c .registers .mode) z in
+      omega (arith, l .counted k (at s k) e (same ∙ e), ap (λ (c : Core). c .registers .count) z)))
+  seen l s′ ts (takesWrite i f e) = changes (rw (e, f)) (other _ _ _ i (λ z. omega (arith, ap (λ (c : Core). c .registers .mode) z)))
+  seen l s′ ts (writesOn m ms i e d) = changes (rw e) (other _ _ _ i (λ z. omega (arith, ap (λ (c : Core). c .registers .exchange) z)))
+  seen l s′ ts (writesLast i e d) = changes (rw e) (other _ _ _ i (λ z. omega (arith, ap (λ (c : Core). c .registers .mode) z)))
+
+  pub step-seen : Laws t → Seen able s (step t k s)
+  step-seen l = seen l (step t k s) (takingOf t k s) (view t k s)

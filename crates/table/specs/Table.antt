@@ -1,0 +1,50 @@
+-- Document 01, the core table: "the next core to move is the first after a given one, round the ring and that one last, whose step would
+-- change something". In order: whether a core can move, by its mode; the order round the ring; the first core that moves.
+use Prim.Native.Nat.{ℕ, zero, suc, _+_, _%_}
+use mathlib.Core.Bool.{Bool, true, false}
+use mathlib.Core.List.{List, [], _∷_}
+use lib.Dec.{ltb, eqb}
+use lib.ListN.{getD}
+use Rattle.verdict.specs.Verdict.{pick, both}
+use Rattle.protocol.specs.declared.Registers.{Registers}
+use Rattle.records.specs.File.{cores}
+use Rattle.taskset.specs.Task.{listed}
+use Rattle.taskset.specs.Trace.{recordCount}
+use Rattle.states.specs.declared.State.{State}
+use Rattle.states.specs.Machine.{none}
+use Rattle.table.specs.declared.Moving.{Moving}
+use Rattle.table.specs.declared.Moving.the-variants.{Core, Nothing}
+
+-- ---- a core
+
+-- by the mode: in 0 while the semaphore is free and records are left, in 1, 2 and 4 always, in 3 while it is free, in 5 never
+abbrev pub canMoveIn : ℕ → ℕ → ℕ → ℕ → Bool
+canMoveIn zero holder count cycles = both (eqb holder 0) (ltb cycles count)
+canMoveIn (suc zero) holder count cycles = true
+canMoveIn (suc (suc zero)) holder count cycles = true
+canMoveIn (suc (suc (suc zero))) holder count cycles = eqb holder 0
+canMoveIn (suc (suc (suc (suc zero)))) holder count cycles = true
+canMoveIn (suc (suc (suc (suc (suc m))))) holder count cycles = false
+
+-- a core with these registers and so many input records, at the semaphore's holder
+unfoldable pub canMove : ℕ → ℕ → Registers → Bool
+canMove holder count r = canMoveIn (r .mode) holder count (r .cycles)
+
+-- core k of a state
+unfoldable pub moves : List ℕ → List ℕ → State → ℕ → Bool
+moves f t s k = canMove (s .holder) (recordCount f t k) (getD (s .cores) k none)
+
+-- ---- the table
+
+-- core number i after a given one, round the ring of n cores: the given one itself for n
+abbrev pub roundFrom : ℕ → ℕ → ℕ → ℕ
+roundFrom n given i = (given + i) % n
+
+-- the first core of a list that moves
+abbrev pub firstMoving : (ℕ → Bool) → List ℕ → Moving
+firstMoving moving [] = Nothing
+firstMoving moving (k ∷ ks) = pick (moving k) (Core k) (firstMoving moving ks)
+
+-- the cores from the first after the given one to the given one itself
+unfoldable pub nextMoving : List ℕ → List ℕ → State → ℕ → Moving
+nextMoving f t s given = firstMoving (moves f t s) (listed (roundFrom (cores f) given) (cores f) 1)

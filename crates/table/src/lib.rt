@@ -1,0 +1,55 @@
+// The core table: which core moves next.
+ghost use mathlib.Core.Path.{_≡_};
+ghost use Prim.Native.Nat.{_<_};
+ghost use Rattle.records.specs.File.{cores};
+ghost use Rattle.states.specs.Set.{Set};
+ghost use Rattle.states.specs.Tasks.{tasksOf};
+ghost use Rattle.table.specs.Table.{canMove, nextMoving};
+use protocol::Registers;
+use states::CoreTask;
+use states::State;
+
+// The core that moves next; none, where every core is stopped or out of records.
+pub enum Moving {
+    Core(u8),
+    Nothing,
+}
+
+// A step of a core with these registers and so many input records would change something.
+pub fn can_move(count: usize, holder: u8, r: Registers) -> bool
+    ensures { λ ok. ⌜ ok ≡ canMove holder count r ⌝ }
+{
+    if r.mode == protocol::BETWEEN {
+        if holder != 0 {
+            return false;
+        }
+        return (r.cycles as usize) < count;
+    }
+    if r.mode == protocol::WAITING {
+        return holder == 0;
+    }
+    r.mode < protocol::STOPPED
+}
+
+// The first core after `given`, round the ring and `given` last, whose step would change something.
+pub fn next_moving(
+    file: &[u8],
+    trace: &[u8],
+    tasks: [CoreTask; 4],
+    n: usize,
+    s: State,
+    given: u8,
+) -> Moving
+    requires { ⌜ Set (now file) (now trace) × (tasks ≡ tasksOf (now file) (now trace)) × (n ≡ cores (now file)) × (given < n) ⌝ }
+    ensures { λ r. ⌜ r ≡ nextMoving (now (file .entry)) (now (trace .entry)) s given ⌝ }
+{
+    let mut i: usize = 1;
+    while i <= n {
+        let k = (given as usize + i) % n;
+        if can_move(tasks[k].count, s.holder, s.cores[k]) {
+            return Moving::Core(k as u8);
+        }
+        i += 1;
+    }
+    Moving::Nothing
+}
