@@ -1,7 +1,7 @@
 -- `next-core`: what the answer on the next core says of steps. A fit state's semaphore is held only by a core in an exchange, which moves; so
 -- where no core moves it is free, and none waits. In order: a core and its step; the first; none. Assumes nothing.
 use mathlib.Core.Path.{_≡_, refl, sym, ap, _∙_}
-use mathlib.Core.Logic.{_⊎_, inl, inr}
+use mathlib.Core.Logic.{inl, inr}
 use mathlib.Core.Bool.{Bool, true, false}
 use mathlib.Core.List.{List}
 use Prim.Native.Nat.{ℕ, zero, suc, _≤_, _<_}
@@ -10,7 +10,7 @@ use borrow.Author.Tests.{ltb-true, ltb-false}
 use lib.Dec.{ltb, eqb}
 use lib.ListN.{length, getD}
 use Rattle.verdict.proofs.Verdict.{absurd-bool, both-not}
-use Rattle.protocol.specs.State.{Core as Whole, State, absent, core, mode}
+use Rattle.protocol.specs.State.{Core as Whole, State, absent, mode}
 use Rattle.protocol.specs.Step.{step}
 use Rattle.protocol.specs.Laws.{Holding}
 use Rattle.protocol.proofs.View.{at, inside}
@@ -25,7 +25,7 @@ use Rattle.states.specs.Machine.{none, coreIn, stateIn, stateOf}
 use Rattle.states.specs.declared.State.{State as Held}
 use Rattle.states.proofs.Executes.{executes}
 use Rattle.table.specs.Table.{canMoveIn, canMove, moves, roundFrom, nextMoving}
-use Rattle.table.specs.Next.{First, Still, Done, NextCore}
+use Rattle.table.specs.Next.{First, AtRest, DoneAt, Done, NextCore}
 use Rattle.table.specs.declared.Moving.the-variants.{Core, Nothing}
 use Rattle.table.proofs.Moves.{Seen, moving-changes, changing-moves, resting-stays, staying-rests, step-seen}
 use Rattle.table.proofs.Ring.{found, none-found, all-passed, distance-to, round-inside, given-last}
@@ -74,20 +74,20 @@ module _ (f t : List ℕ) (h : Held) (d sh : List ℕ) (ok : Set f t) (fit : Fit
 
     -- ---- none
 
-    none-still : nextMoving f t h given ≡ Nothing → Still (taskOf f t) (cores f) whole
+    none-rest : nextMoving f t h given ≡ Nothing → AtRest (taskOf f t) (cores f) whole
     unfolding nextMoving
-    none-still e k l =
+    none-rest e k l =
         let x = distance-to (cores f) given k g l in
         resting-stays (seen k l) (rw (x .there) at (none-found (moves f t h) (roundFrom (cores f) given) (cores f) 1 e (x .distance) (x .least) (omega (arith, x .most))))
 
-    still-none : Still (taskOf f t) (cores f) whole → nextMoving f t h given ≡ Nothing
+    rest-none : AtRest (taskOf f t) (cores f) whole → nextMoving f t h given ≡ Nothing
     unfolding nextMoving
-    still-none s =
+    rest-none s =
         all-passed (moves f t h) (roundFrom (cores f) given) (cores f) 1
         (λ e a b. let l = round-inside (cores f) given e g in staying-rests (seen (roundFrom (cores f) given e) l) (s (roundFrom (cores f) given e) l))
 
   -- where no step changes anything the semaphore is free: its holder, in an exchange, would move
-  free : Still (taskOf f t) (cores f) whole → (j : ℕ) → whole .holder ≡ j → j ≡ 0
+  free : AtRest (taskOf f t) (cores f) whole → (j : ℕ) → whole .holder ≡ j → j ≡ 0
   free s zero e = refl
   free s (suc j) e = absurd (go (fit .held .holding j e))
     where
@@ -101,8 +101,8 @@ module _ (f t : List ℕ) (h : Held) (d sh : List ℕ) (ok : Set f t) (fit : Fit
       go (inl q) = let l = there 1 q (omega arith) in never l (moves-in j l 1 q)
       go (inr q) = let l = there 4 q (omega arith) in never l (moves-in j l 4 q)
 
-  still-done : Still (taskOf f t) (cores f) whole → Done f t whole
-  still-done s k l = go (mode (at whole k)) refl
+  rest-done : AtRest (taskOf f t) (cores f) whole → Done f t whole
+  rest-done s k l = go (mode (at whole k)) refl
     where
       no : moves f t h k ≡ true → ⊥
       no q = absurd-bool (sym (staying-rests (seen k l) (s k l)) ∙ q)
@@ -116,7 +116,7 @@ module _ (f t : List ℕ) (h : Held) (d sh : List ℕ) (ok : Set f t) (fit : Fit
           let left : recordCount f t k ≤ at whole k .registers .cycles = ltb-false _ _ q in
           omega (arith, fit .each k l .cycles)
 
-      go : (m : ℕ) → mode (at whole k) ≡ m → (mode (at whole k) ≡ 5) ⊎ ((mode (at whole k) ≡ 0) × (at whole k .registers .cycles ≡ recordCount f t k))
+      go : (m : ℕ) → mode (at whole k) ≡ m → DoneAt f t whole k
       go zero e = inr (e, spent e _ refl)
       go (suc zero) e = absurd (no (moves-in k l 1 e))
       go (suc (suc zero)) e = absurd (no (moves-in k l 2 e))
@@ -125,10 +125,10 @@ module _ (f t : List ℕ) (h : Held) (d sh : List ℕ) (ok : Set f t) (fit : Fit
       go (suc (suc (suc (suc (suc zero))))) e = inl e
       go (suc (suc (suc (suc (suc (suc m)))))) e = absurd (let z : ⊥ = omega (arith, fit .each k l .modes) in z)
 
-  done-still : Done f t whole → Still (taskOf f t) (cores f) whole
-  done-still x k l = resting-stays (seen k l) (go (x k l))
+  done-rest : Done f t whole → AtRest (taskOf f t) (cores f) whole
+  done-rest x k l = resting-stays (seen k l) (go (x k l))
     where
-      go : (mode (at whole k) ≡ 5) ⊎ ((mode (at whole k) ≡ 0) × (at whole k .registers .cycles ≡ recordCount f t k)) → moves f t h k ≡ false
+      go : DoneAt f t whole k → moves f t h k ≡ false
       go (inl e) = moves-in k l 5 e
       go (inr y) =
           moves-in k l 0 (y .0)
@@ -141,7 +141,7 @@ module _ (f t : List ℕ) (h : Held) (d sh : List ℕ) (ok : Set f t) (fit : Fit
   next-core given g = record {
     moves-exactly = λ k l. (moving-changes (seen k l), changing-moves (seen k l));
     next-is-first = first-core given g;
-    none-means-still = (none-still given g, still-none given g);
-    none-means-done = (λ e. still-done (none-still given g e), λ x. still-none given g (done-still x));
-    still-means-done = (still-done, done-still);
+    none-means-rest = (none-rest given g, rest-none given g);
+    none-means-done = (λ e. rest-done (none-rest given g e), λ x. rest-none given g (done-rest x));
+    rest-means-done = (rest-done, done-rest);
   }

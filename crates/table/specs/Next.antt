@@ -28,14 +28,16 @@ pub record First (t : Task) (n : ℕ) (s : State) (given j : ℕ) : Type 0 where
   pub given-last : j ≡ given → distance ≡ n
 
 -- No step of any of n cores changes anything
-abbrev pub Still : Task → ℕ → State → Type 0
-Still t n s = (k : ℕ) → k < n → step t k s ≡ s
+abbrev pub AtRest : Task → ℕ → State → Type 0
+AtRest t n s = (k : ℕ) → k < n → step t k s ≡ s
 
--- Every core is stopped or out of records
+-- Core k is stopped or out of records
+abbrev pub DoneAt : List ℕ → List ℕ → State → ℕ → Type 0
+DoneAt f t s k = (mode (core (s .plant) k) ≡ 5) ⊎ ((mode (core (s .plant) k) ≡ 0) × (core (s .plant) k .registers .cycles ≡ recordCount f t k))
+
+-- Every core is
 abbrev pub Done : List ℕ → List ℕ → State → Type 0
-Done f t s =
-    (k : ℕ) → k < cores f
-    → (mode (core (s .plant) k) ≡ 5) ⊎ ((mode (core (s .plant) k) ≡ 0) × (core (s .plant) k .registers .cycles ≡ recordCount f t k))
+Done f t s = (k : ℕ) → k < cores f → DoneAt f t s k
 
 -- The file f on the trace t, a caller's state h, which is s with the lent memories, and a given core.
 pub record NextCore (f t : List ℕ) (h : Held) (s : State) (given : ℕ) : Type 0 where
@@ -44,6 +46,6 @@ pub record NextCore (f t : List ℕ) (h : Held) (s : State) (given : ℕ) : Type
   -- A core that is named is the first.
   pub next-is-first : (j : ℕ) → nextMoving f t h given ≡ Core j → First (taskOf f t) (cores f) s given j
   -- "None" says that no step changes anything, and that every core is stopped or out of records: these three are the same.
-  pub none-means-still : (nextMoving f t h given ≡ Nothing) ↔ Still (taskOf f t) (cores f) s
+  pub none-means-rest : (nextMoving f t h given ≡ Nothing) ↔ AtRest (taskOf f t) (cores f) s
   pub none-means-done : (nextMoving f t h given ≡ Nothing) ↔ Done f t s
-  pub still-means-done : Still (taskOf f t) (cores f) s ↔ Done f t s
+  pub rest-means-done : AtRest (taskOf f t) (cores f) s ↔ Done f t s

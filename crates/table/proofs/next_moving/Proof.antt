@@ -41,7 +41,7 @@ cast-t22 : tie.Need-cast-t22 Inv-loop μ-loop
 cast-t22 c = omega (arith, inside-four _ _ (c .before .before .before .before .before .before .before .args .t5) _ _ _ (c .before .before .before .before .before .before .before .pre) (c .before .before .before .before .loop .i))
 
 returns : tie.Need-returns Inv-loop μ-loop
-returns c = scan-named _ _ (c .before .before .before .before .before .before .before .args .t5) _ _ _ (c .before .before .before .before .before .before .before .pre) (c .before .before .before .before .loop .i) _ (c .before .before .before .before .loop .inv) (c .before .before .before .loop-test .taken) (c .before .can-move .ensures) (c .if1 .taken)
+returns c = scan-named _ _ (c .before .before .before .before .before .before .before .args .t5) _ _ _ (c .before .before .before .before .before .before .before .pre) (c .before .before .before .before .loop .i) _ (c .before .before .before .before .loop .inv) (omega (arith, c .before .before .before .loop-test .taken)) (c .before .can-move .ensures) (c .if1 .taken)
 
 add-i : tie.Need-add-i Inv-loop μ-loop
 add-i c = omega (arith, c .before .before .before .before .before .before .before .pre .0 .few, c .before .before .before .before .before .before .before .pre .2)
@@ -50,10 +50,10 @@ loop-less : tie.Need-loop-less Inv-loop μ-loop
 loop-less c = omega arith
 
 loop-again : tie.Need-loop-again Inv-loop μ-loop
-loop-again c = scan-more _ _ (c .before .before .before .before .before .before .before .args .t5) _ _ _ (c .before .before .before .before .before .before .before .pre) (c .before .before .before .before .loop .i) _ (c .before .before .before .before .loop .inv) (c .before .before .before .loop-test .taken) (c .before .can-move .ensures) (c .if1 .left)
+loop-again c = scan-more _ _ (c .before .before .before .before .before .before .before .args .t5) _ _ _ (c .before .before .before .before .before .before .before .pre) (c .before .before .before .before .loop .i) _ (c .before .before .before .before .loop .inv) (omega (arith, c .before .before .before .loop-test .taken)) (c .before .can-move .ensures) (c .if1 .left)
 
 returns-2 : tie.Need-returns-2 Inv-loop μ-loop
-returns-2 c = scan-none _ _ (c .before .before .before .before .args .t5) _ _ _ (c .before .before .before .before .pre) (c .before .loop .i) (c .before .loop .inv) (c .loop-test .left)
+returns-2 c = scan-none _ _ (c .before .before .before .before .args .t5) _ _ _ (c .before .before .before .before .pre) (c .before .loop .i) (c .before .loop .inv) (omega (arith, c .loop-test .left))
 
 pub next-moving-spec : {M : Type 1} → statement M
 next-moving-spec =
