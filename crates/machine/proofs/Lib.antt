@@ -3,3 +3,4 @@ pub mod Calls
 pub mod Aims
 pub mod Judged
 pub mod Steps
+pub mod Marked

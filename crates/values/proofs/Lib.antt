@@ -7,4 +7,3 @@ pub mod Bits
 pub mod Reading
 pub mod Commands
 pub mod Bounds
-pub mod Marked

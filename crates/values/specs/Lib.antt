@@ -2,4 +2,3 @@ pub mod Types
 pub mod Width
 pub mod Values
 pub mod Commands
-pub mod Marked

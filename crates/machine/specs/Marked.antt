@@ -1,0 +1,93 @@
+-- The marked (M) bench values of document 01 as one table: each case with what the definitions give and what the document says. The theorem
+-- for all of them is `marked` (proofs/Marked). In order: the kinds of cases; the two latches; the step against a held semaphore; the table.
+use Prim.Native.Nat.{ℕ}
+use mathlib.Core.Bool.{true, false}
+use mathlib.Core.List.{List, [], _∷_}
+use mathlib.Core.Logic.{_⊎_, inl, inr}
+use lib.IntN.{pos, negsuc}
+use lib.Ieee.{fin}
+use lib.ListN.{replicate}
+use Rattle.values.specs.Values.{typed, stored, readValue}
+use Rattle.values.specs.Commands.{command}
+use Rattle.values.specs.declared.Value.{Value}
+use Rattle.values.specs.declared.Value.the-variants.{Bool as Truth, Signed, Unsigned, Real}
+use Rattle.protocol.specs.State.{Core, State, Task, cleared}
+use Rattle.protocol.specs.Step.{step}
+
+-- ---- the kinds of cases
+
+-- `does code t a b r`: the command on a and b of type t gives r; `reads t bytes v`: the bytes stand for v; `latches f s r q v`: from Q = q, the
+-- latch f gives v at the inputs s and r; `waits t k s`: a step of core k changes nothing in s
+pub data Case : Type 0 where
+  does : ℕ → ℕ → Value → Value → Value → Case
+  reads : ℕ → List ℕ → Value → Case
+  latches : (Value → Value → Value → Value) → Value → Value → Value → Value → Case
+  waits : Task → ℕ → State → Case
+
+-- a command on values: the operands are stored, the result is read back
+unfoldable pub resultOf : ℕ → ℕ → Value → Value → Value
+resultOf code t a b = typed t (command code t (stored t a) (stored t b))
+
+-- what the definitions give, a value or a state
+unfoldable pub given : Case → Value ⊎ State
+given (does code t a b v) = inl (resultOf code t a b)
+given (reads t bytes v) = inl (readValue bytes t 0)
+given (latches f s r q v) = inl (f s r q)
+given (waits t k s) = inr (step t k s)
+
+-- what the document says
+unfoldable pub said : Case → Value ⊎ State
+said (does code t a b v) = inl v
+said (reads t bytes v) = inl v
+said (latches f s r q v) = inl v
+said (waits t k s) = inr s
+
+-- ---- the latches, by the BOOL commands NOT (27), AND (24) and OR (25)
+
+abbrev pub notB : Value → Value
+notB a = resultOf 27 0 a a
+
+abbrev pub andB : Value → Value → Value
+andB a b = resultOf 24 0 a b
+
+abbrev pub orB : Value → Value → Value
+orB a b = resultOf 25 0 a b
+
+-- NOT R AND (Q OR S)
+unfoldable pub RS : Value → Value → Value → Value
+RS s r q = andB (notB r) (orB q s)
+
+-- S OR (NOT R AND Q)
+unfoldable pub SR : Value → Value → Value → Value
+SR s r q = orB s (andB (notB r) q)
+
+-- ---- a held semaphore
+
+-- a core with four bytes of data, in a mode
+abbrev pub coreInMode : ℕ → Core
+coreInMode mode = record { registers = cleared mode 0; stack = record { places = replicate 16 0; offsets = replicate 16 0 }; memory = replicate 4 0 }
+
+-- core 0 waits to write, and core 1, in its writing exchange, holds the semaphore
+unfoldable pub heldByOther : State
+heldByOther = record { plant = record { cores = coreInMode 3 ∷ coreInMode 4 ∷ []; shared = replicate 1024 0 }; holder = 2 }
+
+-- ---- the table, in the document's order; its step is one of any task
+
+unfoldable pub cases : Task → List Case
+cases t =
+    does 16 3 (Signed (pos 32767)) (Signed (pos 1)) (Signed (negsuc 32767))  -- INT 32767 + 1 = -32768
+    ∷ does 16 2 (Unsigned 200) (Unsigned 100) (Unsigned 44)  -- BYTE 200 + 100 = 44
+    ∷ does 18 4 (Unsigned 65535) (Unsigned 65535) (Unsigned 1)  -- WORD 65535 × 65535 = 1
+    ∷ does 19 1 (Signed (negsuc 6)) (Signed (pos 2)) (Signed (negsuc 2))  -- SINT -7 DIV 2 = -3
+    ∷ does 20 1 (Signed (negsuc 6)) (Signed (pos 2)) (Signed (negsuc 0))  -- SINT -7 MOD 2 = -1
+    ∷ does 19 1 (Signed (negsuc 127)) (Signed (negsuc 0)) (Signed (negsuc 127))  -- SINT -128 DIV -1 = -128
+    ∷ does 30 2 (Unsigned 129) (Unsigned 1) (Unsigned 3)  -- BYTE 129 ROL 1 = 3
+    ∷ does 28 2 (Unsigned 1) (Unsigned 8) (Unsigned 0)  -- BYTE 1 SHL 8 = 0
+    ∷ reads 11 (0x88 ∷ 0x13 ∷ 0 ∷ 0 ∷ []) (Signed (pos 5000))  -- bytes 88 13 00 00 hex as TIME = 5,000
+    ∷ does 16 9 (Real (fin false 1 (pos 24))) (Real (fin false 1 (pos 0))) (Real (fin false 1 (pos 24)))  -- REAL 16777216 + 1 = 16777216
+    ∷ latches RS (Truth true) (Truth true) (Truth false) (Truth false)  -- S = R = 1 gives Q 0 in RS, from Q = 0
+    ∷ latches RS (Truth true) (Truth true) (Truth true) (Truth false)  -- and from Q = 1
+    ∷ latches SR (Truth true) (Truth true) (Truth false) (Truth true)  -- and 1 in SR, from Q = 0
+    ∷ latches SR (Truth true) (Truth true) (Truth true) (Truth true)  -- and from Q = 1
+    ∷ waits t 0 heldByOther  -- a step in mode 3 while another core holds the semaphore changes nothing
+    ∷ []
