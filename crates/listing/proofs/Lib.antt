@@ -1,0 +1,5 @@
+pub mod Writing
+pub mod Numbers
+pub mod Takings
+pub mod Lines
+pub mod Example

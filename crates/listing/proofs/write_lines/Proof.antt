@@ -1,0 +1,81 @@
+-- `listing::write_lines` meets its contract. The invariant: the lines that are left are still to be written, and each before took at most 30 bytes.
+-- Assumes nothing.
+use borrow.Author.Needs.{needs}
+use Prim.Native.Nat.{ℕ, _+_, _-_, _*_, _≤_, _<_, min}
+use mathlib.Core.Path.{_≡_, refl, sym, ap, _∙_}
+use native.Mathlib.Omega.{arith}
+use lib.ListN.{length, take, drop, getD}
+use Rattle.states.specs.Machine.{none}
+use Rattle.listing.specs.Listing.{coreLine, coreLines}
+use Rattle.listing.proofs.Writing.{Writing, writing-start, writing-more, writing-end}
+use Rattle.listing.proofs.Lines.{first-line, last-line}
+use Rattle.listing.proofs.write_lines.Statement.{statement}
+use Rattle.listing.proofs.write_lines.Tie as tie
+
+abbrev Inv-loop : tie.InvT-loop
+Inv-loop out₀ at n cores lines next₀ k₀ out next k =
+    (k ≤ lines) × (length out ≡ length out₀) × (next ≤ at + 30 * k)
+    × Writing out₀ at (coreLines 0 (take n cores)) out next (coreLines k (drop k (take n cores)))
+
+abbrev μ-loop : tie.MeasureT-loop
+μ-loop out₀ at n cores lines next₀ k₀ out next k = lines - k
+
+table-of-requires : tie.Need-table-of-requires Inv-loop μ-loop
+table-of-requires c κs = search needs
+
+least-requires : tie.Need-least-requires Inv-loop μ-loop
+least-requires c κs = search needs
+
+loop-holds : tie.Need-loop-holds Inv-loop μ-loop
+loop-holds c = (omega arith, search needs, omega arith, writing-start _ _ _)
+
+mul-write-line : tie.Need-mul-write-line Inv-loop μ-loop
+mul-write-line c = search needs
+
+array-copy-out-write-line : tie.Need-array-copy-out-write-line Inv-loop μ-loop
+array-copy-out-write-line c = search needs
+
+write-line-requires : tie.Need-write-line-requires Inv-loop μ-loop
+write-line-requires c κs = (omega arith, omega arith)
+
+add-k : tie.Need-add-k Inv-loop μ-loop
+add-k c = search needs
+
+loop-less : tie.Need-loop-less Inv-loop μ-loop
+loop-less c = omega arith
+
+loop-again : tie.Need-loop-again Inv-loop μ-loop
+loop-again c =
+    let h : c .before .before .before .before .before .before .loop .k < min (c .before .before .before .before .before .before .before .before .before .before .args .n) (length (c .before .before .before .before .before .before .before .before .table-of .result)) = omega (arith, c .before .before .before .before .before .before .before .before .table-of .ensures .1) in (
+      omega arith,
+      search needs,
+      omega arith,
+      writing-more (coreLine (c .before .before .before .before .before .before .loop .k) (getD (c .before .before .before .before .before .before .before .before .table-of .result) (c .before .before .before .before .before .before .loop .k) none)) (coreLines (c .before .before .before .before .before .before .loop .k + 1) (drop (c .before .before .before .before .before .before .loop .k + 1) (take (c .before .before .before .before .before .before .before .before .before .before .args .n) (c .before .before .before .before .before .before .before .before .table-of .result))))
+          (c .before .before .before .before .before .before .loop .inv .3) (first-line (c .before .before .before .before .before .before .before .before .table-of .result) (c .before .before .before .before .before .before .before .before .before .before .args .n) (c .before .before .before .before .before .before .loop .k) none h) (c .before .before .write-line .ensures .0) (c .before .before .write-line .ensures .1),
+    )
+
+same-length : tie.Need-same-length Inv-loop μ-loop
+same-length c = search needs
+
+returns : tie.Need-returns Inv-loop μ-loop
+returns c =
+    let w = writing-end (c .before .loop .inv .3) (last-line (c .before .before .before .table-of .result) (c .before .before .before .before .before .args .n) (c .before .loop .k) (omega (arith, c .before .before .before .table-of .ensures .1))) in
+    rw (sym (c .before .before .before .table-of .ensures .0)) (w .0, w .1, omega arith)
+
+pub write-lines-spec : {M : Type 1} → statement M
+write-lines-spec =
+    tie.close
+    (tie.spec
+    Inv-loop
+    μ-loop
+    table-of-requires
+    least-requires
+    loop-holds
+    mul-write-line
+    array-copy-out-write-line
+    write-line-requires
+    add-k
+    loop-less
+    loop-again
+    same-length
+    returns)

@@ -1,0 +1,53 @@
+-- `listing::write_taking` meets its contract, byte by byte. Assumes nothing.
+use mathlib.Core.Path.{refl, ap, _∙_}
+use mathlib.Core.List.{[], _∷_}
+use Prim.Native.Nat.{ℕ, _%_}
+use native.Mathlib.Omega.{arith}
+use Rattle.memory.specs.Memory.{splice}
+use Rattle.listing.specs.Listing.{takingText, space, digit, kind}
+use Rattle.listing.proofs.Writing.{writing-start, writing-more, writing-last}
+use borrow.Author.Needs.{needs}
+use Rattle.listing.proofs.write_taking.Statement.{statement}
+use Rattle.listing.proofs.write_taking.Tie as tie
+
+put-requires : tie.Need-put-requires
+put-requires c κs = search needs
+
+add-put : tie.Need-add-put
+add-put c = search needs
+
+put-requires-2 : tie.Need-put-requires-2
+put-requires-2 c κs = search needs
+
+kind-of-requires : tie.Need-kind-of-requires
+kind-of-requires c κs = search needs
+
+put-requires-3 : tie.Need-put-requires-3
+put-requires-3 c κs = search needs
+
+same-length : tie.Need-same-length
+same-length c = search needs
+
+returns : tie.Need-returns
+unfolding takingText
+returns c =
+    let w = writing-last
+    (writing-more (digit (c .before .before .before .before .before .before .before .before .before .before .before .before .before .before .args .byte % 16) ∷ []) (kind (c .before .before .before .before .before .before .before .before .before .before .before .before .before .before .args .byte) ∷ [])
+    (writing-more (space ∷ []) (digit (c .before .before .before .before .before .before .before .before .before .before .before .before .before .before .args .byte % 16) ∷ kind (c .before .before .before .before .before .before .before .before .before .before .before .before .before .before .args .byte) ∷ [])
+    (writing-start _ _ (takingText (c .before .before .before .before .before .before .before .before .before .before .before .before .before .before .args .byte))) refl (c .before .before .before .before .before .before .before .before .before .before .before .put .ensures .0) (c .before .before .before .before .before .before .before .before .before .before .before .put .ensures .1))
+    refl (c .before .before .before .before .before .before .before .put2 .ensures .0) (c .before .before .before .before .before .before .before .put2 .ensures .1))
+    (c .before .before .put3 .ensures .0 ∙ ap (λ (x : ℕ). splice (c .before .before .before .before .before .before .before .put2 .last .0) (c .before .before .before .before .before .before .before .put2 .result) (x ∷ [])) (c .before .before .before .kind-of .ensures))
+    (c .before .before .put3 .ensures .1) in
+    (w .0, omega arith)
+
+pub write-taking-spec : {M : Type 1} → statement M
+write-taking-spec =
+    tie.close
+    (tie.spec
+    put-requires
+    add-put
+    put-requires-2
+    kind-of-requires
+    put-requires-3
+    same-length
+    returns)

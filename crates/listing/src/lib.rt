@@ -1,0 +1,174 @@
+// What the program `cores` prints, written into lent bytes. A writer answers the place after its text; past the end of the lent
+// bytes nothing is written, and the answer still counts the whole text. 16,384 bytes hold any of the three texts. Every place is
+// below 65,536, so that no sum wraps.
+ghost use mathlib.Core.Path.{_≡_};
+ghost use mathlib.Core.List.{_∷_, [], map};
+ghost use Prim.Native.Nat.{_+_, _<_, _≤_, min};
+ghost use lib.ListN.{length, take};
+ghost use Rattle.memory.specs.Memory.{splice, flat};
+ghost use Rattle.listing.specs.Listing.{decimal, column, coreLine, coreLines, kind, takingText, listing, refusedText, longText};
+use protocol::Registers;
+use states::State;
+
+const LINE_FEED: u8 = b'\n';
+
+const SPACE: u8 = b' ';
+
+const WRITING: u8 = 16; // the order list's bytes of writings, from here on
+
+const CORES: usize = 4; // of a state
+
+// ---- bytes and numbers
+
+fn put(out: &mut [u8], at: usize, byte: u8) -> usize
+    requires { ⌜ at < 65536 ⌝ }
+    ensures { λ r. ⌜ (now (out .exit) ≡ splice (now (out .entry)) at (byte ∷ [])) × (r ≡ at + 1) ⌝ }
+{
+    if at < out.len() {
+        out[at] = byte;
+    }
+    at + 1
+}
+
+fn write_text(out: &mut [u8], at: usize, text: &[u8]) -> usize
+    requires { ⌜ at + length (now text) < 65536 ⌝ }
+    ensures { λ r. ⌜ (now (out .exit) ≡ splice (now (out .entry)) at (now (text .entry))) × (r ≡ at + length (now (text .entry))) ⌝ }
+{
+    let mut next = at;
+    let mut i = 0;
+    while i < text.len() {
+        next = put(out, next, text[i]);
+        i += 1;
+    }
+    next
+}
+
+// In base ten, at most five digits.
+fn write_decimal(out: &mut [u8], at: usize, value: u16) -> usize
+    requires { ⌜ at + 5 < 65536 ⌝ }
+    ensures { λ r. ⌜ (now (out .exit) ≡ splice (now (out .entry)) at (decimal value)) × (r ≡ at + length (decimal value)) × (r ≤ at + 5) ⌝ }
+{
+    if value < 10 {
+        return put(out, at, b'0' + value as u8);
+    }
+    let last = write_decimal(out, at, value / 10);
+    put(out, last, b'0' + (value % 10) as u8)
+}
+
+// A number and the byte that ends it.
+fn write_column(out: &mut [u8], at: usize, value: u16, end: u8) -> usize
+    requires { ⌜ at + 6 < 65536 ⌝ }
+    ensures { λ r. ⌜ (now (out .exit) ≡ splice (now (out .entry)) at (column value end)) × (r ≡ at + length (column value end)) × (r ≤ at + 6) ⌝ }
+{
+    let next = write_decimal(out, at, value);
+    put(out, next, end)
+}
+
+// ---- the core table
+
+fn write_line(out: &mut [u8], at: usize, k: usize, r: Registers) -> usize
+    requires { ⌜ (at + 30 < 65536) × (k < 4) ⌝ }
+    ensures { λ end. ⌜ (now (out .exit) ≡ splice (now (out .entry)) at (coreLine k r)) × (end ≡ at + length (coreLine k r)) × (end ≤ at + 30) ⌝ }
+{
+    let mode = write_column(out, at, k as u16, SPACE);
+    let cycles = write_column(out, mode, r.mode as u16, SPACE);
+    let flags = write_column(out, cycles, r.cycles, SPACE);
+    let count = write_column(out, flags, r.flags as u16, SPACE);
+    write_column(out, count, r.count, LINE_FEED)
+}
+
+fn least(a: usize, b: usize) -> usize
+    ensures { λ r. ⌜ r ≡ min a b ⌝ }
+{
+    if a < b {
+        return a;
+    }
+    b
+}
+
+// That the table has four records is known of a result.
+fn table_of(s: State) -> [Registers; 4]
+    ensures { λ r. ⌜ (r ≡ s .cores) × (length r ≡ 4) ⌝ }
+{
+    s.cores
+}
+
+// The lines of the first n cores.
+fn write_lines(out: &mut [u8], at: usize, s: State, n: usize) -> usize
+    requires { ⌜ at + 120 < 65536 ⌝ }
+    ensures { λ r. ⌜ (now (out .exit) ≡ splice (now (out .entry)) at (coreLines 0 (take n (s .cores)))) × (r ≡ at + length (coreLines 0 (take n (s .cores)))) × (r ≤ at + 120) ⌝ }
+{
+    let cores = table_of(s);
+    let lines = least(n, CORES);
+    let mut next = at;
+    let mut k = 0;
+    while k < lines {
+        next = write_line(out, next, k, cores[k]);
+        k += 1;
+    }
+    next
+}
+
+// ---- the takings
+
+fn kind_of(byte: u8) -> u8
+    ensures { λ r. ⌜ r ≡ kind byte ⌝ }
+{
+    if byte < WRITING {
+        return b'r';
+    }
+    b'w'
+}
+
+fn write_taking(out: &mut [u8], at: usize, byte: u8) -> usize
+    requires { ⌜ at + 3 < 65536 ⌝ }
+    ensures { λ r. ⌜ (now (out .exit) ≡ splice (now (out .entry)) at (takingText byte)) × (r ≡ at + 3) ⌝ }
+{
+    let core = put(out, at, SPACE);
+    let kind = put(out, core, b'0' + byte % WRITING);
+    put(out, kind, kind_of(byte))
+}
+
+// The first `taken` bytes of the order list.
+fn write_takings(out: &mut [u8], at: usize, list: &[u8], taken: usize) -> usize
+    requires { ⌜ (at + 12288 < 65536) × (taken ≤ 4096) ⌝ }
+    ensures { λ r. ⌜ (now (out .exit) ≡ splice (now (out .entry)) at (flat (map takingText (take taken (now (list .entry)))))) × (r ≡ at + length (flat (map takingText (take taken (now (list .entry)))))) × (r ≤ at + 12288) ⌝ }
+{
+    let takings = least(taken, list.len());
+    let mut next = at;
+    let mut i = 0;
+    while i < takings {
+        next = write_taking(out, next, list[i]);
+        i += 1;
+    }
+    next
+}
+
+// ---- the three texts
+
+// The listing of n cores in the state s and of the first `taken` takings of the order list.
+pub fn write_listing(s: State, n: usize, list: &[u8], taken: usize, out: &mut [u8]) -> usize
+    requires { ⌜ taken ≤ 4096 ⌝ }
+    ensures { λ r. ⌜ (now (out .exit) ≡ splice (now (out .entry)) 0 (listing n s (take taken (now (list .entry))))) × (r ≡ length (listing n s (take taken (now (list .entry))))) × (r ≤ 16384) ⌝ }
+{
+    let lines = write_text(out, 0, b"core mode cycles flags count\n");
+    let order = write_lines(out, lines, s, n);
+    let takings = write_text(out, order, b"order");
+    let end = write_takings(out, takings, list, taken);
+    put(out, end, LINE_FEED)
+}
+
+// The refusal with its number.
+pub fn write_refused(number: u8, out: &mut [u8]) -> usize
+    ensures { λ r. ⌜ (now (out .exit) ≡ splice (now (out .entry)) 0 (refusedText number)) × (r ≡ length (refusedText number)) × (r ≤ 16384) ⌝ }
+{
+    let at = write_text(out, 0, b"refused ");
+    write_column(out, at, number as u16, LINE_FEED)
+}
+
+// A file was longer than the program reads.
+pub fn write_long(out: &mut [u8]) -> usize
+    ensures { λ r. ⌜ (now (out .exit) ≡ splice (now (out .entry)) 0 longText) × (r ≡ length longText) × (r ≤ 16384) ⌝ }
+{
+    write_text(out, 0, b"long\n")
+}
