@@ -70,11 +70,15 @@ fn write_line(out: &mut [u8], at: usize, k: usize, r: Registers) -> usize
     requires { ⌜ (at + 30 < 65536) × (k < 4) ⌝ }
     ensures { λ end. ⌜ (now (out .exit) ≡ splice (now (out .entry)) at (coreLine k r)) × (end ≡ at + length (coreLine k r)) × (end ≤ at + 30) ⌝ }
 {
-    let mode = write_column(out, at, k as u16, SPACE);
-    let cycles = write_column(out, mode, r.mode as u16, SPACE);
-    let flags = write_column(out, cycles, r.cycles, SPACE);
-    let count = write_column(out, flags, r.flags as u16, SPACE);
-    write_column(out, count, r.count, LINE_FEED)
+    let core = k as u16;
+    let mode = r.mode as u16;
+    let cycles = r.cycles;
+    let flags = r.flags as u16;
+    let second = write_column(out, at, core, SPACE);
+    let third = write_column(out, second, mode, SPACE);
+    let fourth = write_column(out, third, cycles, SPACE);
+    let fifth = write_column(out, fourth, flags, SPACE);
+    write_column(out, fifth, r.count, LINE_FEED)
 }
 
 fn least(a: usize, b: usize) -> usize

@@ -7,23 +7,23 @@ use borrow.Author.Needs.{needs}
 use Rattle.listing.proofs.write_line.Statement.{statement}
 use Rattle.listing.proofs.write_line.Tie as tie
 
-cast-write-column : tie.Need-cast-write-column
-cast-write-column c = search needs
+cast-core : tie.Need-cast-core
+cast-core c = search needs
+
+cast-mode : tie.Need-cast-mode
+cast-mode c = search needs
+
+cast-flags : tie.Need-cast-flags
+cast-flags c = search needs
 
 write-column-requires : tie.Need-write-column-requires
 write-column-requires c κs = search needs
-
-cast-write-column-2 : tie.Need-cast-write-column-2
-cast-write-column-2 c = search needs
 
 write-column-requires-2 : tie.Need-write-column-requires-2
 write-column-requires-2 c κs = search needs
 
 write-column-requires-3 : tie.Need-write-column-requires-3
 write-column-requires-3 c κs = search needs
-
-cast-write-column-3 : tie.Need-cast-write-column-3
-cast-write-column-3 c = search needs
 
 write-column-requires-4 : tie.Need-write-column-requires-4
 write-column-requires-4 c κs = search needs
@@ -39,9 +39,9 @@ unfolding coreLine
 returns c =
     let w = writing-last
     (writing-more _ _ (writing-more _ _ (writing-more _ _ (writing-more _ _ (writing-start _ _ (coreLine (c .before .before .before .before .before .before .before .before .before .before .before .before .before .before .before .before .before .before .before .before .before .before .before .args .k) (c .before .before .before .before .before .before .before .before .before .before .before .before .before .before .before .before .before .before .before .before .before .before .before .args .r)))
-    refl (c .before .before .before .before .before .before .before .before .before .before .before .before .before .before .before .before .before .before .before .before .write-column .ensures .0) (c .before .before .before .before .before .before .before .before .before .before .before .before .before .before .before .before .before .before .before .before .write-column .ensures .1))
-    refl (c .before .before .before .before .before .before .before .before .before .before .before .before .before .before .before .write-column2 .ensures .0) (c .before .before .before .before .before .before .before .before .before .before .before .before .before .before .before .write-column2 .ensures .1))
-    refl (c .before .before .before .before .before .before .before .before .before .before .before .write-column3 .ensures .0) (c .before .before .before .before .before .before .before .before .before .before .before .write-column3 .ensures .1))
+    refl (c .before .before .before .before .before .before .before .before .before .before .before .before .before .before .before .before .before .before .write-column .ensures .0) (c .before .before .before .before .before .before .before .before .before .before .before .before .before .before .before .before .before .before .write-column .ensures .1))
+    refl (c .before .before .before .before .before .before .before .before .before .before .before .before .before .before .write-column2 .ensures .0) (c .before .before .before .before .before .before .before .before .before .before .before .before .before .before .write-column2 .ensures .1))
+    refl (c .before .before .before .before .before .before .before .before .before .before .write-column3 .ensures .0) (c .before .before .before .before .before .before .before .before .before .before .write-column3 .ensures .1))
     refl (c .before .before .before .before .before .before .write-column4 .ensures .0) (c .before .before .before .before .before .before .write-column4 .ensures .1))
     (c .before .before .write-column5 .ensures .0) (c .before .before .write-column5 .ensures .1) in
     (w .0, w .1, omega arith)
@@ -50,12 +50,12 @@ pub write-line-spec : {M : Type 1} → statement M
 write-line-spec =
     tie.close
     (tie.spec
-    cast-write-column
+    cast-core
+    cast-mode
+    cast-flags
     write-column-requires
-    cast-write-column-2
     write-column-requires-2
     write-column-requires-3
-    cast-write-column-3
     write-column-requires-4
     write-column-requires-5
     same-length
