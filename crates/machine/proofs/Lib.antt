@@ -3,4 +3,7 @@ pub mod Calls
 pub mod Aims
 pub mod Judged
 pub mod Steps
+pub mod Nexts
+pub mod Back
+pub mod Calling
 pub mod Marked
