@@ -67,21 +67,21 @@ module _ (f t : List ℕ) (few : cores f ≤ 4) (h : Held) (s : State) (fit : Fi
       let all : length (listed (entryBack field (cores f) old s) 64 0) ≡ 64 = length-listed (entryBack field (cores f) old s) 64 0 in
       let sixteen : length (part (listed (entryBack field (cores f) old s) 64 0) (16 * k) 16) ≡ 16 = length-part _ (16 * k) 16 (omega (arith, all, few)) in
       ext-getD 0 _ _ (sixteen ∙ sym e) (λ j l.
-        let m : j < 16 = subst (λ (n : ℕ). j < n) sixteen l in
-        part-entry _ (16 * k) j m
-        ∙ listed-at (entryBack field (cores f) old s) 64 (16 * k + j) 0 (omega (arith, few))
-        ∙ entry-at field old k j i m)
+      let m : j < 16 = subst (λ (n : ℕ). j < n) sixteen l in
+      part-entry _ (16 * k) j m
+      ∙ listed-at (entryBack field (cores f) old s) 64 (16 * k + j) 0 (omega (arith, few))
+      ∙ entry-at field old k j i m)
 
   lengths-at : map length (map (λ (c : Core). c .memory) (s .plant .cores)) ≡ sizesOf f
   lengths-at =
       let n : length (map length (map (λ (c : Core). c .memory) (s .plant .cores))) ≡ cores f =
-          length-map (map (λ (c : Core). c .memory) (s .plant .cores)) length ∙ length-map (s .plant .cores) (λ (c : Core). c .memory) ∙ fit .table in
+      length-map (map (λ (c : Core). c .memory) (s .plant .cores)) length ∙ length-map (s .plant .cores) (λ (c : Core). c .memory) ∙ fit .table in
       ext-getD 0 _ _ (n ∙ sym (sizes-length f)) (λ k l.
-        let i : k < cores f = subst (λ (m : ℕ). k < m) n l in
-        map-at length (map (λ (c : Core). c .memory) (s .plant .cores)) k [] 0 (subst (λ (m : ℕ). k < m) (sym (length-map (s .plant .cores) (λ (c : Core). c .memory) ∙ fit .table)) i)
-        ∙ ap length (map-at (λ (c : Core). c .memory) (s .plant .cores) k absent [] (subst (λ (m : ℕ). k < m) (sym (fit .table)) i))
-        ∙ fit .each k i .size
-        ∙ sym (sizes-at f k i))
+      let i : k < cores f = subst (λ (m : ℕ). k < m) n l in
+      map-at length (map (λ (c : Core). c .memory) (s .plant .cores)) k [] 0 (subst (λ (m : ℕ). k < m) (sym (length-map (s .plant .cores) (λ (c : Core). c .memory) ∙ fit .table)) i)
+      ∙ ap length (map-at (λ (c : Core). c .memory) (s .plant .cores) k absent [] (subst (λ (m : ℕ). k < m) (sym (fit .table)) i))
+      ∙ fit .each k i .size
+      ∙ sym (sizes-at f k i))
 
   pub data-length : length (dataOf s) ≡ total (sizesOf f)
   unfolding dataOf

@@ -76,7 +76,7 @@ module _ (f t : List ℕ) (ok : Set f t) (x : Left) (w : Lendable f t x) (k : �
   unfolding stepCall stepRefusal
   call-refused l =
       let e : 20 ≡ callRefusal f t (x .answer .state) (length (x .memory)) (length (x .shared)) true (ltb k (cores f)) =
-          refuse-named f t (x .answer .state) _ _ true _ (ok .file) fits refl held (le-ltb k (cores f) l) in
+      refuse-named f t (x .answer .state) _ _ true _ (ok .file) fits refl held (le-ltb k (cores f) l) in
       pick-false _ _ _ (ne-eqb _ _ (λ z. absurd (let y : 20 ≡ 0 = e ∙ z in omega (arith, y))))
       ∙ ap (λ (r : ℕ). left (answerOf r (x .answer .state)) (x .memory) (x .shared) []) (sym e)
 
@@ -90,12 +90,14 @@ module _ (f t : List ℕ) (ok : Set f t) (x : Left) (w : Lendable f t x) (k : �
   after : (y : Left) → y ≡ stepped f t (x .answer .state) (x .memory) (x .shared) k → (wholeOf f y ≡ step (taskOf f t) k (wholeOf f x)) × Lendable f t y
   after y e =
       let back : wholeOf f y ≡ step (taskOf f t) k (wholeOf f x) =
-          ap (wholeOf f) e ∙ state-back f t (ok .few) (x .answer .state) (step (taskOf f t) k (wholeOf f x)) moved in
-      (back, record {
-        count = ap (λ (z : Left). z .answer .state .count) e ∙ counted;
-        sized = subst (λ (z : Left). Sized f (z .answer .state) (z .memory) (z .shared)) (sym e) (sized-back f t (ok .few) (x .answer .state) (step (taskOf f t) k (wholeOf f x)) moved);
-        fit = subst (Fit f t) (sym back) moved;
-      })
+      ap (wholeOf f) e ∙ state-back f t (ok .few) (x .answer .state) (step (taskOf f t) k (wholeOf f x)) moved in (
+        back,
+        record {
+          count = ap (λ (z : Left). z .answer .state .count) e ∙ counted;
+          sized = subst (λ (z : Left). Sized f (z .answer .state) (z .memory) (z .shared)) (sym e) (sized-back f t (ok .few) (x .answer .state) (step (taskOf f t) k (wholeOf f x)) moved);
+          fit = subst (Fit f t) (sym back) moved;
+        },
+      )
 
   same : (y : Left) → y ≡ left (answerOf 20 (x .answer .state)) (x .memory) (x .shared) [] → cores f ≤ k → (wholeOf f y ≡ step (taskOf f t) k (wholeOf f x)) × Lendable f t y
   same y e l =

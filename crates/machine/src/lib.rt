@@ -3,7 +3,8 @@
 use exchange::Cursor;
 use protocol::Registers;
 use runner::Ran;
-use states::{CoreTask, State};
+use states::CoreTask;
+use states::State;
 use table::Moving;
 use taskset::Layout;
 ghost use mathlib.Core.Path.{_≡_};
@@ -146,7 +147,15 @@ fn all_below(order: &[u8], n: usize) -> bool
 }
 
 // The place of the exchange under way in a fit state, if there is one.
-fn aim_of(file: &[u8], trace: &[u8], first: usize, end: usize, s: State, buffer: &[u8], shared: &[u8]) -> Cursor
+fn aim_of(
+    file: &[u8],
+    trace: &[u8],
+    first: usize,
+    end: usize,
+    s: State,
+    buffer: &[u8],
+    shared: &[u8],
+) -> Cursor
     requires { ⌜ Set (now file) (now trace) × (first ≡ recordPlace (now file) 0) × (end ≡ recordPlace (now file) (variables (now file))) × Fit (now file) (now trace) (stateOf (now file) s (now buffer) (now shared)) ⌝ }
     ensures { λ r. ⌜ ((k : ℕ) → k < cores (now (file .entry)) → s .holder ≡ suc k → Aimed (now (file .entry)) k (getD (s .cores) k none) r) ⌝ }
 {
@@ -198,7 +207,19 @@ fn run_judged(
     let first = layout.first;
     let end = first + RECORD * layout.variables;
     let aim = aim_of(file, trace, first, end, s, buffer, shared);
-    runner::run_order(file, trace, tasks, first, end, order, s, aim, buffer, shared, list)
+    runner::run_order(
+        file,
+        trace,
+        tasks,
+        first,
+        end,
+        order,
+        s,
+        aim,
+        buffer,
+        shared,
+        list,
+    )
 }
 
 // The steps of an order, one after another. The takings go to the front of `list`: the core, plus 16 for a writing; bytes after those stay.
@@ -287,8 +308,5 @@ pub fn next_core(file: &[u8], trace: &[u8], s: State, given: u8) -> Next
     }
     let tasks = prepared.tasks;
     let moving = table::next_moving(file, trace, tasks, layout.cores, s, given);
-    Next {
-        refusal: 0,
-        moving,
-    }
+    Next { refusal: 0, moving }
 }
