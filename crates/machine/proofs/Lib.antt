@@ -6,4 +6,3 @@ pub mod Steps
 pub mod Nexts
 pub mod Back
 pub mod Calling
-pub mod Marked

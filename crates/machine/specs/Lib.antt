@@ -1,4 +1,3 @@
 pub mod Interleaving
 pub mod Calls
 pub mod Calling
-pub mod Marked
