@@ -31,7 +31,12 @@ fn one_record(label: &[u8], order: &[u8]) {
 
 fn refusals() {
     show(b"missing task", b"", b"", b"");
-    show(b"refused task before trace and order", b"MCS2", b"\x01", b"\x01");
+    show(
+        b"refused task before trace and order",
+        b"MCS2",
+        b"\x01",
+        b"\x01",
+    );
     one_core(b"missing trace", b"", b"");
     one_core(b"trace before order", b"\x01", b"\x01");
     one_record(b"order names core 1", b"\x00\x01");
