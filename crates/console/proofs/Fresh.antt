@@ -8,11 +8,10 @@ use lib.ListN.{length, getD, take, drop, replicate, length-replicate, getD-repli
 use Rattle.memory.specs.Memory.{part, start, total, split}
 use Rattle.memory.proofs.Cores.{split-at, start-end}
 use Rattle.protocol.specs.declared.Registers.{Registers}
-use Rattle.protocol.specs.State.{Core, State as Whole, cleared}
+use Rattle.protocol.specs.State.{Core, cleared}
 use Rattle.protocol.specs.Fresh.{freshCore, fresh}
 use Rattle.records.specs.File.{cores, dataSize}
 use Rattle.taskset.specs.Task.{listed, sizesOf}
-use Rattle.states.specs.declared.State.{State}
 use Rattle.states.specs.Machine.{none, coreIn, stateIn, stateOf}
 use Rattle.states.specs.Set.{Set}
 use Rattle.states.specs.Fit.{stateRefusal, Fit}

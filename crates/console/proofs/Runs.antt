@@ -3,13 +3,13 @@
 use mathlib.Core.Path.{_≡_, refl, sym, ap, ap₂, _∙_, subst}
 use mathlib.Core.Logic.{_≢_}
 use mathlib.Core.Bool.{Bool, true, false}
-use mathlib.Core.List.{List, [], _∷_, map}
-use Prim.Native.Nat.{ℕ, zero, suc, _+_, _≤_, _<_}
+use mathlib.Core.List.{List, [], _∷_}
+use Prim.Native.Nat.{ℕ, zero, suc, _≤_, _<_}
 use native.Mathlib.Omega.{arith}
 use borrow.Author.Tests.{eq-eqb, ne-eqb, eqb-true, ltb-false, le-leb}
-use lib.Dec.{ltb, eqb, leb}
+use lib.Dec.{ltb, eqb}
 use lib.ListN.{length, getD, take, length-append, length-map, length-replicate}
-use Rattle.verdict.specs.Verdict.{pick, both, either, next, unless}
+use Rattle.verdict.specs.Verdict.{either, next, unless}
 use Rattle.verdict.proofs.Verdict.{absurd-bool, pick-true, pick-false, by-pick, yes, skip, stop, next-zero}
 use Rattle.memory.specs.Memory.{part, splice, total}
 use Rattle.memory.proofs.Laws.{part-splice-same}
@@ -22,13 +22,12 @@ use Rattle.taskset.specs.Task.{sizesOf}
 use Rattle.taskset.specs.Trace.{traceRefusal}
 use Rattle.taskset.proofs.Exact.{keeps-rules}
 use Rattle.states.specs.declared.State.{State}
-use Rattle.states.specs.Fit.{stateRefusal}
-use Rattle.states.specs.Machine.{stateOf, heldAfter, dataOf}
+use Rattle.states.specs.Machine.{stateOf, heldAfter}
 use Rattle.states.specs.Preparing.{heldRefusal}
 use Rattle.states.specs.Task.{taskOf}
 use Rattle.states.proofs.Accepted.{accepted-set}
 use Rattle.runner.specs.declared.Ran.{Ran}
-use Rattle.runner.specs.Runs.{allBelow, Left, left, ranCall}
+use Rattle.runner.specs.Runs.{Left, left, ranCall}
 use Rattle.machine.specs.Calls.{lentFits, callRefusal, answerOf, tableOf, freshRefusal, freshCall, runRefusal, runCall}
 use Rattle.machine.proofs.Calls.{fresh-none}
 use Rattle.listing.specs.Listing.{listing, refusedText, longText}

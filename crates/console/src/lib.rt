@@ -42,7 +42,7 @@ fn too_long(file: usize, trace: usize, order: usize) -> bool
 
 // ---- the run
 
-// The listing after the order's steps from the fresh state, or the refusal. All that the memories hold is written over.
+// The listing after the order's steps from the fresh state, or the refusal, whatever the lent memories held.
 fn write_run(
     file: &[u8],
     trace: &[u8],

@@ -1,6 +1,5 @@
 -- `console::output` meets its contract: `long` comes before everything; the lent memory has its sizes. Assumes nothing.
 use mathlib.Core.Path.{refl, sym, _∙_}
-use native.Mathlib.Omega.{arith}
 use Rattle.console.proofs.Fresh.{prefix}
 use Rattle.console.proofs.Runs.{written, long-text, short-text, short-order}
 use borrow.Author.Needs.{needs}
