@@ -28,11 +28,12 @@ use Rattle.states.specs.Task.{taskOf}
 use Rattle.states.proofs.Accepted.{accepted-set}
 use Rattle.runner.specs.declared.Ran.{Ran}
 use Rattle.runner.specs.Runs.{Left, left, ranCall}
-use Rattle.machine.specs.Calls.{lentFits, callRefusal, answerOf, tableOf, freshRefusal, freshCall, runRefusal, runCall}
+use Rattle.machine.specs.Calls.{bufferSize, lentFits, callRefusal, answerOf, tableOf, freshRefusal, freshCall, runRefusal, runCall}
 use Rattle.machine.proofs.Calls.{fresh-none}
 use Rattle.listing.specs.Listing.{listing, refusedText, longText}
-use Rattle.console.specs.Console.{bufferSize, tooLong, refusalOf, stateAfter, takingsOf, runText, coresText}
-use Rattle.console.proofs.Fresh.{zeros, fresh-state, fresh-not-refused}
+use Rattle.machine.proofs.Calling.{fresh-state}
+use Rattle.console.specs.Console.{tooLong, refusalOf, stateAfter, takingsOf, runText, coresText}
+use Rattle.console.proofs.Fresh.{zeros, fresh-not-refused}
 
 -- ---- the number of takings: at most one a step
 

@@ -1,5 +1,5 @@
 -- Document 01, "`cores`": what the program prints, from the bytes of its three files.
--- In order: lent memory; a longer file; the refusal; the run from the fresh state; the text.
+-- In order: a longer file; the refusal; the run from the fresh state; the text.
 -- Refusals 21 and 23 are not there: the memory that is lent has its sizes, and the fresh state is fit.
 use Prim.Native.Nat.{ℕ}
 use mathlib.Core.Bool.{Bool}
@@ -7,7 +7,6 @@ use mathlib.Core.List.{List}
 use lib.ListN.{length}
 use lib.Dec.{ltb, eqb}
 use Rattle.verdict.specs.Verdict.{pick, either, next, unless}
-use Rattle.memory.specs.Memory.{total}
 use Rattle.protocol.specs.Fresh.{fresh}
 use Rattle.protocol.specs.Step.{run, orderList}
 use Rattle.records.specs.File.{cores}
@@ -20,12 +19,6 @@ use Rattle.states.specs.Task.{taskOf}
 use Rattle.runner.specs.Runs.{allBelow}
 use Rattle.machine.specs.Calls.{tableOf}
 use Rattle.listing.specs.Listing.{listing, refusedText, longText}
-
--- ---- lent memory
-
--- the bytes of the data buffer: the sum of the data sizes; none where the file is refused
-unfoldable pub bufferSize : List ℕ → ℕ
-bufferSize f = pick (eqb (judge f) 0) (total (sizesOf f)) 0
 
 -- ---- a longer file
 

@@ -3,7 +3,8 @@ ghost use mathlib.Core.Path.{_≡_};
 ghost use Prim.Native.Nat.{_≤_};
 ghost use lib.ListN.{length};
 ghost use Rattle.memory.specs.Memory.{splice};
-ghost use Rattle.console.specs.Console.{bufferSize, tooLong, runText, coresText};
+ghost use Rattle.machine.specs.Calls.{bufferSize};
+ghost use Rattle.console.specs.Console.{tooLong, runText, coresText};
 
 // The most bytes of a task set, of a trace and of an order.
 const MOST_FILE: usize = 33600;
@@ -11,21 +12,6 @@ const MOST_FILE: usize = 33600;
 const MOST_TRACE: usize = 4096;
 
 const MOST_ORDER: usize = 4096;
-
-// ---- sizes
-
-// The bytes of the data buffer of a task set: the sum of the data sizes, at most 4 times 4,096.
-pub fn buffer_size(file: &[u8]) -> usize
-    ensures { λ r. ⌜ (r ≡ bufferSize (now (file .entry))) × (r ≤ 16384) ⌝ }
-{
-    let loaded = taskset::load(file);
-    if loaded.refusal != 0 {
-        return 0;
-    }
-    let layout = loaded.layout;
-    let core = layout.core;
-    core[0].size + core[1].size + core[2].size + core[3].size
-}
 
 // Whether one of three files of these lengths is longer than the program reads.
 fn too_long(file: usize, trace: usize, order: usize) -> bool
@@ -76,7 +62,7 @@ pub fn output(file: &[u8], trace: &[u8], order: &[u8], out: &mut [u8]) -> usize
     if too_long(file.len(), trace.len(), order.len()) {
         return listing::write_long(out);
     }
-    let size = buffer_size(file);
+    let size = machine::buffer_size(file);
     let mut buffer = [0u8; 16384];
     let mut shared = [0u8; 1024];
     let mut list = [0u8; 4096];
