@@ -1,11 +1,17 @@
-// Document 01's samples on the public calls: the listing of `cores`, the bench values that are not marked, and every refusal. Each case
-// tells its name, what came, and ok or WRONG beside what document 01 says. Lent memory is filled with a pattern before a call that must
-// be refused; where one byte of it, or the state, is changed, 99 comes.
+// Document 01's samples on the public calls: the listing of `cores`, the bench values that are not marked, every refusal, and the next
+// core to move. Each case tells its name, what came, and ok or WRONG beside what document 01 says. Lent memory is filled with a pattern
+// before a call that must be refused; where one byte of it, or the state, is changed, or two calls differ on a refusal, 99 comes.
 use protocol::Registers;
 use runner::Ran;
 use states::State;
+use table::Moving;
 
 const CHANGED: u8 = 99;
+
+// What next_core answers, as one number: a refusal's, the core plus 100, or 200 for none.
+const CORE: u8 = 100;
+
+const NONE: u8 = 200;
 
 fn text(s: &[u8]) {
     io::write_all(1, s);
@@ -236,6 +242,31 @@ fn step_refusal(
     CHANGED
 }
 
+fn next_number(file: &[u8], trace: &[u8], s: State, given: u8) -> u8 {
+    let next = machine::next_core(file, trace, s, given);
+    if next.refusal != 0 {
+        return next.refusal;
+    }
+    let moving = next.moving;
+    match moving {
+        Moving::Core(k) => {
+            if 4 <= k {
+                return CHANGED;
+            }
+            CORE + k
+        }
+        Moving::Nothing => NONE,
+    }
+}
+
+// The answer of two calls.
+fn agreed(first: u8, second: u8) -> u8 {
+    if first == second {
+        return first;
+    }
+    CHANGED
+}
+
 // ---- listings
 
 // A run from the fresh state.
@@ -420,7 +451,7 @@ fn calls(t: &[u8]) {
     );
 }
 
-// ---- refusals of the file: fresh, run and step answer as check_file does, whatever else is wrong
+// ---- refusals of the file: fresh, run and step answer as check_file and next_core do, whatever else is wrong
 
 fn bad_file(label: &[u8], f: &[u8], said: u8) {
     let s = with_count(start(b""), 9);
@@ -433,11 +464,8 @@ fn bad_file(label: &[u8], f: &[u8], said: u8) {
     let begun = fresh_refusal(f, &mut buffer, &mut shared);
     let ran = run_refusal(f, b"", s, &mut buffer, &mut shared, b"\x09\x09", &mut list);
     let stepped = step_refusal(f, b"", s, &mut buffer, &mut shared, 9);
-    if machine::check_file(f) == begun {
-        three(label, begun, ran, stepped, said);
-    } else {
-        three(label, CHANGED, ran, stepped, said);
-    }
+    let checked = agreed(machine::check_file(f), next_number(f, b"", s, 9));
+    three(label, agreed(checked, begun), ran, stepped, said);
 }
 
 fn bad_files() {
@@ -701,7 +729,7 @@ fn bad_steps(f: &[u8], t: &[u8], s: State) {
     bad_step(b"step with a trace of one byte", f, b"\x02", s, 0, 22);
 }
 
-// ---- refusal 23: each reason that makes a state unfit; check_state, run and step answer alike
+// ---- refusal 23: each reason that makes a state unfit; check_state with next_core, run and step answer alike
 
 fn unfit(label: &[u8], f: &[u8], t: &[u8], s: State) {
     let mut buffer = [0u8; 8];
@@ -710,7 +738,7 @@ fn unfit(label: &[u8], f: &[u8], t: &[u8], s: State) {
     fill(&mut buffer);
     fill(&mut shared);
     fill(&mut list);
-    let checked = machine::check_state(f, t, s);
+    let checked = agreed(machine::check_state(f, t, s), next_number(f, t, s, 1));
     let ran = run_refusal(f, t, s, &mut buffer, &mut shared, b"\x00", &mut list);
     let stepped = step_refusal(f, t, s, &mut buffer, &mut shared, 1);
     three(label, checked, ran, stepped, 23);
@@ -862,6 +890,83 @@ fn unfit_states(f: &[u8], t: &[u8], s: State) {
     flag_bits(f, t, s);
 }
 
+// ---- the next core to move
+
+fn next_refusals(f: &[u8], t: &[u8], s: State) {
+    case(b"next after core 2 of two", next_number(f, t, s, 2), 20);
+    case(
+        b"next with a trace of one byte",
+        next_number(f, b"\x02", s, 2),
+        22,
+    );
+    case(
+        b"next with holder 9",
+        next_number(f, t, with_holder(s, 9), 2),
+        23,
+    );
+}
+
+// Both cores in mode 0 with records; core 1 waiting to write; core 1 stopped; both stopped.
+fn next_cores(f: &[u8], t: &[u8], s: State) {
+    case(b"next after core 0", next_number(f, t, s, 0), 101);
+    case(b"next after core 1", next_number(f, t, s, 1), 100);
+    let mut r = core_of(s, 1);
+    r.mode = 3;
+    case(
+        b"next after core 0, core 1 waits",
+        next_number(f, t, with_core(s, 1, r), 0),
+        101,
+    );
+    r.mode = 5;
+    let one = with_core(s, 1, r);
+    case(
+        b"next after core 0, core 1 stopped",
+        next_number(f, t, one, 0),
+        100,
+    );
+    case(
+        b"next, both stopped",
+        next_number(f, t, with_core(one, 0, r), 0),
+        200,
+    );
+}
+
+// Core 0 in its writing exchange: core 1 cannot begin, nor write.
+fn next_held(f: &[u8], t: &[u8], s: State) {
+    let mut r = core_of(s, 0);
+    r.mode = 4;
+    let held = with_core(with_holder(s, 1), 0, r);
+    case(
+        b"next after core 0, which writes",
+        next_number(f, t, held, 0),
+        100,
+    );
+    r.mode = 3;
+    case(
+        b"next after core 0, core 1 waits in vain",
+        next_number(f, t, with_core(held, 1, r), 0),
+        100,
+    );
+}
+
+// Core 0 has two records, core 1 one.
+fn next_spent(f: &[u8], t: &[u8], s: State) {
+    let mut r = core_of(s, 0);
+    r.cycles = 1;
+    let one = with_core(s, 1, r);
+    case(
+        b"next after core 0, core 1 out of records",
+        next_number(f, t, one, 0),
+        100,
+    );
+    r.cycles = 2;
+    case(
+        b"next, both out of records",
+        next_number(f, t, with_core(one, 0, r), 1),
+        200,
+    );
+}
+
 // One core of 8 bytes: document 01's sample of 20.
 fn lone() {
     let f = b"MCS1\x01\x08\x00\x00\x00\x01\x00\x00\x01\x00\x00";
@@ -886,6 +991,10 @@ fn pair() {
     bad_steps(f, t, s);
     precedence(f, t, s);
     unfit_states(f, t, s);
+    next_refusals(f, t, s);
+    next_cores(f, t, s);
+    next_held(f, t, s);
+    next_spent(f, t, s);
 }
 
 fn main() {
