@@ -133,14 +133,6 @@ fn run_in(file: &[u8], trace: &[u8], order: &[u8], layout: Layout, n: usize, buf
     );
 }
 
-// The sum of the data sizes.
-fn data_size(layout: Layout) -> usize {
-    let core = layout.core;
-    let low = std::num::wrapping_add_usize(core[0].size, core[1].size);
-    let high = std::num::wrapping_add_usize(core[2].size, core[3].size);
-    std::num::wrapping_add_usize(low, high)
-}
-
 fn run_files(file: &[u8], trace: &[u8], order: &[u8]) {
     let loaded = taskset::load(file);
     if loaded.refusal != 0 {
@@ -153,7 +145,7 @@ fn run_files(file: &[u8], trace: &[u8], order: &[u8]) {
         trace,
         order,
         loaded.layout,
-        data_size(loaded.layout),
+        machine::buffer_size(file),
         &mut buffer,
     );
 }
