@@ -31,6 +31,7 @@ pub const ADDRESS: u8 = 4;
 pub const CALL: u8 = 5;
 
 // A core's registers. The call stack stands beside them, so that a step moves no array.
+#[repr(C)]
 pub struct Registers {
     pub mode: u8,
     pub counter: u16, // program counter
