@@ -29,6 +29,10 @@ noCore = record { registers = none; places = replicate 16 0; offsets = replicate
 abbrev pub recordAt : List Core → ℕ → Core
 recordAt ys k = getD ys k noCore
 
+-- record k of a table copied out, which has four; no other is ever read
+abbrev pub recordOf : Table → ℕ → Core
+recordOf t k = getD (t .cores) k (record { registers = none; places = []; offsets = [] })
+
 -- how many records a table has, in one byte: 255 stands for more, and is no number of cores
 abbrev pub counted : ℕ → ℕ
 counted n = pick (ltb n 255) n 255
@@ -45,17 +49,17 @@ unfoldable pub entries : List ℕ → List ℕ → List ℕ → List ℕ → Lis
 entries a b c d = splice (splice (splice (splice (replicate 64 0) 0 a) 16 b) 32 c) 48 d
 
 unfoldable pub heldPlaces : Table → List ℕ
-heldPlaces t = entries (recordAt (t .cores) 0 .places) (recordAt (t .cores) 1 .places) (recordAt (t .cores) 2 .places) (recordAt (t .cores) 3 .places)
+heldPlaces t = entries (recordOf t 0 .places) (recordOf t 1 .places) (recordOf t 2 .places) (recordOf t 3 .places)
 
 unfoldable pub heldOffsets : Table → List ℕ
-heldOffsets t = entries (recordAt (t .cores) 0 .offsets) (recordAt (t .cores) 1 .offsets) (recordAt (t .cores) 2 .offsets) (recordAt (t .cores) 3 .offsets)
+heldOffsets t = entries (recordOf t 0 .offsets) (recordOf t 1 .offsets) (recordOf t 2 .offsets) (recordOf t 3 .offsets)
 
 -- the state that a table holds
 unfoldable pub held : Table → ℕ → State
 held t holder = record {
   count = t .count;
   holder = holder;
-  cores = recordAt (t .cores) 0 .registers ∷ recordAt (t .cores) 1 .registers ∷ recordAt (t .cores) 2 .registers ∷ recordAt (t .cores) 3 .registers ∷ [];
+  cores = recordOf t 0 .registers ∷ recordOf t 1 .registers ∷ recordOf t 2 .registers ∷ recordOf t 3 .registers ∷ [];
   places = heldPlaces t;
   offsets = heldOffsets t;
 }
@@ -67,15 +71,15 @@ coreOf s k = record { registers = getD (s .cores) k none; places = part (s .plac
 -- ---- what a call leaves
 
 -- record k after a call: that of the state, where the call isn't refused and the state has a core k; else the one on entry
-unfoldable pub recordAfter : List Core → Ran → ℕ → Core
-recordAfter ys r k = pick (both (eqb (r .refusal) 0) (ltb k (r .state .count))) (coreOf (r .state) k) (recordAt ys k)
+unfoldable pub recordAfter : Table → Ran → ℕ → Core
+recordAfter t r k = pick (both (eqb (r .refusal) 0) (ltb k (r .state .count))) (coreOf (r .state) k) (recordOf t k)
 
-abbrev pub afterOf : List Core → Ran → After
-afterOf ys r = record { refusal = r .refusal; a = recordAfter ys r 0; b = recordAfter ys r 1; c = recordAfter ys r 2; d = recordAfter ys r 3 }
+abbrev pub afterOf : Table → Ran → After
+afterOf t r = record { refusal = r .refusal; a = recordAfter t r 0; b = recordAfter t r 1; c = recordAfter t r 2; d = recordAfter t r 3 }
 
 -- a refusal that no call by value answers
-abbrev pub refusedOf : List Core → ℕ → After
-refusedOf ys n = record { refusal = n; a = recordAt ys 0; b = recordAt ys 1; c = recordAt ys 2; d = recordAt ys 3 }
+abbrev pub refusedOf : Table → ℕ → After
+refusedOf t n = record { refusal = n; a = recordOf t 0; b = recordOf t 1; c = recordOf t 2; d = recordOf t 3 }
 
 -- the semaphore's holder and the count of takings after a call; a refused one leaves them
 abbrev pub holderAfter : ℕ → Ran → ℕ
@@ -95,8 +99,8 @@ pub record TableLeft : Type 0 where
 abbrev pub tableLeft : After → ℕ → List ℕ → List ℕ → List ℕ → TableLeft
 tableLeft x holder d sh list = record { after = x; holder = holder; memory = d; shared = sh; order = list }
 
-abbrev pub onTable : List Core → ℕ → Left → TableLeft
-onTable ys holder l = tableLeft (afterOf ys (l .answer)) (holderAfter holder (l .answer)) (l .memory) (l .shared) (l .order)
+abbrev pub onTable : Table → ℕ → Left → TableLeft
+onTable t holder l = tableLeft (afterOf t (l .answer)) (holderAfter holder (l .answer)) (l .memory) (l .shared) (l .order)
 
 -- of a call on a lent table: refusal number, every record, holder, and every lent byte
 pub record Lent : Type 0 where
@@ -120,13 +124,13 @@ written ys l = lent (l .after .refusal) (saved ys (l .after)) (l .holder) (l .me
 -- ---- the calls: on a table copied out, and on the lent one
 
 unfoldable pub stepTable : List ℕ → List ℕ → Table → ℕ → List ℕ → List ℕ → ℕ → TableLeft
-stepTable f t x holder d sh k = onTable (x .cores) holder (stepCall f t (held x holder) d sh k)
+stepTable f t x holder d sh k = onTable x holder (stepCall f t (held x holder) d sh k)
 
 unfoldable pub stepLent : List ℕ → List ℕ → List Core → ℕ → List ℕ → List ℕ → ℕ → Lent
 stepLent f t ys holder d sh k = written ys (stepTable f t (loaded ys) holder d sh k)
 
 unfoldable pub runTable : List ℕ → List ℕ → Table → ℕ → List ℕ → List ℕ → List ℕ → List ℕ → TableLeft
-runTable f t x holder d sh order list = onTable (x .cores) holder (runCall f t (held x holder) d sh order list)
+runTable f t x holder d sh order list = onTable x holder (runCall f t (held x holder) d sh order list)
 
 unfoldable pub runLent : List ℕ → List ℕ → List Core → ℕ → List ℕ → List ℕ → List ℕ → List ℕ → Lent
 runLent f t ys holder d sh order list = written ys (runTable f t (loaded ys) holder d sh order list)
@@ -141,7 +145,7 @@ takenLent f t ys holder d sh order list taken = takenTable f t (loaded ys) holde
 -- the fresh state needs a table of at least n records (21), and writes the first n
 unfoldable pub freshTable : List ℕ → Table → ℕ → List ℕ → List ℕ → TableLeft
 freshTable f x holder d sh =
-    onTable (x .cores) holder (pick (leb (cores f) (x .count)) (freshCall f d sh) (left (answerOf (next (judge f) 21) (tableOf 0 0)) d sh []))
+    onTable x holder (pick (leb (cores f) (x .count)) (freshCall f d sh) (left (answerOf (next (judge f) 21) (tableOf 0 0)) d sh []))
 
 unfoldable pub freshLent : List ℕ → List Core → ℕ → List ℕ → List ℕ → Lent
 freshLent f ys holder d sh = written ys (freshTable f (loaded ys) holder d sh)

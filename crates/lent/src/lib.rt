@@ -150,7 +150,7 @@ pub struct After {
 // Record k after a call.
 fn record_after(t: Table, r: Ran, k: usize) -> Core
     requires { ⌜ k < 4 ⌝ }
-    ensures { λ x. ⌜ x ≡ recordAfter (t .cores) r k ⌝ }
+    ensures { λ x. ⌜ x ≡ recordAfter t r k ⌝ }
 {
     if r.refusal != 0 {
         return t.cores[k];
@@ -163,7 +163,7 @@ fn record_after(t: Table, r: Ran, k: usize) -> Core
 }
 
 fn records_after(t: Table, r: Ran) -> After
-    ensures { λ x. ⌜ x ≡ afterOf (t .cores) r ⌝ }
+    ensures { λ x. ⌜ x ≡ afterOf t r ⌝ }
 {
     let a = record_after(t, r, 0);
     let b = record_after(t, r, 1);
@@ -262,7 +262,7 @@ fn short_refusal(file: &[u8]) -> u8
 }
 
 fn refused(t: Table, number: u8) -> After
-    ensures { λ x. ⌜ x ≡ refusedOf (t .cores) number ⌝ }
+    ensures { λ x. ⌜ x ≡ refusedOf t number ⌝ }
 {
     let a = t.cores[0];
     let b = t.cores[1];
@@ -468,4 +468,50 @@ pub extern "C" fn rikzord_step(
     let x = step_table(file, trace, t, holder, buffer, shared, core);
     save(table, x.a, x.b, x.c, x.d);
     x.refusal
+}
+
+// The steps of an order, one after another. The takings go to the front of `list`, and `taken` becomes how many there are.
+#[no_mangle]
+pub extern "C" fn rikzord_run(
+    file: &[u8],
+    trace: &[u8],
+    table: &mut [Core],
+    holder: &mut u8,
+    buffer: &mut [u8],
+    shared: &mut [u8],
+    order: &[u8],
+    list: &mut [u8],
+    taken: &mut usize,
+) -> u8
+    ensures { λ r. ⌜ (lent r (now (table .exit)) (now (holder .exit)) (now (buffer .exit)) (now (shared .exit)) (now (list .exit)) ≡ runLent (now (file .entry)) (now (trace .entry)) (now (table .entry)) (now (holder .entry)) (now (buffer .entry)) (now (shared .entry)) (now (order .entry)) (now (list .entry))) × (now (taken .exit) ≡ takenLent (now (file .entry)) (now (trace .entry)) (now (table .entry)) (now (holder .entry)) (now (buffer .entry)) (now (shared .entry)) (now (order .entry)) (now (list .entry)) (now (taken .entry))) ⌝ }
+{
+    let t = load(table);
+    let x = run_table(file, trace, t, holder, buffer, shared, order, list, taken);
+    save(table, x.a, x.b, x.c, x.d);
+    x.refusal
+}
+
+// The fresh state. The table needs at least n records, and the first n are written.
+#[no_mangle]
+pub extern "C" fn rikzord_fresh(
+    file: &[u8],
+    table: &mut [Core],
+    holder: &mut u8,
+    buffer: &mut [u8],
+    shared: &mut [u8],
+) -> u8
+    ensures { λ r. ⌜ lent r (now (table .exit)) (now (holder .exit)) (now (buffer .exit)) (now (shared .exit)) [] ≡ freshLent (now (file .entry)) (now (table .entry)) (now (holder .entry)) (now (buffer .entry)) (now (shared .entry)) ⌝ }
+{
+    let t = load(table);
+    let x = fresh_table(file, t, holder, buffer, shared);
+    save(table, x.a, x.b, x.c, x.d);
+    x.refusal
+}
+
+// The refusal number of a task set file alone.
+#[no_mangle]
+pub extern "C" fn rikzord_check_file(file: &[u8]) -> u8
+    ensures { λ r. ⌜ r ≡ judge (now (file .entry)) ⌝ }
+{
+    machine::check_file(file)
 }

@@ -10,7 +10,7 @@ cast-result c = search needs
 
 returns : tie.Need-returns
 unfolding pick
-returns c = rw (lt-ltb _ _ (c .before .if1 .taken))
+returns c = rw (lt-ltb _ _ (c .if1 .taken))
 
 returns-2 : tie.Need-returns-2
 unfolding pick

@@ -1,4 +1,6 @@
+-- `lent::run_table` meets its contract: the run by value, on the state that the table holds. Assumes nothing.
 use borrow.Author.Needs.{needs}
+use Rattle.lent.proofs.Laws.{run-left, run-taken}
 use Rattle.lent.proofs.run_table.Statement.{statement}
 use Rattle.lent.proofs.run_table.Tie as tie
 use Rattle.lent.proofs.run_table.Reads as reads
@@ -9,41 +11,32 @@ use Rattle.lent.proofs.state_of.Reads as state-of-reads
 use Rattle.lent.proofs.taken_after.Reads as taken-after-reads
 use Rattle.machine.proofs.run.Reads as run-reads
 
--- src/lib.rt:234:9
 state-of-requires : tie.Need-state-of-requires
 state-of-requires c κs = search needs
 
--- src/lib.rt:235:9
 run-requires : tie.Need-run-requires
 run-requires c κs = search needs
 
--- src/lib.rt:236:15
 holder-after-requires : tie.Need-holder-after-requires
 holder-after-requires c κs = search needs
 
--- src/lib.rt:237:14
 taken-after-requires : tie.Need-taken-after-requires
 taken-after-requires c κs = search needs
 
--- src/lib.rt:238:5
 records-after-requires : tie.Need-records-after-requires
 records-after-requires c κs = search needs
 
--- src/lib.rt:221:1
 same-length : tie.Need-same-length
 same-length c = search needs
 
--- src/lib.rt:221:1
 same-length-2 : tie.Need-same-length-2
 same-length-2 c = search needs
 
--- src/lib.rt:221:1
 same-length-3 : tie.Need-same-length-3
 same-length-3 c = search needs
 
--- src/lib.rt:221:1
 returns : tie.Need-returns
-returns c = ?
+returns c = (run-left _ _ _ _ _ _ _ _ _ _ _ _ _ _ _ (c .before .before .before .before .before .before .before .before .before .before .before .before .before .before .state-of .ensures) (c .before .before .before .before .before .before .before .before .before .before .run .ensures) (c .before .before .before .holder-after .ensures) (c .records-after .ensures), run-taken _ _ _ _ _ _ _ _ _ _ _ _ _ _ _ (c .before .before .before .before .before .before .before .before .before .before .before .before .before .before .state-of .ensures) (c .before .before .before .before .before .before .before .before .before .before .run .ensures) (c .before .taken-after .ensures))
 
 pub run-table-spec : {M : Type 1} → statement M
 run-table-spec =

@@ -1,4 +1,6 @@
+-- `lent::step_table` meets its contract: the step by value, on the state that the table holds. Assumes nothing.
 use borrow.Author.Needs.{needs}
+use Rattle.lent.proofs.Laws.{step-left}
 use Rattle.lent.proofs.step_table.Statement.{statement}
 use Rattle.lent.proofs.step_table.Tie as tie
 use Rattle.lent.proofs.step_table.Reads as reads
@@ -8,33 +10,26 @@ use Rattle.lent.proofs.records_after.Reads as records-after-reads
 use Rattle.lent.proofs.state_of.Reads as state-of-reads
 use Rattle.machine.proofs.step.Reads as step-reads
 
--- src/lib.rt:215:9
 state-of-requires : tie.Need-state-of-requires
 state-of-requires c κs = search needs
 
--- src/lib.rt:216:9
 step-requires : tie.Need-step-requires
 step-requires c κs = search needs
 
--- src/lib.rt:217:15
 holder-after-requires : tie.Need-holder-after-requires
 holder-after-requires c κs = search needs
 
--- src/lib.rt:218:5
 records-after-requires : tie.Need-records-after-requires
 records-after-requires c κs = search needs
 
--- src/lib.rt:204:1
 same-length : tie.Need-same-length
 same-length c = search needs
 
--- src/lib.rt:204:1
 same-length-2 : tie.Need-same-length-2
 same-length-2 c = search needs
 
--- src/lib.rt:204:1
 returns : tie.Need-returns
-returns c = ?
+returns c = step-left _ _ _ _ _ _ _ _ _ _ _ _ _ (c .before .before .before .before .before .before .before .before .before .state-of .ensures) (c .before .before .before .before .before .before .step .ensures) (c .before .holder-after .ensures) (c .records-after .ensures)
 
 pub step-table-spec : {M : Type 1} → statement M
 step-table-spec =
