@@ -3,4 +3,6 @@ pub mod Calls
 pub mod Aims
 pub mod Judged
 pub mod Steps
-pub mod Marked
+pub mod Nexts
+pub mod Back
+pub mod Calling

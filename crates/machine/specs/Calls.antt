@@ -1,5 +1,5 @@
 -- Each public call for every input: its refusal number, in the order file, 21, 22, 23, 20, or what it does. A refused call changes nothing.
--- In order: refusals; the fresh state; a run; a step.
+-- In order: refusals; the fresh state; a run; a step; the next core to move.
 use Prim.Native.Nat.{ℕ}
 use mathlib.Core.Bool.{Bool, true}
 use mathlib.Core.List.{List, [], _∷_}
@@ -18,6 +18,10 @@ use Rattle.states.specs.Machine.{stateOf, heldAfter, dataOf}
 use Rattle.states.specs.Preparing.{heldRefusal}
 use Rattle.runner.specs.declared.Ran.{Ran}
 use Rattle.runner.specs.Runs.{allBelow, Left, left, ranCall}
+use Rattle.table.specs.declared.Moving.{Moving}
+use Rattle.table.specs.declared.Moving.the-variants.{Nothing}
+use Rattle.table.specs.Table.{nextMoving}
+use Rattle.machine.specs.declared.Next.{Next}
 
 -- ---- refusals
 
@@ -89,3 +93,17 @@ stepCall f t h d sh k =
     pick (eqb (stepRefusal f t h d sh k) 0)
     (stepped f t h d sh k)
     (left (answerOf (stepRefusal f t h d sh k) h) d sh [])
+
+-- ---- the next core to move after a given one; no memory is lent
+
+unfoldable pub nextRefusal : List ℕ → List ℕ → State → ℕ → ℕ
+nextRefusal f t h given = next (judge f) (next (heldRefusal f t h) (unless (ltb given (cores f)) 20))
+
+abbrev pub noNext : ℕ → Next
+noNext r = record { refusal = r; moving = Nothing }
+
+unfoldable pub nextCall : List ℕ → List ℕ → State → ℕ → Next
+nextCall f t h given =
+    pick (eqb (nextRefusal f t h given) 0)
+    (record { refusal = 0; moving = nextMoving f t h given })
+    (noNext (nextRefusal f t h given))

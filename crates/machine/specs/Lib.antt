@@ -1,3 +1,3 @@
 pub mod Interleaving
 pub mod Calls
-pub mod Marked
+pub mod Calling

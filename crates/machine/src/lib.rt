@@ -3,7 +3,9 @@
 use exchange::Cursor;
 use protocol::Registers;
 use runner::Ran;
-use states::{CoreTask, State};
+use states::CoreTask;
+use states::State;
+use table::Moving;
 use taskset::Layout;
 ghost use mathlib.Core.Path.{_≡_};
 ghost use mathlib.Core.Bool.{true};
@@ -22,7 +24,7 @@ ghost use Rattle.states.specs.Tasks.{tasksOf};
 ghost use Rattle.states.specs.Fit.{Fit};
 ghost use Rattle.steps.specs.Moving.{Aimed};
 ghost use Rattle.runner.specs.Runs.{allBelow, left, ranCall};
-ghost use Rattle.machine.specs.Calls.{lentFits, setRefusal, answerOf, tableOf, freshCall, runRefusal, runCall, stepCall};
+ghost use Rattle.machine.specs.Calls.{lentFits, setRefusal, answerOf, tableOf, freshCall, runRefusal, runCall, stepCall, noNext, nextCall};
 
 // Bytes of shared memory.
 const SHARED: usize = 1024;
@@ -145,7 +147,15 @@ fn all_below(order: &[u8], n: usize) -> bool
 }
 
 // The place of the exchange under way in a fit state, if there is one.
-fn aim_of(file: &[u8], trace: &[u8], first: usize, end: usize, s: State, buffer: &[u8], shared: &[u8]) -> Cursor
+fn aim_of(
+    file: &[u8],
+    trace: &[u8],
+    first: usize,
+    end: usize,
+    s: State,
+    buffer: &[u8],
+    shared: &[u8],
+) -> Cursor
     requires { ⌜ Set (now file) (now trace) × (first ≡ recordPlace (now file) 0) × (end ≡ recordPlace (now file) (variables (now file))) × Fit (now file) (now trace) (stateOf (now file) s (now buffer) (now shared)) ⌝ }
     ensures { λ r. ⌜ ((k : ℕ) → k < cores (now (file .entry)) → s .holder ≡ suc k → Aimed (now (file .entry)) k (getD (s .cores) k none) r) ⌝ }
 {
@@ -197,7 +207,19 @@ fn run_judged(
     let first = layout.first;
     let end = first + RECORD * layout.variables;
     let aim = aim_of(file, trace, first, end, s, buffer, shared);
-    runner::run_order(file, trace, tasks, first, end, order, s, aim, buffer, shared, list)
+    runner::run_order(
+        file,
+        trace,
+        tasks,
+        first,
+        end,
+        order,
+        s,
+        aim,
+        buffer,
+        shared,
+        list,
+    )
 }
 
 // The steps of an order, one after another. The takings go to the front of `list`: the core, plus 16 for a writing; bytes after those stay.
@@ -248,4 +270,43 @@ pub fn step(
     let order = [core];
     let mut list = [0u8; 1];
     run(file, trace, s, buffer, shared, &order, &mut list)
+}
+
+// ---- the core table
+
+// The answer on the next core to move: the refusal number, and the core or nothing.
+pub struct Next {
+    pub refusal: u8,
+    pub moving: Moving,
+}
+
+// What a refused call answers.
+fn no_next(number: u8) -> Next
+    ensures { λ r. ⌜ r ≡ noNext number ⌝ }
+{
+    Next {
+        refusal: number,
+        moving: Moving::Nothing,
+    }
+}
+
+// The first core after a given one, round the ring and that one last, whose step would change something.
+pub fn next_core(file: &[u8], trace: &[u8], s: State, given: u8) -> Next
+    ensures { λ r. ⌜ r ≡ nextCall (now (file .entry)) (now (trace .entry)) s given ⌝ }
+{
+    let loaded = taskset::load(file);
+    if loaded.refusal != 0 {
+        return no_next(loaded.refusal);
+    }
+    let layout = loaded.layout;
+    let prepared = states::prepare(file, trace, layout, s);
+    if prepared.refusal != 0 {
+        return no_next(prepared.refusal);
+    }
+    if layout.cores <= given as usize {
+        return no_next(20);
+    }
+    let tasks = prepared.tasks;
+    let moving = table::next_moving(file, trace, tasks, layout.cores, s, given);
+    Next { refusal: 0, moving }
 }

@@ -1,5 +1,5 @@
--- The end of a run: the parts of the state make the state that the run is to leave. In order: lists by their items; the table, the stacks and
--- the data buffer; the end.
+-- The end of a run: the parts of the state make the state that the run is to leave. In order: lists by their items; the data buffer; the table
+-- and the stacks; the end.
 -- Assumes nothing.
 use mathlib.Core.Path.{_≡_, refl, sym, ap, ap₂, _∙_, subst}
 use mathlib.Core.Bool.{Bool, true, false}
@@ -37,13 +37,13 @@ use Rattle.runner.proofs.Running.{core-in, cores-in, shared-in, holder-
 -- ---- lists by their items
 
 -- a table is the list that has its items
-listed-is : {A : Type 0} (g : ℕ → A) (n : ℕ) (l : List A) (d : A) → length l ≡ n → ((k : ℕ) → k < n → g k ≡ getD l k d) → listed g n 0 ≡ l
+pub listed-is : {A : Type 0} (g : ℕ → A) (n : ℕ) (l : List A) (d : A) → length l ≡ n → ((k : ℕ) → k < n → g k ≡ getD l k d) → listed g n 0 ≡ l
 listed-is g n l d e h =
     ext-getD d (listed g n 0) l (length-listed g n 0 ∙ sym e)
     (λ k i. let j : k < n = subst (λ (m : ℕ). k < m) (length-listed g n 0) i in listed-at g n k d j ∙ h k j)
 
 -- entry i is entry i % 16 of core i / 16
-entry-place : (i : ℕ) → 16 * (i / 16) + i % 16 ≡ i
+pub entry-place : (i : ℕ) → 16 * (i / 16) + i % 16 ≡ i
 entry-place i = let e : i / 16 * 16 + i % 16 ≡ i = div-add-mod' i 16 in omega arith
 
 memories : (g : ℕ → Core) (n j : ℕ) → map (λ c. c .memory) (listed g n j) ≡ listed (λ k. g k .memory) n j
@@ -54,6 +54,14 @@ memories g (suc n) j = ap (λ (l : List (List ℕ)). g j .memory ∷ l) (memorie
 length-sizes : (f : List ℕ) → length (sizesOf f) ≡ cores f
 unfolding sizesOf
 length-sizes f = length-listed (dataSize f) (cores f) 0
+
+-- ---- the data buffer
+
+pub data-back : (f : List ℕ) (cs : List Registers) (places offsets : List ℕ) (h : ℕ) (d sh : List ℕ) → length d ≡ total (sizesOf f) → dataOf (stateIn f cs places offsets h d sh) ≡ d
+unfolding dataOf stateIn
+data-back f cs places offsets h d sh e =
+    ap flat (memories (coreIn f cs places offsets d) (cores f) 0 ∙ listed-is (λ k. getD (split (sizesOf f) d) k []) (cores f) (split (sizesOf f) d) [] (length-split (sizesOf f) d ∙ length-sizes f) (λ k j. refl))
+    ∙ flat-split (sizesOf f) d (sym e)
 
 module _ (f t : List ℕ) (order list₀ : List ℕ) (s₀ : State) (s : Held) (i : ℕ) (cs : List Registers) (places offsets : List ℕ) (h taken : ℕ) (d sh list : List ℕ)
     (w : Running f t order list₀ s₀ (s .cores) (s .places) (s .offsets) i cs places offsets h taken d sh list) where
@@ -96,14 +104,6 @@ module _ (f t : List ℕ) (order list₀ : List ℕ) (s₀ : State) (s : Held) (
           → _≡_ {A = Held} record { count = s .count; holder = a; cores = b; places = p; offsets = q } record { count = s .count; holder = a′; cores = b′; places = p′; offsets = q′ }
       same u v x y = λ z. record { count = s .count; holder = u z; cores = v z; places = x z; offsets = y z }
 
-  -- ---- the data buffer
-
-  data-back : dataOf (stateIn f cs places offsets h d sh) ≡ d
-  unfolding dataOf stateIn
-  data-back =
-      ap flat (memories (coreIn f cs places offsets d) (cores f) 0 ∙ listed-is (λ k. getD (split (sizesOf f) d) k []) (cores f) (split (sizesOf f) d) [] (length-split (sizesOf f) d ∙ length-sizes f) (λ k j. refl))
-      ∙ flat-split (sizesOf f) d (sym (w .buffer))
-
 -- ---- the end
 
 drop-done : (l : List ℕ) (i : ℕ) → length l ≤ i → i ≤ length l → drop i l ≡ []
@@ -127,7 +127,7 @@ looping-end {f} {t} {order = order} {s = s} {d₀ = d₀} {sh₀ = sh₀} {list�
         ∙ sym (length-map (takings (taskOf f t) order (stateOf f s d₀ sh₀)) encoded) in
     same counted
     (sym (held-back f t order list₀ (stateOf f s d₀ sh₀) s i cs places offsets h taken d sh list (w .running)) ∙ ap (heldAfter (cores f) s) ends)
-    (sym (data-back f t order list₀ (stateOf f s d₀ sh₀) s i cs places offsets h taken d sh list (w .running)) ∙ ap dataOf ends)
+    (sym (data-back f cs places offsets h d sh (w .running .buffer)) ∙ ap dataOf ends)
     (sym (shared-in f cs places offsets h d sh) ∙ ap (λ (x : State). x .plant .shared) ends)
     wrote
   where

@@ -18,7 +18,7 @@ use Rattle.taskset.proofs.Accepted.{length-listed, listed-at}
 use Rattle.states.specs.Set.{Set}
 use Rattle.states.specs.Fit.{FitCore, Fit}
 
-map-at : {A B : Type 0} (g : A → B) (l : List A) (k : ℕ) (d : A) (e : B) → k < length l → getD (map g l) k e ≡ g (getD l k d)
+pub map-at : {A B : Type 0} (g : A → B) (l : List A) (k : ℕ) (d : A) (e : B) → k < length l → getD (map g l) k e ≡ g (getD l k d)
 map-at g [] k d e h = absurd (not-suc-le-zero h)
 map-at g (x ∷ l) zero d e h = refl
 map-at g (x ∷ l) (suc k) d e h = map-at g l k d e (le-of-suc-le-suc h)
@@ -31,7 +31,7 @@ pub sizes-at : (f : List ℕ) (k : ℕ) → k < cores f → getD (sizesOf f) k 0
 unfolding sizesOf
 sizes-at f k h = listed-at (dataSize f) (cores f) k 0 h
 
-fresh-core : (f : List ℕ) (k : ℕ) → k < cores f → core (fresh (sizesOf f) .plant) k ≡ freshCore (dataSize f k)
+pub fresh-core : (f : List ℕ) (k : ℕ) → k < cores f → core (fresh (sizesOf f) .plant) k ≡ freshCore (dataSize f k)
 fresh-core f k h = map-at freshCore (sizesOf f) k 0 absent (rw (sizes-length f) h) ∙ ap freshCore (sizes-at f k h)
 
 fresh-fit-core : (f t : List ℕ) → Set f t → (k : ℕ) → k < cores f → FitCore f t k (freshCore (dataSize f k))

@@ -11,7 +11,7 @@ use Rattle.values.specs.Values.{typed, patternOf, stored, readValue}
 use Rattle.values.specs.Commands.{onKinds, onBits, ADD, MUL, DIV, MOD, AND, OR, NOT, SHL, ROL, result, resultType, command}
 use Rattle.protocol.specs.State.{Task}
 use Rattle.protocol.specs.Step.{step}
-use Rattle.machine.specs.Marked.{resultOf, given, said, RS, SR, heldByOther, cases}
+use Rattle.marked.specs.Marked.{resultOf, given, said, RS, SR, heldByOther, cases}
 
 pub marked : (t : Task) → map given (cases t) ≡ map said (cases t)
 unfolding resultOf given said RS SR heldByOther cases step command result resultType typed patternOf stored readValue widthOf pick part valueLE readLE pattern signed wrap turned shiftLeft rotateLeft onKinds onBits ADD MUL DIV MOD AND OR NOT SHL ROL Ieee.add Ieee.ofBits Ieee.toBits
