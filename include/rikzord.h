@@ -52,9 +52,9 @@ uint8_t rikzord_run(const uint8_t *file, size_t file_length, const uint8_t *trac
                     size_t table_length, uint8_t *holder, uint8_t *buffer, size_t buffer_length, uint8_t *shared, size_t shared_length,
                     const uint8_t *order, size_t order_length, uint8_t *list, size_t list_length, size_t *taken);
 
-/* The first core after `given`, round the ring and that one last, whose step would change something. It goes to `next`; 255 says that there is
+/* The first core after `given`, round the ring and that one last, whose step would change something. It goes to `found`; 255 says that there is
  * none: every core is stopped or out of records. */
 uint8_t rikzord_next_core(const uint8_t *file, size_t file_length, const uint8_t *trace, size_t trace_length, const struct rikzord_core *table,
-                          size_t table_length, uint8_t holder, uint8_t given, uint8_t *next);
+                          size_t table_length, uint8_t holder, uint8_t given, uint8_t *found);
 
 #endif

@@ -1,6 +1,6 @@
 -- The lent forms of the machine's calls: the core table is a lent list of records, and the semaphore's holder stands beside it. Each call is the
 -- one by value (crate machine, specs/Calls) on the state that the table holds; of a call that isn't refused the table's records are written back.
--- In order: a table as a state, and back; what a call leaves; the calls; the registers of one core.
+-- In order: a table as a state, and back; what a call leaves; the calls; the next core to move; the registers of one core.
 use Prim.Native.Nat.{ℕ, _*_}
 use mathlib.Core.Bool.{Bool}
 use mathlib.Core.List.{List, [], _∷_}
@@ -15,7 +15,10 @@ use Rattle.states.specs.declared.State.{State}
 use Rattle.states.specs.Machine.{none}
 use Rattle.runner.specs.declared.Ran.{Ran}
 use Rattle.runner.specs.Runs.{Left, left}
-use Rattle.machine.specs.Calls.{answerOf, tableOf, freshCall, runCall, stepCall}
+use Rattle.table.specs.declared.Moving.{Moving}
+use Rattle.table.specs.declared.Moving.the-variants.{Core as moving, Nothing}
+use Rattle.machine.specs.declared.Next.{Next}
+use Rattle.machine.specs.Calls.{answerOf, tableOf, freshCall, runCall, stepCall, nextCall}
 use Rattle.lent.specs.declared.Core.{Core}
 use Rattle.lent.specs.declared.Table.{Table}
 use Rattle.lent.specs.declared.After.{After}
@@ -149,6 +152,30 @@ freshTable f x holder d sh =
 
 unfoldable pub freshLent : List ℕ → List Core → ℕ → List ℕ → List ℕ → Lent
 freshLent f ys holder d sh = written ys (freshTable f (loaded ys) holder d sh)
+
+-- ---- the next core to move
+
+-- its number for C: 255 stands for none
+abbrev pub numberOf : Moving → ℕ
+numberOf (moving k) = k
+numberOf Nothing = 255
+
+-- the refusal number, and the byte that takes the core's number; a refused call leaves it
+pub record Answered : Type 0 where
+  pub refusal : ℕ
+  pub found : ℕ
+
+abbrev pub answered : ℕ → ℕ → Answered
+answered r found = record { refusal = r; found = found }
+
+abbrev pub foundAfter : ℕ → Next → ℕ
+foundAfter found n = pick (eqb (n .refusal) 0) (numberOf (n .moving)) found
+
+unfoldable pub nextTable : List ℕ → List ℕ → Table → ℕ → ℕ → ℕ → Answered
+nextTable f t x holder given found = answered (nextCall f t (held x holder) given .refusal) (foundAfter found (nextCall f t (held x holder) given))
+
+unfoldable pub nextLent : List ℕ → List ℕ → List Core → ℕ → ℕ → ℕ → Answered
+nextLent f t ys holder given found = nextTable f t (loaded ys) holder given found
 
 -- ---- the registers of one core, lent to its step beside the rest of the state
 

@@ -5,6 +5,7 @@
 use protocol::Registers;
 use runner::Ran;
 use states::State;
+use table::Moving;
 ghost use mathlib.Core.Path.{_≡_};
 ghost use mathlib.Core.List.{[], _∷_};
 ghost use Prim.Native.Nat.{_+_, _*_, _<_, _≤_};
@@ -13,7 +14,7 @@ ghost use Rattle.verdict.specs.Verdict.{next};
 ghost use Rattle.memory.specs.Memory.{splice, part};
 ghost use Rattle.taskset.specs.Judge.{judge};
 ghost use Rattle.runner.specs.Runs.{left};
-ghost use Rattle.lent.specs.Lent.{noCore, tableFrom, loaded, entries, counted, heldPlaces, heldOffsets, held, coreOf, recordAfter, afterOf, refusedOf, holderAfter, takenAfter, tableLeft, lent, stepTable, stepLent, runTable, runLent, takenTable, takenLent, freshTable, freshLent, withRegisters, registersAfter, stepRegisters};
+ghost use Rattle.lent.specs.Lent.{noCore, tableFrom, loaded, entries, counted, heldPlaces, heldOffsets, held, coreOf, recordAfter, afterOf, refusedOf, holderAfter, takenAfter, tableLeft, lent, stepTable, stepLent, runTable, runLent, takenTable, takenLent, freshTable, freshLent, numberOf, answered, nextTable, nextLent, withRegisters, registersAfter, stepRegisters};
 
 // A record of the core table: a core's registers and call stack.
 #[repr(C)]
@@ -277,6 +278,36 @@ fn refused(t: Table, number: u8) -> After
     }
 }
 
+// The number of the core that moves next; 255 where there is none.
+fn number_of(m: Moving) -> u8
+    ensures { λ r. ⌜ r ≡ numberOf m ⌝ }
+{
+    match m {
+        Moving::Core(k) => k,
+        Moving::Nothing => 255,
+    }
+}
+
+fn next_table(
+    file: &[u8],
+    trace: &[u8],
+    t: Table,
+    holder: u8,
+    given: u8,
+    found: &mut u8,
+) -> u8
+    ensures { λ r. ⌜ answered r (now (found .exit)) ≡ nextTable (now (file .entry)) (now (trace .entry)) t holder given (now (found .entry)) ⌝ }
+{
+    let s = state_of(t, holder);
+    let n = machine::next_core(file, trace, s, given);
+    if n.refusal != 0 {
+        return n.refusal;
+    }
+    let m = n.moving;
+    *found = number_of(m);
+    0
+}
+
 // ---- the registers of one core
 
 // What a step answers that is lent the registers of its core: these, and the answer by value.
@@ -506,6 +537,22 @@ pub extern "C" fn rikzord_fresh(
     let x = fresh_table(file, t, holder, buffer, shared);
     save(table, x.a, x.b, x.c, x.d);
     x.refusal
+}
+
+// The first core after `given`, round the ring and that one last, whose step would change something, goes to `found`; 255 for none.
+#[no_mangle]
+pub extern "C" fn rikzord_next_core(
+    file: &[u8],
+    trace: &[u8],
+    table: &[Core],
+    holder: u8,
+    given: u8,
+    found: &mut u8,
+) -> u8
+    ensures { λ r. ⌜ answered r (now (found .exit)) ≡ nextLent (now (file .entry)) (now (trace .entry)) (now (table .entry)) holder given (now (found .entry)) ⌝ }
+{
+    let t = load(table);
+    next_table(file, trace, t, holder, given, found)
 }
 
 // The refusal number of a task set file alone.
