@@ -240,7 +240,13 @@ fn run_table(
 }
 
 // The fresh state. A table of fewer than n records is too short.
-fn fresh_table(file: &[u8], t: Table, holder: &mut u8, buffer: &mut [u8], shared: &mut [u8]) -> After
+fn fresh_table(
+    file: &[u8],
+    t: Table,
+    holder: &mut u8,
+    buffer: &mut [u8],
+    shared: &mut [u8],
+) -> After
     ensures { λ r. ⌜ tableLeft r (now (holder .exit)) (now (buffer .exit)) (now (shared .exit)) [] ≡ freshTable (now (file .entry)) t (now (holder .entry)) (now (buffer .entry)) (now (shared .entry)) ⌝ }
 {
     if t.count < memory::byte_at(file, 4) {
@@ -288,14 +294,7 @@ fn number_of(m: Moving) -> u8
     }
 }
 
-fn next_table(
-    file: &[u8],
-    trace: &[u8],
-    t: Table,
-    holder: u8,
-    given: u8,
-    found: &mut u8,
-) -> u8
+fn next_table(file: &[u8], trace: &[u8], t: Table, holder: u8, given: u8, found: &mut u8) -> u8
     ensures { λ r. ⌜ answered r (now (found .exit)) ≡ nextTable (now (file .entry)) (now (trace .entry)) t holder given (now (found .entry)) ⌝ }
 {
     let s = state_of(t, holder);
@@ -366,7 +365,14 @@ fn step_with(
     ensures { λ x. ⌜ (left (x .ran) (now (buffer .exit)) (now (shared .exit)) [] ≡ stepRegisters (now (file .entry)) (now (trace .entry)) s registers (now (buffer .entry)) (now (shared .entry)) core) × (x .registers ≡ registersAfter (x .ran .state) core registers) ⌝ }
 {
     let k = core as usize;
-    let ran = machine::step(file, trace, with_registers(s, k, registers), buffer, shared, core);
+    let ran = machine::step(
+        file,
+        trace,
+        with_registers(s, k, registers),
+        buffer,
+        shared,
+        core,
+    );
     let after = registers_of(ran.state, k, registers);
     Stepped {
         registers: after,
@@ -432,10 +438,7 @@ fn table_of(a: Core, b: Core, c: Core, d: Core, n: usize) -> Table
 {
     let count = count_of(n);
     let cores = [a, b, c, d];
-    Table {
-        count,
-        cores,
-    }
+    Table { count, cores }
 }
 
 // Record i of a table; `other` past its end.
