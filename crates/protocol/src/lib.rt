@@ -30,7 +30,8 @@ pub const ADDRESS: u8 = 4;
 
 pub const CALL: u8 = 5;
 
-// A core's registers. The call stack stands beside them, so that a step moves no array.
+// A core's registers, in C's layout for the lent core table. The call stack stands beside them, so that a step moves no array.
+#[repr(C)]
 pub struct Registers {
     pub mode: u8,
     pub counter: u16, // program counter

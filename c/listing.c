@@ -1,0 +1,63 @@
+/* Document 01's listing example over the C interface: prints what the program `cores` prints there, then tries some refusals.
+ * Build and run it by c/run.sh. */
+#include "rikzord.h"
+
+#include <stdio.h>
+#include <string.h>
+
+static int failures = 0;
+
+static void expect(int holds, const char *what) {
+    if (!holds) {
+        printf("FAILED: %s\n", what);
+        failures++;
+    }
+}
+
+int main(void) {
+    static const uint8_t task[] = {0x4D, 0x43, 0x53, 0x31, 0x01, 0x01, 0x00, 0x00, 0x00, 0x01, 0x00, 0x00, 0x01, 0x00, 0x00};
+    static const uint8_t trace[] = {0x01, 0x00, 0x00, 0x00, 0x00, 0x00};
+    static const uint8_t order[5] = {0, 0, 0, 0, 0};
+    struct rikzord_core table[2], before[2];
+    uint8_t buffer[1] = {7}, shared[1024], list[5] = {9, 9, 9, 9, 9}, holder = 3, found = 77;
+    size_t taken = 99;
+    memset(table, 0xA5, sizeof table);
+    memcpy(before, table, sizeof table);
+
+    expect(rikzord_check_file(task, sizeof task) == 0, "the file is accepted");
+    expect(rikzord_check_file(task, 3) == 1, "a file that ends early");
+
+    /* a table that is too short, and shared memory that is */
+    expect(rikzord_fresh(task, sizeof task, table, 0, &holder, buffer, 1, shared, 1024) == 21, "a table of no records is too short");
+    expect(rikzord_fresh(task, sizeof task, table, 1, &holder, buffer, 1, shared, 1023) == 21, "1,023 bytes");
+    expect(holder == 3 && buffer[0] == 7 && memcmp(before, table, sizeof table) == 0, "a refused call changes nothing");
+
+    /* only the first record of two is written */
+    expect(rikzord_fresh(task, sizeof task, table, 2, &holder, buffer, 1, shared, 1024) == 0, "the fresh state");
+    expect(holder == 0 && buffer[0] == 0 && table[0].registers.flags == 4, "fresh: memory zero, flags 4, semaphore free");
+    expect(memcmp(&before[1], &table[1], sizeof table[1]) == 0, "the record from n on stays");
+
+    expect(rikzord_step(task, sizeof task, trace, sizeof trace, table, 2, &holder, buffer, 1, shared, 1024, 0) == 23, "a table of two records");
+    expect(rikzord_step(task, sizeof task, trace, sizeof trace, table, 1, &holder, buffer, 1, shared, 1024, 1) == 20, "core 1 of 1");
+    expect(rikzord_next_core(task, sizeof task, trace, 1, table, 1, holder, 0, &found) == 22 && found == 77, "a trace of one byte");
+    expect(rikzord_next_core(task, sizeof task, trace, sizeof trace, table, 1, holder, 0, &found) == 0 && found == 0, "core 0 moves next");
+
+    /* one step, then four more as a run */
+    expect(rikzord_step(task, sizeof task, trace, sizeof trace, table, 1, &holder, buffer, 1, shared, 1024, 0) == 0, "a step");
+    expect(table[0].registers.mode == 1 && holder == 1, "the first step takes the semaphore");
+    expect(rikzord_fresh(task, sizeof task, table, 1, &holder, buffer, 1, shared, 1024) == 0, "fresh again");
+    expect(rikzord_run(task, sizeof task, trace, sizeof trace, table, 1, &holder, buffer, 1, shared, 1024, order, 5, list, 4, &taken) == 21, "an order list that is too short");
+    expect(taken == 99 && list[0] == 9, "a refused run changes nothing");
+    expect(rikzord_run(task, sizeof task, trace, sizeof trace, table, 1, &holder, buffer, 1, shared, 1024, order, 5, list, 5, &taken) == 0, "the run");
+    expect(taken == 2 && list[0] == 0 && list[1] == 16 && list[2] == 9, "its takings; bytes after those stay");
+    expect(rikzord_next_core(task, sizeof task, trace, sizeof trace, table, 1, holder, 0, &found) == 0 && found == 255, "no core moves");
+
+    printf("core mode cycles flags count\n");
+    printf("0 %u %u %u %u\n", table[0].registers.mode, table[0].registers.cycles, table[0].registers.flags, table[0].registers.count);
+    printf("order");
+    for (size_t i = 0; i < taken; i++) {
+        printf(" %u%c", list[i] % 16, list[i] < 16 ? 'r' : 'w');
+    }
+    printf("\n");
+    return failures != 0;
+}

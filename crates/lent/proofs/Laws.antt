@@ -1,0 +1,146 @@
+-- Laws of the table as a state and back, and of what a call leaves of a table. In order: whole stretches; refused
+-- calls; calls on a table copied out; calls on a lent table; the next core.
+-- Assumes nothing.
+use mathlib.Core.Path.{_≡_, refl, sym, ap, _∙_}
+use mathlib.Core.Logic.{_≢_}
+use mathlib.Core.Bool.{Bool, true, false}
+use mathlib.Core.List.{List, [], _∷_, _++_, append-nil}
+use Prim.Native.Nat.{ℕ, zero, suc, _+_, _≤_, _<_}
+use native.Mathlib.Nat.{suc-ne-zero, zero-add}
+use native.Mathlib.Omega.{arith}
+use lib.Dec.{eqb}
+use lib.ListN.{length, take, drop, getD, set}
+use lib.Seq.{take-all, drop-length}
+use borrow.Author.Tests.{eq-eqb, ne-eqb, le-leb, lt-leb}
+use Rattle.verdict.specs.Verdict.{pick, both, next}
+use Rattle.memory.specs.Memory.{splice, part}
+use Rattle.memory.proofs.Laws.{splice-is}
+use Rattle.verdict.proofs.Verdict.{pick-true, pick-false}
+use Rattle.records.specs.File.{cores}
+use Rattle.taskset.specs.Judge.{judge}
+use Rattle.states.specs.declared.State.{State}
+use Rattle.runner.specs.declared.Ran.{Ran}
+use Rattle.runner.specs.Runs.{Left, left}
+use Rattle.machine.specs.declared.Next.{Next}
+use Rattle.machine.specs.Calls.{answerOf, tableOf, freshCall, runCall, stepCall, nextCall}
+use Rattle.lent.specs.declared.Core.{Core}
+use Rattle.lent.specs.declared.Table.{Table}
+use Rattle.lent.specs.declared.After.{After}
+use Rattle.lent.specs.Lent.{loaded, held, recordAfter, afterOf, refusedOf, holderAfter, takenAfter, tableLeft, onTable, saved, lent, written, stepTable, stepLent, runTable, runLent, takenTable, takenLent, freshTable, freshLent, numberOf, answered, foundAfter, nextTable, nextLent}
+
+-- ---- whole stretches
+
+pub part-whole : (s : List ℕ) (n : ℕ) → length s ≡ n → part s 0 n ≡ s
+unfolding part
+part-whole s n e = take-all n s (omega (arith, e))
+
+pub splice-whole : (s ys : List ℕ) → length ys ≡ length s → splice s 0 ys ≡ ys
+splice-whole s ys e =
+    splice-is s 0 ys (omega (arith, e)) ∙ ap (λ (m : ℕ). ys ++ drop m s) (zero-add (length ys) ∙ e) ∙ ap (λ (r : List ℕ). ys ++ r) (drop-length s) ∙ append-nil ys
+
+-- ---- refused calls
+
+pub refused-records : (x : Table) (s : State) (n : ℕ) → n ≢ 0 → afterOf x (answerOf n s) ≡ refusedOf x n
+unfolding recordAfter pick
+refused-records x s n ne = rw (ne-eqb n 0 ne) refl
+
+pub refused-holder : (holder : ℕ) (s : State) (n : ℕ) → n ≢ 0 → holderAfter holder (answerOf n s) ≡ holder
+unfolding pick
+refused-holder holder s n ne = rw (ne-eqb n 0 ne) refl
+
+-- the file's own refusal, else 21: never none
+pub short-refused : (a : ℕ) → next a 21 ≢ 0
+unfolding next
+short-refused zero e = suc-ne-zero 20 e
+short-refused (suc a) e = suc-ne-zero a e
+
+-- ---- a call on a table copied out: what the call by value left, as the code puts it together
+
+pub step-left : (f t : List ℕ) (x : Table) (holder : ℕ) (d sh : List ℕ) (k : ℕ) (s : State) (r : Ran) (y : After) (holder′ : ℕ) (d′ sh′ : List ℕ)
+    → s ≡ held x holder → left r d′ sh′ [] ≡ stepCall f t s d sh k → holder′ ≡ holderAfter holder r → y ≡ afterOf x r
+    → tableLeft y holder′ d′ sh′ [] ≡ stepTable f t x holder d sh k
+unfolding stepTable
+step-left f t x holder d sh k s r y holder′ d′ sh′ es e eh ey =
+    (λ i. tableLeft (ey i) (eh i) d′ sh′ []) ∙ ap (onTable x holder) (e ∙ ap (λ (z : State). stepCall f t z d sh k) es)
+
+pub run-left : (f t : List ℕ) (x : Table) (holder : ℕ) (d sh order list : List ℕ) (s : State) (r : Ran) (y : After) (holder′ : ℕ) (d′ sh′ list′ : List ℕ)
+    → s ≡ held x holder → left r d′ sh′ list′ ≡ runCall f t s d sh order list → holder′ ≡ holderAfter holder r → y ≡ afterOf x r
+    → tableLeft y holder′ d′ sh′ list′ ≡ runTable f t x holder d sh order list
+unfolding runTable
+run-left f t x holder d sh order list s r y holder′ d′ sh′ list′ es e eh ey =
+    (λ i. tableLeft (ey i) (eh i) d′ sh′ list′) ∙ ap (onTable x holder) (e ∙ ap (λ (z : State). runCall f t z d sh order list) es)
+
+pub run-taken : (f t : List ℕ) (x : Table) (holder : ℕ) (d sh order list : List ℕ) (taken : ℕ) (s : State) (r : Ran) (d′ sh′ list′ : List ℕ) (taken′ : ℕ)
+    → s ≡ held x holder → left r d′ sh′ list′ ≡ runCall f t s d sh order list → taken′ ≡ takenAfter taken r
+    → taken′ ≡ takenTable f t x holder d sh order list taken
+unfolding takenTable
+run-taken f t x holder d sh order list taken s r d′ sh′ list′ taken′ es e et =
+    et ∙ ap (λ (l : Left). takenAfter taken (l .answer)) (e ∙ ap (λ (z : State). runCall f t z d sh order list) es)
+
+pub fresh-left : (f : List ℕ) (x : Table) (holder : ℕ) (d sh : List ℕ) (n : ℕ) (r : Ran) (y : After) (holder′ : ℕ) (d′ sh′ : List ℕ)
+    → n ≡ cores f → n ≤ x .count → left r d′ sh′ [] ≡ freshCall f d sh → holder′ ≡ holderAfter holder r → y ≡ afterOf x r
+    → tableLeft y holder′ d′ sh′ [] ≡ freshTable f x holder d sh
+unfolding freshTable
+fresh-left f x holder d sh n r y holder′ d′ sh′ en h e eh ey =
+    (λ i. tableLeft (ey i) (eh i) d′ sh′ []) ∙ ap (onTable x holder) (e ∙ sym (pick-true _ _ _ (le-leb (cores f) (x .count) (omega (arith, en, h)))))
+
+pub fresh-short : (f : List ℕ) (x : Table) (holder : ℕ) (d sh : List ℕ) (n r : ℕ) (y : After)
+    → n ≡ cores f → x .count < n → r ≡ next (judge f) 21 → y ≡ refusedOf x r
+    → tableLeft y holder d sh [] ≡ freshTable f x holder d sh
+unfolding freshTable
+fresh-short f x holder d sh n r y en h er ey =
+    let q = next (judge f) 21 in
+    let kept : y ≡ afterOf x (answerOf q (tableOf 0 0)) = ey ∙ ap (refusedOf x) er ∙ sym (refused-records x (tableOf 0 0) q (short-refused (judge f))) in
+    let same : holder ≡ holderAfter holder (answerOf q (tableOf 0 0)) = sym (refused-holder holder (tableOf 0 0) q (short-refused (judge f))) in
+    (λ i. tableLeft (kept i) (same i) d sh []) ∙ ap (onTable x holder) (sym (pick-false _ _ _ (lt-leb (cores f) (x .count) (omega (arith, en, h)))))
+
+-- ---- a call on a lent table: what was copied out, what was written back
+
+pub step-written : (f t : List ℕ) (ys : List Core) (holder : ℕ) (d sh : List ℕ) (k : ℕ) (x : Table) (y : After) (ys′ : List Core) (holder′ : ℕ) (d′ sh′ : List ℕ)
+    → x ≡ loaded ys → tableLeft y holder′ d′ sh′ [] ≡ stepTable f t x holder d sh k → ys′ ≡ saved ys y
+    → lent (y .refusal) ys′ holder′ d′ sh′ [] ≡ stepLent f t ys holder d sh k
+unfolding stepLent
+step-written f t ys holder d sh k x y ys′ holder′ d′ sh′ e₁ e₂ e₃ =
+    ap (λ (l : List Core). lent (y .refusal) l holder′ d′ sh′ []) e₃ ∙ ap (written ys) (e₂ ∙ ap (λ (z : Table). stepTable f t z holder d sh k) e₁)
+
+pub run-written : (f t : List ℕ) (ys : List Core) (holder : ℕ) (d sh order list : List ℕ) (x : Table) (y : After) (ys′ : List Core) (holder′ : ℕ) (d′ sh′ list′ : List ℕ)
+    → x ≡ loaded ys → tableLeft y holder′ d′ sh′ list′ ≡ runTable f t x holder d sh order list → ys′ ≡ saved ys y
+    → lent (y .refusal) ys′ holder′ d′ sh′ list′ ≡ runLent f t ys holder d sh order list
+unfolding runLent
+run-written f t ys holder d sh order list x y ys′ holder′ d′ sh′ list′ e₁ e₂ e₃ =
+    ap (λ (l : List Core). lent (y .refusal) l holder′ d′ sh′ list′) e₃ ∙ ap (written ys) (e₂ ∙ ap (λ (z : Table). runTable f t z holder d sh order list) e₁)
+
+pub taken-written : (f t : List ℕ) (ys : List Core) (holder : ℕ) (d sh order list : List ℕ) (taken taken′ : ℕ) (x : Table)
+    → x ≡ loaded ys → taken′ ≡ takenTable f t x holder d sh order list taken → taken′ ≡ takenLent f t ys holder d sh order list taken
+unfolding takenLent
+taken-written f t ys holder d sh order list taken taken′ x e₁ e₂ = e₂ ∙ ap (λ (z : Table). takenTable f t z holder d sh order list taken) e₁
+
+pub fresh-written : (f : List ℕ) (ys : List Core) (holder : ℕ) (d sh : List ℕ) (x : Table) (y : After) (ys′ : List Core) (holder′ : ℕ) (d′ sh′ : List ℕ)
+    → x ≡ loaded ys → tableLeft y holder′ d′ sh′ [] ≡ freshTable f x holder d sh → ys′ ≡ saved ys y
+    → lent (y .refusal) ys′ holder′ d′ sh′ [] ≡ freshLent f ys holder d sh
+unfolding freshLent
+fresh-written f ys holder d sh x y ys′ holder′ d′ sh′ e₁ e₂ e₃ =
+    ap (λ (l : List Core). lent (y .refusal) l holder′ d′ sh′ []) e₃ ∙ ap (written ys) (e₂ ∙ ap (λ (z : Table). freshTable f z holder d sh) e₁)
+
+-- ---- the next core to move
+
+pub next-refused : (f t : List ℕ) (x : Table) (holder given found : ℕ) (s : State) (n : Next) (r : ℕ)
+    → s ≡ held x holder → n ≡ nextCall f t s given → r ≡ n .refusal → n .refusal ≢ 0 → answered r found ≡ nextTable f t x holder given found
+unfolding nextTable
+next-refused f t x holder given found s n r es en er ne =
+    let e : n ≡ nextCall f t (held x holder) given = en ∙ ap (λ (z : State). nextCall f t z given) es in
+    let same : found ≡ foundAfter found n = sym (pick-false _ _ _ (ne-eqb (n .refusal) 0 ne)) in
+    (λ i. answered (er i) (same i)) ∙ ap (λ (z : Next). answered (z .refusal) (foundAfter found z)) e
+
+pub next-found : (f t : List ℕ) (x : Table) (holder given found : ℕ) (s : State) (n : Next) (found′ : ℕ)
+    → s ≡ held x holder → n ≡ nextCall f t s given → n .refusal ≡ 0 → found′ ≡ numberOf (n .moving) → answered 0 found′ ≡ nextTable f t x holder given found
+unfolding nextTable
+next-found f t x holder given found s n found′ es en zero′ ef =
+    let e : n ≡ nextCall f t (held x holder) given = en ∙ ap (λ (z : State). nextCall f t z given) es in
+    let new : found′ ≡ foundAfter found n = ef ∙ sym (pick-true _ _ _ (eq-eqb (n .refusal) 0 zero′)) in
+    (λ i. answered (sym zero′ i) (new i)) ∙ ap (λ (z : Next). answered (z .refusal) (foundAfter found z)) e
+
+pub next-written : (f t : List ℕ) (ys : List Core) (holder given found found′ : ℕ) (x : Table) (r : ℕ)
+    → x ≡ loaded ys → answered r found′ ≡ nextTable f t x holder given found → answered r found′ ≡ nextLent f t ys holder given found
+unfolding nextLent
+next-written f t ys holder given found found′ x r e₁ e₂ = e₂ ∙ ap (λ (z : Table). nextTable f t z holder given found) e₁

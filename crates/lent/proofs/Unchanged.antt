@@ -1,0 +1,65 @@
+-- A refused call on a lent table leaves every record, the semaphore's holder and every lent byte as on entry: each claim is the whole of what the
+-- call leaves. In order: a table whose records are written back; the calls. Assumes nothing.
+use mathlib.Core.Path.{_≡_, refl, sym, ap, _∙_}
+use mathlib.Core.Logic.{_≢_}
+use mathlib.Core.Bool.{true, false}
+use mathlib.Core.List.{List, []}
+use Prim.Native.Nat.{ℕ}
+use lib.ListN.{length}
+use lib.Seq.{set-getD}
+use lib.Dec.{leb}
+use borrow.Author.Tests.{ne-eqb}
+use Rattle.verdict.specs.Verdict.{next}
+use Rattle.verdict.proofs.Verdict.{pick-true, pick-false}
+use Rattle.records.specs.File.{cores}
+use Rattle.taskset.specs.Judge.{judge}
+use Rattle.states.specs.declared.State.{State}
+use Rattle.runner.specs.Runs.{Left, left}
+use Rattle.machine.specs.Calls.{answerOf, tableOf, freshRefusal, freshCall, runRefusal, runCall, stepRefusal, stepCall}
+use Rattle.lent.specs.declared.Core.{Core}
+use Rattle.lent.specs.Lent.{noCore, counted, loaded, held, afterOf, refusedOf, holderAfter, onTable, saved, lent, written, stepTable, stepLent, runTable, runLent, takenAfter, takenTable, takenLent, freshTable, freshLent}
+use Rattle.lent.proofs.Laws.{refused-records, refused-holder, short-refused}
+
+-- ---- a table whose own records are written back
+
+pub saved-same : (ys : List Core) (n : ℕ) → saved ys (refusedOf (loaded ys) n) ≡ ys
+saved-same ys n = rw (set-getD ys 0 noCore, set-getD ys 1 noCore, set-getD ys 2 noCore, set-getD ys 3 noCore) refl
+
+pub refused-lent : (ys : List Core) (holder : ℕ) (d sh list : List ℕ) (n : ℕ) (s : State) → n ≢ 0
+    → written ys (onTable (loaded ys) holder (left (answerOf n s) d sh list)) ≡ lent n ys holder d sh list
+refused-lent ys holder d sh list n s ne =
+    let records : saved ys (afterOf (loaded ys) (answerOf n s)) ≡ ys = ap (saved ys) (refused-records (loaded ys) s n ne) ∙ saved-same ys n in
+    (λ i. lent n (records i) (refused-holder holder s n ne i) d sh list)
+
+-- ---- the calls
+
+pub step-refused : (f t : List ℕ) (ys : List Core) (holder : ℕ) (d sh : List ℕ) (k : ℕ) → stepRefusal f t (held (loaded ys) holder) d sh k ≢ 0
+    → stepLent f t ys holder d sh k ≡ lent (stepRefusal f t (held (loaded ys) holder) d sh k) ys holder d sh []
+unfolding stepLent stepTable stepCall
+step-refused f t ys holder d sh k ne =
+    ap (λ (l : Left). written ys (onTable (loaded ys) holder l)) (pick-false _ _ _ (ne-eqb _ 0 ne)) ∙ refused-lent ys holder d sh [] _ (held (loaded ys) holder) ne
+
+pub run-refused : (f t : List ℕ) (ys : List Core) (holder : ℕ) (d sh order list : List ℕ) → runRefusal f t (held (loaded ys) holder) d sh order list ≢ 0
+    → runLent f t ys holder d sh order list ≡ lent (runRefusal f t (held (loaded ys) holder) d sh order list) ys holder d sh list
+unfolding runLent runTable runCall
+run-refused f t ys holder d sh order list ne =
+    ap (λ (l : Left). written ys (onTable (loaded ys) holder l)) (pick-false _ _ _ (ne-eqb _ 0 ne)) ∙ refused-lent ys holder d sh list _ (held (loaded ys) holder) ne
+
+pub taken-refused : (f t : List ℕ) (ys : List Core) (holder : ℕ) (d sh order list : List ℕ) (taken : ℕ) → runRefusal f t (held (loaded ys) holder) d sh order list ≢ 0
+    → takenLent f t ys holder d sh order list taken ≡ taken
+unfolding takenLent takenTable runCall
+taken-refused f t ys holder d sh order list taken ne =
+    ap (λ (l : Left). takenAfter taken (l .answer)) (pick-false _ _ _ (ne-eqb _ 0 ne)) ∙ pick-false _ _ _ (ne-eqb _ 0 ne)
+
+-- a table that is long enough, and one that is too short
+pub fresh-refused : (f : List ℕ) (ys : List Core) (holder : ℕ) (d sh : List ℕ) → leb (cores f) (counted (length ys)) ≡ true → freshRefusal f (length d) (length sh) ≢ 0
+    → freshLent f ys holder d sh ≡ lent (freshRefusal f (length d) (length sh)) ys holder d sh []
+unfolding freshLent freshTable freshCall
+fresh-refused f ys holder d sh e ne =
+    ap (λ (l : Left). written ys (onTable (loaded ys) holder l)) (pick-true _ _ _ e ∙ pick-false _ _ _ (ne-eqb _ 0 ne)) ∙ refused-lent ys holder d sh [] _ (tableOf 0 0) ne
+
+pub fresh-short-refused : (f : List ℕ) (ys : List Core) (holder : ℕ) (d sh : List ℕ) → leb (cores f) (counted (length ys)) ≡ false
+    → freshLent f ys holder d sh ≡ lent (next (judge f) 21) ys holder d sh []
+unfolding freshLent freshTable
+fresh-short-refused f ys holder d sh e =
+    ap (λ (l : Left). written ys (onTable (loaded ys) holder l)) (pick-false _ _ _ e) ∙ refused-lent ys holder d sh [] _ (tableOf 0 0) (short-refused (judge f))

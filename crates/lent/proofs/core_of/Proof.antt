@@ -1,0 +1,35 @@
+-- `lent::core_of` meets its contract: field by field. Assumes nothing.
+use borrow.Author.Needs.{needs}
+use mathlib.Core.Path.{refl}
+use Rattle.lent.specs.Lent.{coreOf}
+use Rattle.lent.proofs.core_of.Statement.{statement}
+use Rattle.lent.proofs.core_of.Tie as tie
+use Rattle.lent.proofs.core_of.Reads as reads
+use Rattle.lent.proofs.core_of.Lts as lts
+use Rattle.lent.proofs.stack_of.Reads as stack-of-reads
+
+mul-registers : tie.Need-mul-registers
+mul-registers c = search needs
+
+element-copy-out-registers : tie.Need-element-copy-out-registers
+element-copy-out-registers c = search needs
+
+stack-of-requires : tie.Need-stack-of-requires
+stack-of-requires c κs = search needs
+
+stack-of-requires-2 : tie.Need-stack-of-requires-2
+stack-of-requires-2 c κs = search needs
+
+returns : tie.Need-returns
+unfolding coreOf
+returns c = rw (c .before .stack-of .ensures, c .stack-of2 .ensures) refl
+
+pub core-of-spec : {M : Type 1} → statement M
+core-of-spec =
+    tie.close
+    (tie.spec
+    mul-registers
+    element-copy-out-registers
+    stack-of-requires
+    stack-of-requires-2
+    returns)

@@ -1,0 +1,33 @@
+-- `lent::records_after` meets its contract: record by record. Assumes nothing.
+use borrow.Author.Needs.{needs}
+use mathlib.Core.Path.{refl}
+use Rattle.lent.proofs.records_after.Statement.{statement}
+use Rattle.lent.proofs.records_after.Tie as tie
+use Rattle.lent.proofs.records_after.Reads as reads
+use Rattle.lent.proofs.records_after.Lts as lts
+use Rattle.lent.proofs.record_after.Reads as record-after-reads
+
+record-after-requires : tie.Need-record-after-requires
+record-after-requires c κs = search needs
+
+record-after-requires-2 : tie.Need-record-after-requires-2
+record-after-requires-2 c κs = search needs
+
+record-after-requires-3 : tie.Need-record-after-requires-3
+record-after-requires-3 c κs = search needs
+
+record-after-requires-4 : tie.Need-record-after-requires-4
+record-after-requires-4 c κs = search needs
+
+returns : tie.Need-returns
+returns c = rw (c .before .before .before .record-after .ensures, c .before .before .record-after2 .ensures, c .before .record-after3 .ensures, c .record-after4 .ensures) refl
+
+pub records-after-spec : {M : Type 1} → statement M
+records-after-spec =
+    tie.close
+    (tie.spec
+    record-after-requires
+    record-after-requires-2
+    record-after-requires-3
+    record-after-requires-4
+    returns)

@@ -1,0 +1,44 @@
+-- `lent::state_of` meets its contract: field by field. Assumes nothing.
+use borrow.Author.Needs.{needs}
+use mathlib.Core.Path.{refl}
+use Rattle.lent.specs.Lent.{held}
+use Rattle.lent.proofs.state_of.Statement.{statement}
+use Rattle.lent.proofs.state_of.Tie as tie
+use Rattle.lent.proofs.state_of.Reads as reads
+use Rattle.lent.proofs.state_of.Lts as lts
+use Rattle.lent.proofs.offsets_of.Reads as offsets-of-reads
+use Rattle.lent.proofs.places_of.Reads as places-of-reads
+
+element-copy-out-a : tie.Need-element-copy-out-a
+element-copy-out-a c = search needs
+
+element-copy-out-b : tie.Need-element-copy-out-b
+element-copy-out-b c = search needs
+
+element-copy-out-c : tie.Need-element-copy-out-c
+element-copy-out-c c = search needs
+
+element-copy-out-d : tie.Need-element-copy-out-d
+element-copy-out-d c = search needs
+
+places-of-requires : tie.Need-places-of-requires
+places-of-requires c κs = search needs
+
+offsets-of-requires : tie.Need-offsets-of-requires
+offsets-of-requires c κs = search needs
+
+returns : tie.Need-returns
+unfolding held
+returns c = rw (c .before .places-of .ensures, c .offsets-of .ensures) refl
+
+pub state-of-spec : {M : Type 1} → statement M
+state-of-spec =
+    tie.close
+    (tie.spec
+    element-copy-out-a
+    element-copy-out-b
+    element-copy-out-c
+    element-copy-out-d
+    places-of-requires
+    offsets-of-requires
+    returns)

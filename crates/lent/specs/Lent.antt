@@ -1,0 +1,191 @@
+-- The lent forms of the machine's calls: the core table is a lent list of records, and the semaphore's holder stands beside it. Each call is the
+-- one by value (crate machine, specs/Calls) on the state that the table holds; of a call that isn't refused the table's records are written back.
+-- In order: a table as a state, and back; what a call leaves; the calls; the next core to move; the registers of one core.
+use Prim.Native.Nat.{ℕ, _*_}
+use mathlib.Core.Bool.{Bool}
+use mathlib.Core.List.{List, [], _∷_}
+use lib.ListN.{length, getD, set, replicate}
+use lib.Dec.{ltb, leb, eqb}
+use Rattle.verdict.specs.Verdict.{pick, both, next}
+use Rattle.memory.specs.Memory.{splice, part}
+use Rattle.protocol.specs.declared.Registers.{Registers}
+use Rattle.records.specs.File.{cores}
+use Rattle.taskset.specs.Judge.{judge}
+use Rattle.states.specs.declared.State.{State}
+use Rattle.states.specs.Machine.{none}
+use Rattle.runner.specs.declared.Ran.{Ran}
+use Rattle.runner.specs.Runs.{Left, left}
+use Rattle.table.specs.declared.Moving.{Moving}
+use Rattle.table.specs.declared.Moving.the-variants.{Core as moving, Nothing}
+use Rattle.machine.specs.declared.Next.{Next}
+use Rattle.machine.specs.Calls.{answerOf, tableOf, freshCall, runCall, stepCall, nextCall}
+use Rattle.lent.specs.declared.Core.{Core}
+use Rattle.lent.specs.declared.Table.{Table}
+use Rattle.lent.specs.declared.After.{After}
+
+-- ---- a table as a state, and back
+
+-- a record past the end of a table
+abbrev pub noCore : Core
+noCore = record { registers = none; places = replicate 16 0; offsets = replicate 16 0 }
+
+abbrev pub recordAt : List Core → ℕ → Core
+recordAt ys k = getD ys k noCore
+
+-- record k of a table copied out, which has four; no other is ever read
+abbrev pub recordOf : Table → ℕ → Core
+recordOf t k = getD (t .cores) k (record { registers = none; places = []; offsets = [] })
+
+-- how many records a table has, in one byte: 255 stands for more, and is no number of cores
+abbrev pub counted : ℕ → ℕ
+counted n = pick (ltb n 255) n 255
+
+-- a table copied out: its count, and its first four records
+abbrev pub tableFrom : Core → Core → Core → Core → ℕ → Table
+tableFrom a b c d n = record { count = counted n; cores = a ∷ b ∷ c ∷ d ∷ [] }
+
+abbrev pub loaded : List Core → Table
+loaded ys = tableFrom (recordAt ys 0) (recordAt ys 1) (recordAt ys 2) (recordAt ys 3) (length ys)
+
+-- the entries of four call stacks, sixteen each, end to end
+unfoldable pub entries : List ℕ → List ℕ → List ℕ → List ℕ → List ℕ
+entries a b c d = splice (splice (splice (splice (replicate 64 0) 0 a) 16 b) 32 c) 48 d
+
+unfoldable pub heldPlaces : Table → List ℕ
+heldPlaces t = entries (recordOf t 0 .places) (recordOf t 1 .places) (recordOf t 2 .places) (recordOf t 3 .places)
+
+unfoldable pub heldOffsets : Table → List ℕ
+heldOffsets t = entries (recordOf t 0 .offsets) (recordOf t 1 .offsets) (recordOf t 2 .offsets) (recordOf t 3 .offsets)
+
+-- the state that a table holds
+unfoldable pub held : Table → ℕ → State
+held t holder = record {
+  count = t .count;
+  holder = holder;
+  cores = recordOf t 0 .registers ∷ recordOf t 1 .registers ∷ recordOf t 2 .registers ∷ recordOf t 3 .registers ∷ [];
+  places = heldPlaces t;
+  offsets = heldOffsets t;
+}
+
+-- the record of core k of a state
+unfoldable pub coreOf : State → ℕ → Core
+coreOf s k = record { registers = getD (s .cores) k none; places = part (s .places) (16 * k) 16; offsets = part (s .offsets) (16 * k) 16 }
+
+-- ---- what a call leaves
+
+-- record k after a call: that of the state, where the call isn't refused and the state has a core k; else the one on entry
+unfoldable pub recordAfter : Table → Ran → ℕ → Core
+recordAfter t r k = pick (both (eqb (r .refusal) 0) (ltb k (r .state .count))) (coreOf (r .state) k) (recordOf t k)
+
+abbrev pub afterOf : Table → Ran → After
+afterOf t r = record { refusal = r .refusal; a = recordAfter t r 0; b = recordAfter t r 1; c = recordAfter t r 2; d = recordAfter t r 3 }
+
+-- a refusal that no call by value answers
+abbrev pub refusedOf : Table → ℕ → After
+refusedOf t n = record { refusal = n; a = recordOf t 0; b = recordOf t 1; c = recordOf t 2; d = recordOf t 3 }
+
+-- the semaphore's holder and the count of takings after a call; a refused one leaves them
+abbrev pub holderAfter : ℕ → Ran → ℕ
+holderAfter holder r = pick (eqb (r .refusal) 0) (r .state .holder) holder
+
+abbrev pub takenAfter : ℕ → Ran → ℕ
+takenAfter taken r = pick (eqb (r .refusal) 0) (r .taken) taken
+
+-- of a call on a table copied out: refusal number and records, holder, and every lent byte
+pub record TableLeft : Type 0 where
+  pub after : After
+  pub holder : ℕ
+  pub memory : List ℕ
+  pub shared : List ℕ
+  pub order : List ℕ
+
+abbrev pub tableLeft : After → ℕ → List ℕ → List ℕ → List ℕ → TableLeft
+tableLeft x holder d sh list = record { after = x; holder = holder; memory = d; shared = sh; order = list }
+
+abbrev pub onTable : Table → ℕ → Left → TableLeft
+onTable t holder l = tableLeft (afterOf t (l .answer)) (holderAfter holder (l .answer)) (l .memory) (l .shared) (l .order)
+
+-- of a call on a lent table: refusal number, every record, holder, and every lent byte
+pub record Lent : Type 0 where
+  pub refusal : ℕ
+  pub table : List Core
+  pub holder : ℕ
+  pub memory : List ℕ
+  pub shared : List ℕ
+  pub order : List ℕ
+
+abbrev pub lent : ℕ → List Core → ℕ → List ℕ → List ℕ → List ℕ → Lent
+lent r ys holder d sh list = record { refusal = r; table = ys; holder = holder; memory = d; shared = sh; order = list }
+
+-- the records that a table has are written back
+abbrev pub saved : List Core → After → List Core
+saved ys x = set (set (set (set ys 0 (x .a)) 1 (x .b)) 2 (x .c)) 3 (x .d)
+
+abbrev pub written : List Core → TableLeft → Lent
+written ys l = lent (l .after .refusal) (saved ys (l .after)) (l .holder) (l .memory) (l .shared) (l .order)
+
+-- ---- the calls: on a table copied out, and on the lent one
+
+unfoldable pub stepTable : List ℕ → List ℕ → Table → ℕ → List ℕ → List ℕ → ℕ → TableLeft
+stepTable f t x holder d sh k = onTable x holder (stepCall f t (held x holder) d sh k)
+
+unfoldable pub stepLent : List ℕ → List ℕ → List Core → ℕ → List ℕ → List ℕ → ℕ → Lent
+stepLent f t ys holder d sh k = written ys (stepTable f t (loaded ys) holder d sh k)
+
+unfoldable pub runTable : List ℕ → List ℕ → Table → ℕ → List ℕ → List ℕ → List ℕ → List ℕ → TableLeft
+runTable f t x holder d sh order list = onTable x holder (runCall f t (held x holder) d sh order list)
+
+unfoldable pub runLent : List ℕ → List ℕ → List Core → ℕ → List ℕ → List ℕ → List ℕ → List ℕ → Lent
+runLent f t ys holder d sh order list = written ys (runTable f t (loaded ys) holder d sh order list)
+
+-- how many takings a run has written to the order list
+unfoldable pub takenTable : List ℕ → List ℕ → Table → ℕ → List ℕ → List ℕ → List ℕ → List ℕ → ℕ → ℕ
+takenTable f t x holder d sh order list taken = takenAfter taken (runCall f t (held x holder) d sh order list .answer)
+
+unfoldable pub takenLent : List ℕ → List ℕ → List Core → ℕ → List ℕ → List ℕ → List ℕ → List ℕ → ℕ → ℕ
+takenLent f t ys holder d sh order list taken = takenTable f t (loaded ys) holder d sh order list taken
+
+-- the fresh state needs a table of at least n records (21), and writes the first n
+unfoldable pub freshTable : List ℕ → Table → ℕ → List ℕ → List ℕ → TableLeft
+freshTable f x holder d sh =
+    onTable x holder (pick (leb (cores f) (x .count)) (freshCall f d sh) (left (answerOf (next (judge f) 21) (tableOf 0 0)) d sh []))
+
+unfoldable pub freshLent : List ℕ → List Core → ℕ → List ℕ → List ℕ → Lent
+freshLent f ys holder d sh = written ys (freshTable f (loaded ys) holder d sh)
+
+-- ---- the next core to move
+
+-- its number for C: 255 stands for none
+abbrev pub numberOf : Moving → ℕ
+numberOf (moving k) = k
+numberOf Nothing = 255
+
+-- the refusal number, and the byte that takes the core's number; a refused call leaves it
+pub record Answered : Type 0 where
+  pub refusal : ℕ
+  pub found : ℕ
+
+abbrev pub answered : ℕ → ℕ → Answered
+answered r found = record { refusal = r; found = found }
+
+abbrev pub foundAfter : ℕ → Next → ℕ
+foundAfter found n = pick (eqb (n .refusal) 0) (numberOf (n .moving)) found
+
+unfoldable pub nextTable : List ℕ → List ℕ → Table → ℕ → ℕ → ℕ → Answered
+nextTable f t x holder given found = answered (nextCall f t (held x holder) given .refusal) (foundAfter found (nextCall f t (held x holder) given))
+
+unfoldable pub nextLent : List ℕ → List ℕ → List Core → ℕ → ℕ → ℕ → Answered
+nextLent f t ys holder given found = nextTable f t (loaded ys) holder given found
+
+-- ---- the registers of one core, lent to its step beside the rest of the state
+
+-- the state with these registers for core k
+unfoldable pub withRegisters : State → ℕ → Registers → State
+withRegisters s k r = record { count = s .count; holder = s .holder; cores = set (s .cores) k r; places = s .places; offsets = s .offsets }
+
+-- the lent registers after a call that left this state; those on entry where it names no core
+abbrev pub registersAfter : State → ℕ → Registers → Registers
+registersAfter s k r = pick (ltb k 4) (getD (s .cores) k none) r
+
+unfoldable pub stepRegisters : List ℕ → List ℕ → State → Registers → List ℕ → List ℕ → ℕ → Left
+stepRegisters f t s r d sh k = stepCall f t (withRegisters s k r) d sh k

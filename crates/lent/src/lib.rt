@@ -1,0 +1,567 @@
+// The machine's calls with a lent core table, for Rust and C: thin functions over the calls by value (crate machine). A table is a slice of
+// records, one for each core; the semaphore's holder is a byte beside it. A refused call changes nothing.
+//
+// The functions that start with `rikzord_` are the C interface too: a slice is a pointer and a length there.
+use protocol::Registers;
+use runner::Ran;
+use states::State;
+use table::Moving;
+ghost use mathlib.Core.Path.{_≡_};
+ghost use mathlib.Core.List.{[], _∷_};
+ghost use Prim.Native.Nat.{_+_, _*_, _<_, _≤_};
+ghost use lib.ListN.{length, getD, set};
+ghost use Rattle.verdict.specs.Verdict.{next};
+ghost use Rattle.memory.specs.Memory.{splice, part};
+ghost use Rattle.taskset.specs.Judge.{judge};
+ghost use Rattle.runner.specs.Runs.{left};
+ghost use Rattle.lent.specs.Lent.{noCore, tableFrom, loaded, entries, counted, heldPlaces, heldOffsets, held, coreOf, recordAfter, afterOf, refusedOf, holderAfter, takenAfter, tableLeft, lent, stepTable, stepLent, runTable, runLent, takenTable, takenLent, freshTable, freshLent, numberOf, answered, nextTable, nextLent, withRegisters, registersAfter, stepRegisters};
+
+// A record of the core table: a core's registers and call stack.
+#[repr(C)]
+pub struct Core {
+    pub registers: Registers,
+    pub places: [u16; 16], // the return places of its open calls
+    pub offsets: [u16; 16], // the data offsets that go with them
+}
+
+// A table copied out: how many records it has, 255 for more, and its first four; zeros where it has fewer.
+pub struct Table {
+    pub count: u8,
+    pub cores: [Core; 4],
+}
+
+// ---- a table as a state, and back
+
+// Copies n entries from src[from..] to dst[to..].
+fn copy(dst: &mut [u16], to: usize, src: &[u16], from: usize, n: usize)
+    requires { ⌜ (to + n ≤ length (now dst)) × (from + n ≤ length (now src)) ⌝ }
+    ensures { λ _. ⌜ now (dst .exit) ≡ splice (now (dst .entry)) to (part (now (src .entry)) from n) ⌝ }
+{
+    let mut i = 0;
+    while i < n {
+        dst[to + i] = src[from + i];
+        i += 1;
+    }
+}
+
+// The entries of four call stacks, end to end.
+fn join(a: [u16; 16], b: [u16; 16], c: [u16; 16], d: [u16; 16]) -> [u16; 64]
+    ensures { λ r. ⌜ r ≡ entries a b c d ⌝ }
+{
+    let mut all = [0u16; 64];
+    copy(&mut all, 0, &a, 0, 16);
+    copy(&mut all, 16, &b, 0, 16);
+    copy(&mut all, 32, &c, 0, 16);
+    copy(&mut all, 48, &d, 0, 16);
+    all
+}
+
+// The entries of core k's call stack.
+fn stack_of(all: [u16; 64], k: usize) -> [u16; 16]
+    requires { ⌜ k < 4 ⌝ }
+    ensures { λ r. ⌜ r ≡ part all (16 * k) 16 ⌝ }
+{
+    let mut stack = [0u16; 16];
+    copy(&mut stack, 0, &all, 16 * k, 16);
+    stack
+}
+
+// The return places of a table's four cores.
+fn places_of(t: Table) -> [u16; 64]
+    ensures { λ r. ⌜ r ≡ heldPlaces t ⌝ }
+{
+    let a = t.cores[0];
+    let b = t.cores[1];
+    let c = t.cores[2];
+    let d = t.cores[3];
+    let pa = a.places;
+    let pb = b.places;
+    let pc = c.places;
+    let pd = d.places;
+    join(pa, pb, pc, pd)
+}
+
+// The data offsets that go with them.
+fn offsets_of(t: Table) -> [u16; 64]
+    ensures { λ r. ⌜ r ≡ heldOffsets t ⌝ }
+{
+    let a = t.cores[0];
+    let b = t.cores[1];
+    let c = t.cores[2];
+    let d = t.cores[3];
+    let oa = a.offsets;
+    let ob = b.offsets;
+    let oc = c.offsets;
+    let od = d.offsets;
+    join(oa, ob, oc, od)
+}
+
+// The state that a table holds.
+fn state_of(t: Table, holder: u8) -> State
+    ensures { λ r. ⌜ r ≡ held t holder ⌝ }
+{
+    let a = t.cores[0];
+    let b = t.cores[1];
+    let c = t.cores[2];
+    let d = t.cores[3];
+    let ra = a.registers;
+    let rb = b.registers;
+    let rc = c.registers;
+    let rd = d.registers;
+    let cores = [ra, rb, rc, rd];
+    let places = places_of(t);
+    let offsets = offsets_of(t);
+    State {
+        count: t.count,
+        holder,
+        cores,
+        places,
+        offsets,
+    }
+}
+
+// The record of core k of a state.
+fn core_of(s: State, k: usize) -> Core
+    requires { ⌜ k < 4 ⌝ }
+    ensures { λ r. ⌜ r ≡ coreOf s k ⌝ }
+{
+    let registers = s.cores[k];
+    let all_places = s.places;
+    let all_offsets = s.offsets;
+    let places = stack_of(all_places, k);
+    let offsets = stack_of(all_offsets, k);
+    Core {
+        registers,
+        places,
+        offsets,
+    }
+}
+
+// ---- what a call leaves of a table
+
+// The refusal number, and the table's first four records.
+pub struct After {
+    pub refusal: u8,
+    pub a: Core,
+    pub b: Core,
+    pub c: Core,
+    pub d: Core,
+}
+
+// Record k after a call.
+fn record_after(t: Table, r: Ran, k: usize) -> Core
+    requires { ⌜ k < 4 ⌝ }
+    ensures { λ x. ⌜ x ≡ recordAfter t r k ⌝ }
+{
+    if r.refusal != 0 {
+        return t.cores[k];
+    }
+    let s = r.state;
+    if s.count as usize <= k {
+        return t.cores[k];
+    }
+    core_of(s, k)
+}
+
+fn records_after(t: Table, r: Ran) -> After
+    ensures { λ x. ⌜ x ≡ afterOf t r ⌝ }
+{
+    let a = record_after(t, r, 0);
+    let b = record_after(t, r, 1);
+    let c = record_after(t, r, 2);
+    let d = record_after(t, r, 3);
+    After {
+        refusal: r.refusal,
+        a,
+        b,
+        c,
+        d,
+    }
+}
+
+// The semaphore's holder after a call.
+fn holder_after(holder: u8, r: Ran) -> u8
+    ensures { λ x. ⌜ x ≡ holderAfter holder r ⌝ }
+{
+    if r.refusal != 0 {
+        return holder;
+    }
+    let s = r.state;
+    s.holder
+}
+
+// The count of takings after a run.
+fn taken_after(taken: usize, r: Ran) -> usize
+    ensures { λ x. ⌜ x ≡ takenAfter taken r ⌝ }
+{
+    if r.refusal != 0 {
+        return taken;
+    }
+    r.taken
+}
+
+// ---- the calls on a table copied out
+
+fn step_table(
+    file: &[u8],
+    trace: &[u8],
+    t: Table,
+    holder: &mut u8,
+    buffer: &mut [u8],
+    shared: &mut [u8],
+    core: u8,
+) -> After
+    ensures { λ r. ⌜ tableLeft r (now (holder .exit)) (now (buffer .exit)) (now (shared .exit)) [] ≡ stepTable (now (file .entry)) (now (trace .entry)) t (now (holder .entry)) (now (buffer .entry)) (now (shared .entry)) core ⌝ }
+{
+    let s = state_of(t, *holder);
+    let r = machine::step(file, trace, s, buffer, shared, core);
+    *holder = holder_after(*holder, r);
+    records_after(t, r)
+}
+
+fn run_table(
+    file: &[u8],
+    trace: &[u8],
+    t: Table,
+    holder: &mut u8,
+    buffer: &mut [u8],
+    shared: &mut [u8],
+    order: &[u8],
+    list: &mut [u8],
+    taken: &mut usize,
+) -> After
+    ensures { λ r. ⌜ (tableLeft r (now (holder .exit)) (now (buffer .exit)) (now (shared .exit)) (now (list .exit)) ≡ runTable (now (file .entry)) (now (trace .entry)) t (now (holder .entry)) (now (buffer .entry)) (now (shared .entry)) (now (order .entry)) (now (list .entry))) × (now (taken .exit) ≡ takenTable (now (file .entry)) (now (trace .entry)) t (now (holder .entry)) (now (buffer .entry)) (now (shared .entry)) (now (order .entry)) (now (list .entry)) (now (taken .entry))) ⌝ }
+{
+    let s = state_of(t, *holder);
+    let r = machine::run(file, trace, s, buffer, shared, order, list);
+    *holder = holder_after(*holder, r);
+    *taken = taken_after(*taken, r);
+    records_after(t, r)
+}
+
+// The fresh state. A table of fewer than n records is too short.
+fn fresh_table(
+    file: &[u8],
+    t: Table,
+    holder: &mut u8,
+    buffer: &mut [u8],
+    shared: &mut [u8],
+) -> After
+    ensures { λ r. ⌜ tableLeft r (now (holder .exit)) (now (buffer .exit)) (now (shared .exit)) [] ≡ freshTable (now (file .entry)) t (now (holder .entry)) (now (buffer .entry)) (now (shared .entry)) ⌝ }
+{
+    if t.count < memory::byte_at(file, 4) {
+        return refused(t, short_refusal(file));
+    }
+    let r = machine::fresh(file, buffer, shared);
+    *holder = holder_after(*holder, r);
+    records_after(t, r)
+}
+
+// The refusal where the table is too short: the file is judged first.
+fn short_refusal(file: &[u8]) -> u8
+    ensures { λ r. ⌜ r ≡ next (judge (now (file .entry))) 21 ⌝ }
+{
+    let r = taskset::judge_file(file);
+    if r != 0 {
+        return r;
+    }
+    21
+}
+
+fn refused(t: Table, number: u8) -> After
+    ensures { λ x. ⌜ x ≡ refusedOf t number ⌝ }
+{
+    let a = t.cores[0];
+    let b = t.cores[1];
+    let c = t.cores[2];
+    let d = t.cores[3];
+    After {
+        refusal: number,
+        a,
+        b,
+        c,
+        d,
+    }
+}
+
+// The number of the core that moves next; 255 where there is none.
+fn number_of(m: Moving) -> u8
+    ensures { λ r. ⌜ r ≡ numberOf m ⌝ }
+{
+    match m {
+        Moving::Core(k) => k,
+        Moving::Nothing => 255,
+    }
+}
+
+fn next_table(file: &[u8], trace: &[u8], t: Table, holder: u8, given: u8, found: &mut u8) -> u8
+    ensures { λ r. ⌜ answered r (now (found .exit)) ≡ nextTable (now (file .entry)) (now (trace .entry)) t holder given (now (found .entry)) ⌝ }
+{
+    let s = state_of(t, holder);
+    let n = machine::next_core(file, trace, s, given);
+    if n.refusal != 0 {
+        return n.refusal;
+    }
+    let m = n.moving;
+    *found = number_of(m);
+    0
+}
+
+// ---- the registers of one core
+
+// What a step answers that is lent the registers of its core: these, and the answer by value.
+pub struct Stepped {
+    pub registers: Registers,
+    pub ran: Ran,
+}
+
+fn set_registers(cores: [Registers; 4], k: usize, r: Registers) -> [Registers; 4]
+    ensures { λ x. ⌜ x ≡ set cores k r ⌝ }
+{
+    let mut l = cores;
+    if k < 4 {
+        l[k] = r;
+        return l;
+    }
+    l
+}
+
+// The state with these registers for core k.
+fn with_registers(s: State, k: usize, r: Registers) -> State
+    ensures { λ x. ⌜ x ≡ withRegisters s k r ⌝ }
+{
+    let old = s.cores;
+    let cores = set_registers(old, k, r);
+    let places = s.places;
+    let offsets = s.offsets;
+    State {
+        count: s.count,
+        holder: s.holder,
+        cores,
+        places,
+        offsets,
+    }
+}
+
+// Core k's registers of a state; r where there is no core k.
+fn registers_of(s: State, k: usize, r: Registers) -> Registers
+    ensures { λ x. ⌜ x ≡ registersAfter s k r ⌝ }
+{
+    if k < 4 {
+        return s.cores[k];
+    }
+    r
+}
+
+fn step_with(
+    file: &[u8],
+    trace: &[u8],
+    s: State,
+    registers: Registers,
+    buffer: &mut [u8],
+    shared: &mut [u8],
+    core: u8,
+) -> Stepped
+    ensures { λ x. ⌜ (left (x .ran) (now (buffer .exit)) (now (shared .exit)) [] ≡ stepRegisters (now (file .entry)) (now (trace .entry)) s registers (now (buffer .entry)) (now (shared .entry)) core) × (x .registers ≡ registersAfter (x .ran .state) core registers) ⌝ }
+{
+    let k = core as usize;
+    let ran = machine::step(
+        file,
+        trace,
+        with_registers(s, k, registers),
+        buffer,
+        shared,
+        core,
+    );
+    let after = registers_of(ran.state, k, registers);
+    Stepped {
+        registers: after,
+        ran,
+    }
+}
+
+// The registers of core `core` are lent to its step and changed in place; the rest of the state goes by value.
+pub fn step_registers(
+    file: &[u8],
+    trace: &[u8],
+    s: State,
+    registers: &mut Registers,
+    buffer: &mut [u8],
+    shared: &mut [u8],
+    core: u8,
+) -> Ran
+    ensures { λ x. ⌜ (left x (now (buffer .exit)) (now (shared .exit)) [] ≡ stepRegisters (now (file .entry)) (now (trace .entry)) s (now (registers .entry)) (now (buffer .entry)) (now (shared .entry)) core) × (now (registers .exit) ≡ registersAfter (x .state) core (now (registers .entry))) ⌝ }
+{
+    let x = step_with(file, trace, s, *registers, buffer, shared, core);
+    *registers = x.registers;
+    x.ran
+}
+
+// ---- the lent table
+
+// A record of zeros.
+fn no_core() -> Core
+    ensures { λ r. ⌜ r ≡ noCore ⌝ }
+{
+    let registers = Registers {
+        mode: protocol::BETWEEN,
+        counter: 0,
+        offset: 0,
+        depth: 0,
+        count: 0,
+        exchange: 0,
+        cycles: 0,
+        flags: 0,
+        time: 0,
+    };
+    let places = [0u16; 16];
+    let offsets = [0u16; 16];
+    Core {
+        registers,
+        places,
+        offsets,
+    }
+}
+
+// How many records a table has, in one byte.
+fn count_of(n: usize) -> u8
+    ensures { λ r. ⌜ r ≡ counted n ⌝ }
+{
+    if n < 255 {
+        return n as u8;
+    }
+    255
+}
+
+fn table_of(a: Core, b: Core, c: Core, d: Core, n: usize) -> Table
+    ensures { λ r. ⌜ r ≡ tableFrom a b c d n ⌝ }
+{
+    let count = count_of(n);
+    let cores = [a, b, c, d];
+    Table { count, cores }
+}
+
+// Record i of a table; `other` past its end.
+pub fn get_or(t: &[Core], i: usize, other: Core) -> Core
+    ensures { λ r. ⌜ r ≡ getD (now (t .entry)) i other ⌝ }
+{
+    if t.len() <= i {
+        return other;
+    }
+    t[i]
+}
+
+// Record i of a table is set; past its end nothing changes.
+pub fn put_or(t: &mut [Core], i: usize, c: Core)
+    ensures { λ _. ⌜ now (t .exit) ≡ set (now (t .entry)) i c ⌝ }
+{
+    if t.len() <= i {
+        return;
+    }
+    t[i] = c;
+}
+
+// The table copied out.
+pub fn load(t: &[Core]) -> Table
+    ensures { λ r. ⌜ r ≡ loaded (now (t .entry)) ⌝ }
+{
+    let none = no_core();
+    let a = get_or(t, 0, none);
+    let b = get_or(t, 1, none);
+    let c = get_or(t, 2, none);
+    let d = get_or(t, 3, none);
+    table_of(a, b, c, d, t.len())
+}
+
+// Four records are written to the table, as far as it has them.
+pub fn save(t: &mut [Core], a: Core, b: Core, c: Core, d: Core)
+    ensures { λ _. ⌜ now (t .exit) ≡ set (set (set (set (now (t .entry)) 0 a) 1 b) 2 c) 3 d ⌝ }
+{
+    put_or(t, 0, a);
+    put_or(t, 1, b);
+    put_or(t, 2, c);
+    put_or(t, 3, d);
+}
+
+// ---- the calls on a lent table
+
+// One step of a core. The answer is the refusal number, 0 for none.
+#[no_mangle]
+pub extern "C" fn rikzord_step(
+    file: &[u8],
+    trace: &[u8],
+    table: &mut [Core],
+    holder: &mut u8,
+    buffer: &mut [u8],
+    shared: &mut [u8],
+    core: u8,
+) -> u8
+    ensures { λ r. ⌜ lent r (now (table .exit)) (now (holder .exit)) (now (buffer .exit)) (now (shared .exit)) [] ≡ stepLent (now (file .entry)) (now (trace .entry)) (now (table .entry)) (now (holder .entry)) (now (buffer .entry)) (now (shared .entry)) core ⌝ }
+{
+    let t = load(table);
+    let x = step_table(file, trace, t, holder, buffer, shared, core);
+    save(table, x.a, x.b, x.c, x.d);
+    x.refusal
+}
+
+// The steps of an order, one after another. The takings go to the front of `list`, and `taken` becomes how many there are.
+#[no_mangle]
+pub extern "C" fn rikzord_run(
+    file: &[u8],
+    trace: &[u8],
+    table: &mut [Core],
+    holder: &mut u8,
+    buffer: &mut [u8],
+    shared: &mut [u8],
+    order: &[u8],
+    list: &mut [u8],
+    taken: &mut usize,
+) -> u8
+    ensures { λ r. ⌜ (lent r (now (table .exit)) (now (holder .exit)) (now (buffer .exit)) (now (shared .exit)) (now (list .exit)) ≡ runLent (now (file .entry)) (now (trace .entry)) (now (table .entry)) (now (holder .entry)) (now (buffer .entry)) (now (shared .entry)) (now (order .entry)) (now (list .entry))) × (now (taken .exit) ≡ takenLent (now (file .entry)) (now (trace .entry)) (now (table .entry)) (now (holder .entry)) (now (buffer .entry)) (now (shared .entry)) (now (order .entry)) (now (list .entry)) (now (taken .entry))) ⌝ }
+{
+    let t = load(table);
+    let x = run_table(file, trace, t, holder, buffer, shared, order, list, taken);
+    save(table, x.a, x.b, x.c, x.d);
+    x.refusal
+}
+
+// The fresh state. The table needs at least n records, and the first n are written.
+#[no_mangle]
+pub extern "C" fn rikzord_fresh(
+    file: &[u8],
+    table: &mut [Core],
+    holder: &mut u8,
+    buffer: &mut [u8],
+    shared: &mut [u8],
+) -> u8
+    ensures { λ r. ⌜ lent r (now (table .exit)) (now (holder .exit)) (now (buffer .exit)) (now (shared .exit)) [] ≡ freshLent (now (file .entry)) (now (table .entry)) (now (holder .entry)) (now (buffer .entry)) (now (shared .entry)) ⌝ }
+{
+    let t = load(table);
+    let x = fresh_table(file, t, holder, buffer, shared);
+    save(table, x.a, x.b, x.c, x.d);
+    x.refusal
+}
+
+// The first core after `given`, round the ring and that one last, whose step would change something, goes to `found`; 255 for none.
+#[no_mangle]
+pub extern "C" fn rikzord_next_core(
+    file: &[u8],
+    trace: &[u8],
+    table: &[Core],
+    holder: u8,
+    given: u8,
+    found: &mut u8,
+) -> u8
+    ensures { λ r. ⌜ answered r (now (found .exit)) ≡ nextLent (now (file .entry)) (now (trace .entry)) (now (table .entry)) holder given (now (found .entry)) ⌝ }
+{
+    let t = load(table);
+    next_table(file, trace, t, holder, given, found)
+}
+
+// The refusal number of a task set file alone.
+#[no_mangle]
+pub extern "C" fn rikzord_check_file(file: &[u8]) -> u8
+    ensures { λ r. ⌜ r ≡ judge (now (file .entry)) ⌝ }
+{
+    machine::check_file(file)
+}
