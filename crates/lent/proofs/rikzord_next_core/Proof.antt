@@ -167,7 +167,7 @@ module _ {M : Type 1} (𝓤 : URA M) (H : Heap 𝓤) (A : Atoms 𝓤) (W : Given
         move ! (9 ∷ []) $ use1 W (‵ table-own ⊛ ‵ table-own) (shr-slice-copy 𝓤 H A W (named 2) κ₂ R .twice table-ref (table-val ∷ [])) $ split ! $
         -- `load`
         nothing ! $ move ! (8 ∷ 0 ∷ []) $ join ! $ use2 W (raw (Load 𝓤 H A at-mem run .pre to-load)) goes-load $
-        -- [pre; table2; trace; trace2; file; file2; κfound; κtrace; κfile; found; _8; …; _7; …; _6; …; _5; …; _4; …; _3; …; _2; …; _1; …; _0; …]
+        -- [what `load` asks; what table owns; what trace owns; what trace owns; what file owns; what file owns; found's token; trace's token; file's token; what found owns; _8; …; _7; …; down to _0]
         calls-at ! fm (Load 𝓤 H A at-mem run) known-load to-load (and-then ! (load ! (from ! (stop !)) (look ! 20 refl)) (no-more !)) (λ v.
         use1 W (later (some (λ (t : Table). ((‵ (flft κ₂ q₂) ⊛ ‵ ftrue) ⊛ ‵ (F.the-row .own t (v ∷ []))) ⊛ raw (ensured 𝓤 H A load′.ended (load′.clauses 𝓤 H A at-mem run) (κ₂, tt) (table-ref, tt) tt t)))) (id⊢ 𝓤 _) $ await ! tt $ pick ! (λ t.
         split ! $ move ! (1 ∷ []) $ use1 W (raw (fact 𝓤 (t ≡ loaded table))) (load-of 𝓤 H A at-mem run κ₂ table-ref t) $ heard ! (t ≡ loaded table) (λ e₁.
@@ -176,7 +176,7 @@ module _ {M : Type 1} (𝓤 : URA M) (H : Heap 𝓤) (A : Atoms 𝓤) (W : Given
         assigns ! (addr ! (from ! (hop ! (look ! 14 refl) (stop !)))) (from ! (stop !)) (init ! 10 refl (tt, tt)) $
         nothing ! $ move ! (10 ∷ 0 ∷ []) $ fjoin ! $ owned ! u8 (Is u8) (uint-makes 𝓤 H A W w8) given _ (refl, given-fits) $ fjoin ! $ owned ! u8 (Is u8) (uint-makes 𝓤 H A W w8) holder _ (refl, holder-fits) $ fjoin ! $ owned ! F.the-row (Is F.the-row) (LL.makes F.the-type F′.the-plain 𝓤 H A) t _ is₁ $ fjoin ! $ move ! (3 ∷ 0 ∷ []) $ fjoin ! $ move ! (4 ∷ 0 ∷ []) $ fjoin ! $
         nothing ! $ move ! (6 ∷ 0 ∷ []) $ join ! $ move ! (6 ∷ 0 ∷ []) $ join ! $ move ! (6 ∷ 0 ∷ []) $ join ! $ use2 W (raw (NextTable 𝓤 H A at-mem run .pre (to-next t v))) (goes-next t v) $
-        -- [pre; κtable; table2; trace2; file2; _8; …; _7; …; _6; …; _5; …; _4; …; _3; …; _2; …; _1; …; _0; …]
+        -- [what `next_table` asks; table's token; what table owns; what trace owns; what file owns; _8; …; _7; …; down to _0]
         calls-at ! fm (NextTable 𝓤 H A at-mem run) known-next (to-next t v)
         (and-then ! (load ! (from ! (stop !)) (look ! 19 refl)) (and-then ! (load ! (from ! (stop !)) (look ! 17 refl)) (and-then ! (load ! (from ! (stop !)) (look ! 7 refl)) (and-then ! (load ! (from ! (stop !)) (look ! 13 refl)) (and-then ! (load ! (from ! (stop !)) (look ! 11 refl)) (and-then ! (load ! (from ! (stop !)) (look ! 5 refl)) (no-more !))))))) (λ w.
         use1 W (later (some (λ (r : ℕ). ((‵ (flft κ₀ q₀) ⊛ ‵ (flft κ₁ q₁) ⊛ ‵ (flft κ₃ q₃) ⊛ ‵ ftrue) ⊛ ‵ (u8 .own r (w ∷ []))) ⊛ raw (ensured 𝓤 H A next-table.ended (next-table.clauses 𝓤 H A at-mem run) (κ₀, (κ₁, (κ₃, tt))) (next-args t) tt r)))) (id⊢ 𝓤 _) $ await ! tt $ pick ! (λ r.
@@ -184,7 +184,7 @@ module _ {M : Type 1} (𝓤 : URA M) (H : Heap 𝓤) (A : Atoms 𝓤) (W : Given
         split ! $ move ! (1 ∷ []) $ heard ! (Says t r (zs .1 .1 .1 .1 .1 .0)) (λ e₂. fsplit ! $ drop ! $ fsplit ! $ drop ! $ fsplit ! $ drop ! $ fsplit ! $ drop ! $ fsplit ! $ drop ! $ fsplit ! $ move ! (1 ∷ []) $ drop ! $
         move ! (1 ∷ []) $ split ! $ move ! (1 ∷ []) $ peeks ! u8 (Is u8) (shows 𝓤 H A u8) r (w ∷ []) (λ is₂.
         land ! (from ! (stop !)) (init ! 23 refl (subst (λ (v′ : Val). Holds (hasTy (tyInt w8) v′) × WT v′) (sym (ap only (is₂ .0))) (tt, record { fits = is₂ .1 }))) $
-        -- [own; ctok; last found; κtable; table2; trace2; file2; _8; …; _7; …; _6; …; _5; …; _4; …; _3; …; _2; …; _1; …; _0; …]
+        -- [what the answer owns; the tokens of what was passed on; the last found; table's token; what table owns; what trace owns; what file owns; _8; …; _7; …; down to _0]
         returns ! (look ! 23 refl) $ forget ! 7 refl $ forget ! 9 refl $ forget ! 11 refl $ forget ! 13 refl $ forget ! 15 refl $ forget ! 17 refl $ forget ! 19 refl $ forget ! 21 refl $ forget ! 23 refl $
         move ! (23 ∷ 24 ∷ []) $ free1 ! $ move ! (21 ∷ 22 ∷ []) $ free1 ! $ move ! (19 ∷ 20 ∷ []) $ free1 ! $ move ! (17 ∷ 18 ∷ []) $ free1 ! $ move ! (15 ∷ 16 ∷ []) $ free1 ! $ move ! (13 ∷ 14 ∷ []) $ free1 ! $ move ! (11 ∷ 12 ∷ []) $ free1 ! $ move ! (9 ∷ 10 ∷ []) $ free1 ! $ move ! (7 ∷ 8 ∷ []) $ free1 ! $ free0 ! $
         move ! (1 ∷ []) $ split ! $ move ! (1 ∷ []) $ split ! $ move ! (1 ∷ []) $ split ! $ join ! $ move ! (5 ∷ 0 ∷ []) $ join ! $ move ! (1 ∷ 0 ∷ []) $ join ! $ move ! (1 ∷ 0 ∷ []) $ join ! $
