@@ -3,3 +3,4 @@ pub mod Shared
 pub mod Laws
 pub mod Unchanged
 pub mod Back
+pub mod Lending
