@@ -193,9 +193,9 @@ zero-core f few k i =
         → _≡_ {A = Core} record { registers = r; stack = record { places = p; offsets = p }; memory = m } record { registers = r′; stack = record { places = p′; offsets = p′ }; memory = m′ }
     same a b x = λ z. record { registers = a z; stack = record { places = b z; offsets = b z }; memory = x z }
 
-zero-state : (f : List ℕ) → cores f ≤ 4 → stateOf f (tableOf (cores f) 4) (replicate (total (sizesOf f)) 0) (replicate 1024 0) ≡ fresh (sizesOf f)
+pub fresh-state : (f : List ℕ) → cores f ≤ 4 → stateOf f (tableOf (cores f) 4) (replicate (total (sizesOf f)) 0) (replicate 1024 0) ≡ fresh (sizesOf f)
 unfolding stateIn tableOf
-zero-state f few =
+fresh-state f few =
     ap (λ (l : List Core). record { plant = record { cores = l; shared = replicate 1024 0 }; holder = 0 })
     (listed-is (coreIn f (replicate 4 (cleared 0 4)) (replicate 64 0) (replicate 64 0) (replicate (total (sizesOf f)) 0)) (cores f) (map freshCore (sizesOf f)) absent
     (length-map (sizesOf f) freshCore ∙ sizes-length f) (zero-core f few))
@@ -247,14 +247,14 @@ module _ (f t : List ℕ) (bytes : (i : ℕ) → getD f i 0 < 256) (trace-bytes 
 
     -- the call for the fresh state leaves it
     pub fresh-whole : cores f ≤ 4 → wholeOf f (freshCall f d sh) ≡ fresh (sizesOf f)
-    fresh-whole few = ap (wholeOf f) fresh-zeroed ∙ zero-state f few
+    fresh-whole few = ap (wholeOf f) fresh-zeroed ∙ fresh-state f few
 
     fresh-lendable : Set f t → Lendable f t (freshCall f d sh)
     unfolding tableOf
     fresh-lendable ok = subst (Lendable f t) (sym fresh-zeroed) record {
       count = refl;
       sized = record { memory = length-replicate {A = ℕ} (total (sizesOf f)) 0; shared = length-replicate {A = ℕ} 1024 0; places = length-replicate {A = ℕ} 64 0; offsets = length-replicate {A = ℕ} 64 0 };
-      fit = subst (Fit f t) (sym (zero-state f (ok .few))) (fresh-fit f t ok);
+      fit = subst (Fit f t) (sym (fresh-state f (ok .few))) (fresh-fit f t ok);
     }
 
     pub calls-interleaved : traceRefusal f t ≡ 0 → (ks : List ℕ) → CallsInterleaved f t d sh ks

@@ -25,6 +25,10 @@ use Rattle.machine.specs.declared.Next.{Next}
 
 -- ---- refusals
 
+-- the bytes of the data buffer: the sum of the data sizes; none where the file is refused
+unfoldable pub bufferSize : List ℕ → ℕ
+bufferSize f = pick (eqb (judge f) 0) (total (sizesOf f)) 0
+
 -- the data buffer has the sum of the data sizes, and shared memory 1,024 bytes
 unfoldable pub lentFits : List ℕ → ℕ → ℕ → Bool
 lentFits f buffer shared = both (eqb buffer (total (sizesOf f))) (eqb shared 1024)

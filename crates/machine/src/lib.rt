@@ -9,7 +9,7 @@ use table::Moving;
 use taskset::Layout;
 ghost use mathlib.Core.Path.{_≡_};
 ghost use mathlib.Core.Bool.{true};
-ghost use Prim.Native.Nat.{ℕ, suc, _<_};
+ghost use Prim.Native.Nat.{ℕ, suc, _≤_, _<_};
 ghost use mathlib.Core.List.{[]};
 ghost use lib.ListN.{length, getD};
 ghost use Rattle.memory.specs.Memory.{total};
@@ -24,7 +24,7 @@ ghost use Rattle.states.specs.Tasks.{tasksOf};
 ghost use Rattle.states.specs.Fit.{Fit};
 ghost use Rattle.steps.specs.Moving.{Aimed};
 ghost use Rattle.runner.specs.Runs.{allBelow, left, ranCall};
-ghost use Rattle.machine.specs.Calls.{lentFits, setRefusal, answerOf, tableOf, freshCall, runRefusal, runCall, stepCall, noNext, nextCall};
+ghost use Rattle.machine.specs.Calls.{bufferSize, lentFits, setRefusal, answerOf, tableOf, freshCall, runRefusal, runCall, stepCall, noNext, nextCall};
 
 // Bytes of shared memory.
 const SHARED: usize = 1024;
@@ -58,10 +58,10 @@ pub fn check_state(file: &[u8], trace: &[u8], s: State) -> u8
 
 // ---- lent memory
 
-// The sum of the data sizes.
-fn buffer_size(file: &[u8], layout: Layout) -> usize
+// The sum of the data sizes, at most 4 times 4,096.
+fn sum_of_sizes(file: &[u8], layout: Layout) -> usize
     requires { ⌜ (judge (now file) ≡ 0) × (layout ≡ layoutOf (now file)) ⌝ }
-    ensures { λ r. ⌜ r ≡ total (sizesOf (now (file .entry))) ⌝ }
+    ensures { λ r. ⌜ (r ≡ total (sizesOf (now (file .entry)))) × (r ≤ 16384) ⌝ }
 {
     let core = layout.core;
     core[0].size + core[1].size + core[2].size + core[3].size
@@ -72,10 +72,21 @@ fn lent_fits(file: &[u8], layout: Layout, buffer: usize, shared: usize) -> bool
     requires { ⌜ (judge (now file) ≡ 0) × (layout ≡ layoutOf (now file)) ⌝ }
     ensures { λ r. ⌜ r ≡ lentFits (now (file .entry)) buffer shared ⌝ }
 {
-    if buffer == buffer_size(file, layout) {
+    if buffer == sum_of_sizes(file, layout) {
         return shared == SHARED;
     }
     false
+}
+
+// The bytes of the data buffer of a task set; none where the file is refused.
+pub fn buffer_size(file: &[u8]) -> usize
+    ensures { λ r. ⌜ (r ≡ bufferSize (now (file .entry))) × (r ≤ 16384) ⌝ }
+{
+    let loaded = taskset::load(file);
+    if loaded.refusal != 0 {
+        return 0;
+    }
+    sum_of_sizes(file, loaded.layout)
 }
 
 // ---- the fresh state

@@ -119,12 +119,12 @@ unfolding ranCall splice
 looping-end {f} {t} {order = order} {s = s} {d₀ = d₀} {sh₀ = sh₀} {list₀ = list₀} {i = i} {cs = cs} {places = places} {offsets = offsets} {h = h} {taken = taken} {d = d} {sh = sh} {list = list} g w b =
     let none-left : drop i order ≡ [] = drop-done order i b (w .running .within) in
     let ends : stateIn f cs places offsets h d sh ≡ run (taskOf f t) order (stateOf f s d₀ sh₀) =
-        ap (λ (ks : List ℕ). run (taskOf f t) ks (stateIn f cs places offsets h d sh)) (sym none-left) ∙ w .running .rest in
+    ap (λ (ks : List ℕ). run (taskOf f t) ks (stateIn f cs places offsets h d sh)) (sym none-left) ∙ w .running .rest in
     let wrote : list ≡ splice list₀ 0 (orderList (taskOf f t) order (stateOf f s d₀ sh₀)) =
-        ap (λ (ks : List ℕ). splice list taken (orderList (taskOf f t) ks (stateIn f cs places offsets h d sh))) (sym none-left) ∙ w .running .listed in
+    ap (λ (ks : List ℕ). splice list taken (orderList (taskOf f t) ks (stateIn f cs places offsets h d sh))) (sym none-left) ∙ w .running .listed in
     let counted : taken ≡ length (orderList (taskOf f t) order (stateOf f s d₀ sh₀)) =
-        sym (add-zero taken) ∙ ap (λ (ks : List ℕ). taken + length (takings (taskOf f t) ks (stateIn f cs places offsets h d sh))) (sym none-left) ∙ w .running .counted
-        ∙ sym (length-map (takings (taskOf f t) order (stateOf f s d₀ sh₀)) encoded) in
+    sym (add-zero taken) ∙ ap (λ (ks : List ℕ). taken + length (takings (taskOf f t) ks (stateIn f cs places offsets h d sh))) (sym none-left) ∙ w .running .counted
+    ∙ sym (length-map (takings (taskOf f t) order (stateOf f s d₀ sh₀)) encoded) in
     same counted
     (sym (held-back f t order list₀ (stateOf f s d₀ sh₀) s i cs places offsets h taken d sh list (w .running)) ∙ ap (heldAfter (cores f) s) ends)
     (sym (data-back f cs places offsets h d sh (w .running .buffer)) ∙ ap dataOf ends)

@@ -203,7 +203,6 @@ module _ (l : List ℕ) (k i v : ℕ) (h : i < 16) where
           let b : suc k ≤ j = omega (arith, n, a) in
           ap (take 16) (drop-set-lt (16 * j) l (16 * k + i) v (omega arith))
 
-
 same-stack : {a b c d : List ℕ} → a ≡ b → c ≡ d → _≡_ {A = Stack} record { places = a; offsets = c } record { places = b; offsets = d }
 same-stack p q = λ i. record { places = p i; offsets = q i }
 

@@ -155,9 +155,10 @@ module _ (f t : List ℕ) (ok : Set f t) (ex : Executes f t) where
       let c : core (stateIn f cs places offsets h d sh .plant) k ≡ coreIn f cs places offsets d k = core-in f cs places offsets h d sh k i in
       let l : k < length (stateIn f cs places offsets h d sh .plant .cores) = rw (cores-in f cs places offsets h d sh) i in
       let a : core (stateIn f cs places offsets h d sh .plant) k .registers ≡ getD cs k none = ap (λ (x : Core). x .registers) c in
-      let b : core (stateIn f cs places offsets h d sh .plant) k .memory ≡ getD (split (sizesOf f) d) k [] = ap (λ (x : Core). x .memory) c in
-      (put-effected f k z m sh sh′ cs places offsets h d cs′ places′ offsets′ h′ d′ i n p ∙ y .moves (stateIn f cs places offsets h d sh) l a b (shared-in f cs places offsets h d sh) (holder-in f cs places offsets h d sh),
-      y .takes (stateIn f cs places offsets h d sh) l a b (shared-in f cs places offsets h d sh) (holder-in f cs places offsets h d sh))
+      let b : core (stateIn f cs places offsets h d sh .plant) k .memory ≡ getD (split (sizesOf f) d) k [] = ap (λ (x : Core). x .memory) c in (
+        put-effected f k z m sh sh′ cs places offsets h d cs′ places′ offsets′ h′ d′ i n p ∙ y .moves (stateIn f cs places offsets h d sh) l a b (shared-in f cs places offsets h d sh) (holder-in f cs places offsets h d sh),
+        y .takes (stateIn f cs places offsets h d sh) l a b (shared-in f cs places offsets h d sh) (holder-in f cs places offsets h d sh),
+      )
 
 -- One turn of a run
 module _ (f t : List ℕ) (ok : Set f t) (ex : Executes f t) (order list₀ : List ℕ) (s₀ : State) (cs₀ : List Registers) (places₀ offsets₀ : List ℕ) where

@@ -1,7 +1,8 @@
 // The steps of an order, one after another.
 use exchange::Cursor;
 use protocol::Registers;
-use states::{CoreTask, State};
+use states::CoreTask;
+use states::State;
 use steps::Effect;
 ghost use mathlib.Core.Path.{_≡_};
 ghost use mathlib.Core.Bool.{true};
@@ -61,7 +62,19 @@ fn core_at(file: &[u8], order: &[u8], i: usize) -> usize
 }
 
 // The steps of an order, one after another; everything is judged before.
-pub fn run_order(file: &[u8], trace: &[u8], tasks: [CoreTask; 4], first: usize, end: usize, order: &[u8], s: State, aim: Cursor, buffer: &mut [u8], shared: &mut [u8], list: &mut [u8]) -> Ran
+pub fn run_order(
+    file: &[u8],
+    trace: &[u8],
+    tasks: [CoreTask; 4],
+    first: usize,
+    end: usize,
+    order: &[u8],
+    s: State,
+    aim: Cursor,
+    buffer: &mut [u8],
+    shared: &mut [u8],
+    list: &mut [u8],
+) -> Ran
     requires { ⌜ Going (now file) (now trace) tasks first end (now order) s aim (now buffer) (now shared) (now list) ⌝ }
     ensures { λ r. ⌜ left r (now (buffer .exit)) (now (shared .exit)) (now (list .exit)) ≡ ranCall (now (file .entry)) (now (trace .entry)) s (now (buffer .entry)) (now (shared .entry)) (now (order .entry)) (now (list .entry)) ⌝ }
 {

@@ -362,8 +362,5 @@ pub fn prepare(file: &[u8], trace: &[u8], layout: Layout, s: State) -> Prepared
     }
     let tasks = core_tasks(file, trace, layout, traces);
     let refusal = state_refusal(file, trace, tasks, layout.cores, s);
-    Prepared {
-        refusal,
-        tasks,
-    }
+    Prepared { refusal, tasks }
 }

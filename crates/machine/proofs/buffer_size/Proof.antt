@@ -1,38 +1,28 @@
--- `machine::buffer_size` meets its contract: absent cores have size 0. Assumes nothing.
+-- `machine::buffer_size` meets its contract: a file is loaded, or refused and has no buffer. Assumes nothing.
+use mathlib.Core.Path.{sym, _∙_}
 use native.Mathlib.Omega.{arith}
 use borrow.Author.Needs.{needs}
-use Rattle.taskset.proofs.Exact.{keeps-rules}
-use Rattle.machine.proofs.Calls.{sizes-added, size-small}
+use borrow.Author.Tests.{eq-eqb, ne-eqb}
+use Rattle.verdict.proofs.Verdict.{pick-true, pick-false}
+use Rattle.machine.specs.Calls.{bufferSize}
+use Rattle.machine.proofs.Calls.{file-judged, file-accepted, file-laid}
 use Rattle.machine.proofs.buffer_size.Statement.{statement}
 use Rattle.machine.proofs.buffer_size.Tie as tie
 
-element-copy-out-result : tie.Need-element-copy-out-result
-element-copy-out-result c = search needs
-
-element-copy-out-result-2 : tie.Need-element-copy-out-result-2
-element-copy-out-result-2 c = search needs
-
-add-result : tie.Need-add-result
-add-result c =
-    rw (c .before .pre .1) (omega (arith, size-small (c .before .args .file .now) (c .before .pre .0) 0, size-small (c .before .args .file .now) (c .before .pre .0) 1))
-
-element-copy-out-result-3 : tie.Need-element-copy-out-result-3
-element-copy-out-result-3 c = search needs
-
-add-result-2 : tie.Need-add-result-2
-add-result-2 c =
-    rw (c .before .pre .1) (omega (arith, size-small (c .before .args .file .now) (c .before .pre .0) 0, size-small (c .before .args .file .now) (c .before .pre .0) 1, size-small (c .before .args .file .now) (c .before .pre .0) 2))
-
-element-copy-out-result-4 : tie.Need-element-copy-out-result-4
-element-copy-out-result-4 c = search needs
-
-add-result-3 : tie.Need-add-result-3
-add-result-3 c =
-    rw (c .before .pre .1) (omega (arith, size-small (c .before .args .file .now) (c .before .pre .0) 0, size-small (c .before .args .file .now) (c .before .pre .0) 1, size-small (c .before .args .file .now) (c .before .pre .0) 2, size-small (c .before .args .file .now) (c .before .pre .0) 3))
+load-requires : tie.Need-load-requires
+load-requires c κs = search needs
 
 returns : tie.Need-returns
-returns c = rw (c .before .pre .1) (sizes-added (c .before .args .file .now) (keeps-rules (c .before .args .file .now) (c .before .pre .0) .most-cores))
+unfolding bufferSize
+returns c = (sym (pick-false _ _ _ (ne-eqb _ _ (λ e. c .if1 .taken (file-judged (c .before .before .before .before .args .file .now) _ (c .before .before .load .ensures) ∙ e)))), omega arith)
+
+sum-of-sizes-requires : tie.Need-sum-of-sizes-requires
+sum-of-sizes-requires c κs = (file-accepted (c .before .before .before .before .args .file .now) _ (c .before .before .load .ensures) (c .if1 .left), file-laid (c .before .before .before .before .args .file .now) _ (c .before .before .load .ensures) (c .if1 .left))
+
+returns-2 : tie.Need-returns-2
+unfolding bufferSize
+returns-2 c =
+    (c .sum-of-sizes .ensures .0 ∙ sym (pick-true _ _ _ (eq-eqb _ _ (file-accepted (c .before .before .before .before .before .args .file .now) _ (c .before .before .before .load .ensures) (c .before .if1 .left)))), c .sum-of-sizes .ensures .1)
 
 pub buffer-size-spec : {M : Type 1} → statement M
-buffer-size-spec =
-    tie.close (tie.spec element-copy-out-result element-copy-out-result-2 add-result element-copy-out-result-3 add-result-2 element-copy-out-result-4 add-result-3 returns)
+buffer-size-spec = tie.close (tie.spec load-requires returns sum-of-sizes-requires returns-2)

@@ -359,7 +359,7 @@ loop-less c = omega (arith, c .before .before .before .before .before .before .b
 
 loop-again : tie.Need-loop-again Inv-loop μ-loop
 unfolding encoded pushed popped
-loop-again c = 
+loop-again c =
     ⊎-elim
     (λ w. plain-arm (c .before .before .before .before .before .before .before .before .before .before .before .before .loop .inv) (c .before .before .before .before .before .before .before .before .before .before .before .before .before .before .before .before .before .before .before .before .before .before .pre) (c .before .before .before .before .before .before .before .before .before .before .before .loop-test .taken) (c .before .before .before .before .before .before .before .before .before .before .core-at .ensures .0) (c .before .before .before .before .before .before .before .before .before .before .core-at .ensures .1) (c .before .before .before .before .before .effect-of .ensures) (search (needs, c .before .before .before .before .buffer .given)) Idle (w .1 .given .1) refl refl refl (w .2) (w .3 ∙ sym (set-getD (c .before .before .before .before .before .before .before .before .before .before .before .before .loop .cores) (c .before .before .before .before .before .before .before .before .before .before .core-at .result) none)) (w .4) (w .5) (w .6) (stays (λ a. rw (w .7) a) (w .7)) (w .8))
     (⊎-elim

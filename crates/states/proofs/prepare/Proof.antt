@@ -18,16 +18,18 @@ returns : tie.Need-returns
 returns c = rw (c .no-task .ensures) (prepared-refused (c .before .before .before .before .before .before .args .file .now) (c .before .before .before .before .before .before .args .trace .now) _ (c .before .before .before .load-trace .ensures) (c .before .before .before .before .before .before .args .s) (c .before .if1 .taken))
 
 core-tasks-requires : tie.Need-core-tasks-requires
-core-tasks-requires c κs =
-    (accepted-set (c .before .before .before .before .before .args .file .now) (c .before .before .before .before .before .args .trace .now) (λ i. omega (arith, c .before .before .before .before .shared-slice-known .given i)) (λ i. omega (arith, c .before .before .before .shared-slice-known2 .given i)) (c .before .before .before .before .before .pre .0) (trace-sound (c .before .before .before .before .before .args .file .now) (c .before .before .before .before .before .args .trace .now) _ (c .before .before .load-trace .ensures) (c .if1 .left)),
-     c .before .before .before .before .before .pre .1,
-     trace-laid (c .before .before .before .before .before .args .file .now) (c .before .before .before .before .before .args .trace .now) _ (c .before .before .load-trace .ensures) (c .if1 .left))
+core-tasks-requires c κs = (
+  accepted-set (c .before .before .before .before .before .args .file .now) (c .before .before .before .before .before .args .trace .now) (λ i. omega (arith, c .before .before .before .before .shared-slice-known .given i)) (λ i. omega (arith, c .before .before .before .shared-slice-known2 .given i)) (c .before .before .before .before .before .pre .0) (trace-sound (c .before .before .before .before .before .args .file .now) (c .before .before .before .before .before .args .trace .now) _ (c .before .before .load-trace .ensures) (c .if1 .left)),
+  c .before .before .before .before .before .pre .1,
+  trace-laid (c .before .before .before .before .before .args .file .now) (c .before .before .before .before .before .args .trace .now) _ (c .before .before .load-trace .ensures) (c .if1 .left),
+)
 
 state-refusal-requires : tie.Need-state-refusal-requires
-state-refusal-requires c κs =
-    (accepted-set (c .before .before .before .before .before .before .args .file .now) (c .before .before .before .before .before .before .args .trace .now) (λ i. omega (arith, c .before .before .before .before .before .shared-slice-known .given i)) (λ i. omega (arith, c .before .before .before .before .shared-slice-known2 .given i)) (c .before .before .before .before .before .before .pre .0) (trace-sound (c .before .before .before .before .before .before .args .file .now) (c .before .before .before .before .before .before .args .trace .now) _ (c .before .before .before .load-trace .ensures) (c .before .if1 .left)),
-     c .core-tasks .ensures,
-     ap (λ (l : Layout). l .cores) (c .before .before .before .before .before .before .pre .1))
+state-refusal-requires c κs = (
+  accepted-set (c .before .before .before .before .before .before .args .file .now) (c .before .before .before .before .before .before .args .trace .now) (λ i. omega (arith, c .before .before .before .before .before .shared-slice-known .given i)) (λ i. omega (arith, c .before .before .before .before .shared-slice-known2 .given i)) (c .before .before .before .before .before .before .pre .0) (trace-sound (c .before .before .before .before .before .before .args .file .now) (c .before .before .before .before .before .before .args .trace .now) _ (c .before .before .before .load-trace .ensures) (c .before .if1 .left)),
+  c .core-tasks .ensures,
+  ap (λ (l : Layout). l .cores) (c .before .before .before .before .before .before .pre .1),
+)
 
 returns-2 : tie.Need-returns-2
 returns-2 c = prepared-sound (c .before .before .before .before .before .before .before .args .file .now) (c .before .before .before .before .before .before .before .args .trace .now) _ (c .before .before .before .before .load-trace .ensures) (c .before .before .before .before .before .before .before .args .s) (c .before .before .if1 .left) _ _ (c .state-refusal .ensures) (c .before .core-tasks .ensures)

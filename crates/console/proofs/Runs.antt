@@ -1,0 +1,207 @@
+-- The text of a run from the fresh state: what the two calls answer is what document 01's refusals and run say. In order: the number of
+-- takings; the fresh call; the run; the text. Assumes nothing.
+use mathlib.Core.Path.{_≡_, refl, sym, ap, ap₂, _∙_, subst}
+use mathlib.Core.Logic.{_≢_}
+use mathlib.Core.Bool.{Bool, true, false}
+use mathlib.Core.List.{List, [], _∷_}
+use Prim.Native.Nat.{ℕ, zero, suc, _≤_, _<_}
+use native.Mathlib.Omega.{arith}
+use borrow.Author.Tests.{eq-eqb, ne-eqb, eqb-true, ltb-false, le-leb}
+use lib.Dec.{ltb, eqb}
+use lib.ListN.{length, getD, take, length-append, length-map, length-replicate}
+use Rattle.verdict.specs.Verdict.{either, next, unless}
+use Rattle.verdict.proofs.Verdict.{absurd-bool, pick-true, pick-false, by-pick, yes, skip, stop, next-zero}
+use Rattle.memory.specs.Memory.{part, splice, total}
+use Rattle.memory.proofs.Laws.{part-splice-same}
+use Rattle.protocol.specs.State.{State as Whole, Task, core, mode}
+use Rattle.protocol.specs.Fresh.{fresh}
+use Rattle.protocol.specs.Step.{step, run, Taking, taken, takingOf, takings, encoded, orderList}
+use Rattle.records.specs.File.{cores}
+use Rattle.taskset.specs.Judge.{judge}
+use Rattle.taskset.specs.Task.{sizesOf}
+use Rattle.taskset.specs.Trace.{traceRefusal}
+use Rattle.taskset.proofs.Exact.{keeps-rules}
+use Rattle.states.specs.declared.State.{State}
+use Rattle.states.specs.Machine.{stateOf, heldAfter}
+use Rattle.states.specs.Preparing.{heldRefusal}
+use Rattle.states.specs.Task.{taskOf}
+use Rattle.states.proofs.Accepted.{accepted-set}
+use Rattle.runner.specs.declared.Ran.{Ran}
+use Rattle.runner.specs.Runs.{Left, left, ranCall}
+use Rattle.machine.specs.Calls.{bufferSize, lentFits, callRefusal, answerOf, tableOf, freshRefusal, freshCall, runRefusal, runCall}
+use Rattle.machine.proofs.Calls.{fresh-none}
+use Rattle.listing.specs.Listing.{listing, refusedText, longText}
+use Rattle.machine.proofs.Calling.{fresh-state}
+use Rattle.console.specs.Console.{tooLong, refusalOf, stateAfter, takingsOf, runText, coresText}
+use Rattle.console.proofs.Fresh.{zeros, fresh-not-refused}
+
+-- ---- the number of takings: at most one a step
+
+one-taking : (m m′ k : ℕ) → length (taken m m′ k) ≤ 1
+one-taking m m′ k =
+    by-pick (λ (l : List Taking). length l ≤ 1) _ _ _ (λ e. omega arith)
+    (λ e. by-pick (λ (l : List Taking). length l ≤ 1) _ _ _ (λ z. omega arith) (λ z. omega arith))
+
+few-takings : (t : Task) (ks : List ℕ) (s : Whole) → length (takings t ks s) ≤ length ks
+unfolding takingOf
+few-takings t [] s = omega arith
+few-takings t (k ∷ ks) s =
+    let one : length (takingOf t k s) ≤ 1 = one-taking (mode (core (s .plant) k)) (mode (core (step t k s .plant) k)) k in
+    let rest = few-takings t ks (step t k s) in
+    omega (arith, length-append (takingOf t k s) (takings t ks (step t k s)))
+
+few-listed : (t : Task) (ks : List ℕ) (s : Whole) → length (orderList t ks s) ≤ length ks
+few-listed t ks s = omega (arith, length-map (takings t ks s) encoded, few-takings t ks s)
+
+-- ---- the fresh call, lent memory of the right sizes
+
+module _ (f t order d sh list : List ℕ) (lent : length d ≡ bufferSize f) (lent-shared : length sh ≡ 1024) (x : Ran) (d′ sh′ : List ℕ) (began : left x d′ sh′ [] ≡ freshCall f d sh) where
+  abbrev number : ℕ
+  number = freshRefusal f (length d) (length sh)
+
+  answered : x .refusal ≡ number
+  unfolding freshCall
+  answered =
+      ap (λ (y : Left). y .answer .refusal) began
+      ∙ by-pick (λ (y : Left). y .answer .refusal ≡ number) (eqb number 0) _ _ (λ e. sym (eqb-true number 0 e)) (λ e. refl)
+
+  sized : judge f ≡ 0 → length d ≡ total (sizesOf f)
+  unfolding bufferSize
+  sized z = lent ∙ pick-true _ _ _ (eq-eqb _ _ z)
+
+  fits : judge f ≡ 0 → lentFits f (length d) (length sh) ≡ true
+  unfolding lentFits
+  fits z = rw (eq-eqb (length d) (total (sizesOf f)) (sized z)) (eq-eqb (length sh) 1024 lent-shared)
+
+  -- a refusal is that of the file
+  pub fresh-refused : x .refusal ≢ 0 → refusedText (x .refusal) ≡ runText f t order
+  unfolding runText refusalOf freshRefusal
+  fresh-refused n =
+      let bad : judge f ≢ 0 = λ z. n (answered ∙ fresh-none f d sh z (fits z)) in
+      let file : x .refusal ≡ judge f = answered ∙ sym (stop (unless (lentFits f (length d) (length sh)) 21) refl bad) in
+      let same : x .refusal ≡ refusalOf f t order = stop _ file n in
+      ap refusedText same ∙ sym (pick-false _ _ _ (ne-eqb _ _ (λ e. n (same ∙ e))))
+
+  module _ (none : x .refusal ≡ 0) where
+    accepted : judge f ≡ 0
+    unfolding freshRefusal
+    accepted = next-zero _ _ (sym answered ∙ none) .0
+
+    left-fresh : left x d′ sh′ [] ≡ left (answerOf 0 (tableOf (cores f) 4)) (zeros (length d)) (zeros (length sh)) []
+    unfolding freshCall
+    left-fresh = began ∙ pick-true _ _ _ (eq-eqb _ _ (sym answered ∙ none))
+
+    -- the run starts in the fresh state
+    from-fresh : (y : Left) → y ≡ runCall f t (x .state) d′ sh′ order list → y ≡ runCall f t (tableOf (cores f) 4) (zeros (total (sizesOf f))) (zeros 1024) order list
+    from-fresh y e =
+        e ∙ ap (λ (z : Left). runCall f t (z .answer .state) (z .memory) (z .shared) order list) left-fresh
+        ∙ ap₂ (λ (m n : ℕ). runCall f t (tableOf (cores f) 4) (zeros m) (zeros n) order list) (sized accepted) lent-shared
+
+    -- as many takings as steps at most
+    pub few-taken : (y : Ran) (e k l : List ℕ) → left y e k l ≡ runCall f t (x .state) d′ sh′ order list → y .taken ≤ length order
+    unfolding runCall ranCall
+    few-taken y e k l ran =
+        rw (ap (λ (z : Left). z .answer .taken) ran)
+        (by-pick (λ (z : Left). z .answer .taken ≤ length order) _ _ _ (λ w. few-listed (taskOf f t) order (stateOf f (x .state) d′ sh′)) (λ w. omega arith))
+
+    -- ---- the run
+
+    module _ (bytes : (i : ℕ) → getD f i 0 < 256) (trace-bytes : (i : ℕ) → getD t i 0 < 256) (room : length order ≤ length list) where
+      abbrev calls : ℕ
+      calls = runRefusal f t (tableOf (cores f) 4) (zeros (total (sizesOf f))) (zeros 1024) order list
+
+      -- where the trace isn't refused, the fresh state isn't
+      held : (a b c : ℕ) → (a ≡ 0 → b ≡ 0) → next (next a b) c ≡ next a c
+      unfolding next
+      held zero b c h = ap (λ (m : ℕ). next m c) (h refl)
+      held (suc a) b c h = refl
+
+      lent-fits : lentFits f (length (zeros (total (sizesOf f)))) 1024 ≡ true
+      unfolding lentFits
+      lent-fits = rw (length-replicate {A = ℕ} (total (sizesOf f)) 0, eq-eqb (total (sizesOf f)) (total (sizesOf f)) refl) refl
+
+      same-refusal : calls ≡ refusalOf f t order
+      unfolding runRefusal callRefusal heldRefusal refusalOf
+      same-refusal =
+          ap (next (judge f))
+          (sym (skip (yes _ 21 (rw (lent-fits, le-leb (length order) (length list) room) refl)) refl)
+          ∙ held (traceRefusal f t) _ _ (λ z. fresh-not-refused f t (accepted-set f t bytes trace-bytes accepted z)))
+
+      module _ (y : Ran) (e k l : List ℕ) (ran : left y e k l ≡ runCall f t (x .state) d′ sh′ order list) where
+        run-answered : y .refusal ≡ refusalOf f t order
+        unfolding runCall ranCall
+        run-answered =
+            ap (λ (z : Left). z .answer .refusal) (from-fresh (left y e k l) ran)
+            ∙ by-pick (λ (z : Left). z .answer .refusal ≡ calls) (eqb calls 0) _ _ (λ w. sym (eqb-true calls 0 w)) (λ w. refl)
+            ∙ same-refusal
+
+        -- ---- the text
+
+        pub run-refused : y .refusal ≢ 0 → refusedText (y .refusal) ≡ runText f t order
+        unfolding runText
+        run-refused n = ap refusedText run-answered ∙ sym (pick-false _ _ _ (ne-eqb _ _ (λ w. n (run-answered ∙ w))))
+
+        module _ (no : y .refusal ≡ 0) where
+          none-refused : refusalOf f t order ≡ 0
+          none-refused = sym run-answered ∙ no
+
+          all-ran : left y e k l ≡ ranCall f t (tableOf (cores f) 4) (zeros (total (sizesOf f))) (zeros 1024) order list
+          unfolding runCall
+          all-ran = from-fresh (left y e k l) ran ∙ pick-true _ _ _ (eq-eqb _ _ (same-refusal ∙ none-refused))
+
+          started : stateOf f (tableOf (cores f) 4) (zeros (total (sizesOf f))) (zeros 1024) ≡ fresh (sizesOf f)
+          started = fresh-state f (keeps-rules f accepted .most-cores)
+
+          state-is : y .state ≡ stateAfter f t order
+          unfolding ranCall stateAfter
+          state-is = ap (λ (z : Left). z .answer .state) all-ran ∙ ap (λ (s : Whole). heldAfter (cores f) (tableOf (cores f) 4) (run (taskOf f t) order s)) started
+
+          count-is : y .state .count ≡ cores f
+          unfolding stateAfter heldAfter tableOf
+          count-is = ap (λ (s : State). s .count) state-is
+
+          front : (s : Whole) → take (length (orderList (taskOf f t) order s)) (splice list 0 (orderList (taskOf f t) order s)) ≡ orderList (taskOf f t) order s
+          unfolding part
+          front s = part-splice-same list 0 (orderList (taskOf f t) order s) (omega (arith, few-listed (taskOf f t) order s))
+
+          takings-are : take (y .taken) l ≡ takingsOf f t order
+          unfolding ranCall takingsOf
+          takings-are =
+              ap (λ (z : Left). take (z .answer .taken) (z .order)) all-ran
+              ∙ front (stateOf f (tableOf (cores f) 4) (zeros (total (sizesOf f))) (zeros 1024))
+              ∙ ap (orderList (taskOf f t) order) started
+
+          pub run-listed : listing (y .state .count) (y .state) (take (y .taken) l) ≡ runText f t order
+          unfolding runText
+          run-listed =
+              ap₂ (λ (n : ℕ) (s : State). listing n s (take (y .taken) l)) count-is state-is
+              ∙ ap (listing (cores f) (stateAfter f t order)) takings-are
+              ∙ sym (pick-true _ _ _ (eq-eqb _ _ none-refused))
+
+-- ---- what a writer of the listing ensures, of another name of its text
+
+abbrev Written : List ℕ → List ℕ → ℕ → List ℕ → Type 0
+Written out after r text = (after ≡ splice out 0 text) × (r ≡ length text) × (r ≤ 16384)
+
+pub written : (out : List ℕ) {after : List ℕ} {r : ℕ} {a b : List ℕ} → a ≡ b → Written out after r a → Written out after r b
+written out {after} {r} e w = subst (Written out after r) e w
+
+-- ---- a longer file
+
+module _ (f t order : List ℕ) where
+  pub long-text : tooLong (length f) (length t) (length order) ≡ true → longText ≡ coresText f t order
+  unfolding coresText
+  long-text e = sym (pick-true _ _ _ e)
+
+  pub short-text : tooLong (length f) (length t) (length order) ≡ false → runText f t order ≡ coresText f t order
+  unfolding coresText
+  short-text e = sym (pick-false _ _ _ e)
+
+pub short-order : (a b c : ℕ) → tooLong a b c ≡ false → c ≤ 4096
+unfolding tooLong
+short-order a b c e = go (ltb 33600 a) (ltb 4096 b) e
+  where
+    go : (x y : Bool) → either x (either y (ltb 4096 c)) ≡ false → c ≤ 4096
+    go true y q = absurd-bool (sym q)
+    go false true q = absurd-bool (sym q)
+    go false false q = ltb-false 4096 c q

@@ -1,0 +1,78 @@
+// What the program `cores` prints, from the bytes of its three files, written into lent bytes.
+ghost use mathlib.Core.Path.{_≡_};
+ghost use Prim.Native.Nat.{_≤_};
+ghost use lib.ListN.{length};
+ghost use Rattle.memory.specs.Memory.{splice};
+ghost use Rattle.machine.specs.Calls.{bufferSize};
+ghost use Rattle.console.specs.Console.{tooLong, runText, coresText};
+
+// The most bytes of a task set, of a trace and of an order.
+const MOST_FILE: usize = 33600;
+
+const MOST_TRACE: usize = 4096;
+
+const MOST_ORDER: usize = 4096;
+
+// Whether one of three files of these lengths is longer than the program reads.
+fn too_long(file: usize, trace: usize, order: usize) -> bool
+    ensures { λ r. ⌜ r ≡ tooLong file trace order ⌝ }
+{
+    if MOST_FILE < file {
+        return true;
+    }
+    if MOST_TRACE < trace {
+        return true;
+    }
+    MOST_ORDER < order
+}
+
+// ---- the run
+
+// The listing after the order's steps from the fresh state, or the refusal, whatever the lent memories held.
+fn write_run(
+    file: &[u8],
+    trace: &[u8],
+    order: &[u8],
+    buffer: &mut [u8],
+    shared: &mut [u8],
+    list: &mut [u8],
+    out: &mut [u8],
+) -> usize
+    requires { ⌜ (length (now buffer) ≡ bufferSize (now file)) × (length (now shared) ≡ 1024) × (length (now list) ≡ 4096) × (length (now order) ≤ 4096) ⌝ }
+    ensures { λ r. ⌜ (now (out .exit) ≡ splice (now (out .entry)) 0 (runText (now (file .entry)) (now (trace .entry)) (now (order .entry)))) × (r ≡ length (runText (now (file .entry)) (now (trace .entry)) (now (order .entry)))) × (r ≤ 16384) ⌝ }
+{
+    let start = machine::fresh(file, buffer, shared);
+    if start.refusal != 0 {
+        return listing::write_refused(start.refusal, out);
+    }
+    let ran = machine::run(file, trace, start.state, buffer, shared, order, list);
+    if ran.refusal != 0 {
+        return listing::write_refused(ran.refusal, out);
+    }
+    let n = ran.state.count as usize;
+    listing::write_listing(ran.state, n, list, ran.taken, out)
+}
+
+// ---- the text
+
+// The text goes to the front of `out`, and the answer is its length; past the end of `out` nothing is written. 16,384 bytes hold any text.
+pub fn output(file: &[u8], trace: &[u8], order: &[u8], out: &mut [u8]) -> usize
+    ensures { λ r. ⌜ (now (out .exit) ≡ splice (now (out .entry)) 0 (coresText (now (file .entry)) (now (trace .entry)) (now (order .entry)))) × (r ≡ length (coresText (now (file .entry)) (now (trace .entry)) (now (order .entry)))) × (r ≤ 16384) ⌝ }
+{
+    if too_long(file.len(), trace.len(), order.len()) {
+        return listing::write_long(out);
+    }
+    let size = machine::buffer_size(file);
+    let mut buffer = [0u8; 16384];
+    let mut shared = [0u8; 1024];
+    let mut list = [0u8; 4096];
+    write_run(
+        file,
+        trace,
+        order,
+        &mut buffer[..size],
+        &mut shared,
+        &mut list,
+        out,
+    )
+}

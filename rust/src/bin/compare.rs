@@ -1,0 +1,22 @@
+//! Compares the linked machine with the reference on random cases, or, without it, the reference with its own single steps.
+//!
+//! `compare [rounds [seed]]`
+
+use rikzord_comparison::comparison::compare;
+use rikzord_comparison::interface::{Reference, Stepwise};
+
+fn main() {
+    let mut numbers = std::env::args().skip(1).map(|number| number.parse().expect("a number"));
+    let rounds = numbers.next().unwrap_or(10_000);
+    let seed = numbers.next().unwrap_or(1);
+    #[cfg(feature = "linked")]
+    let (tally, second) = (compare(&Reference, &rikzord_comparison::linked::Linked, seed as u64, rounds), "the linked machine");
+    #[cfg(not(feature = "linked"))]
+    let (tally, second) = (compare(&Reference, &Stepwise(Reference), seed as u64, rounds), "its own single steps");
+    #[cfg(feature = "linked")]
+    compare(&Reference, &Stepwise(rikzord_comparison::linked::Linked), seed as u64, rounds / 10);
+    tally.print();
+    let missing = tally.missing();
+    assert!(missing.is_empty(), "never came: {missing:?}");
+    println!("{rounds} rounds: the reference and {second} agree");
+}

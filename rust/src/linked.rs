@@ -1,0 +1,187 @@
+//! The proved machine behind its C interface (`include/rikzord.h`), as safe functions.
+//!
+//! Slices go as pointer and length. Outputs (`taken`, `next`) are written where a call isn't refused. A step's taking shows in the modes of
+//! its core. A core table where no core can move answers `NOTHING`.
+
+use crate::interface::{Machine, Next};
+use crate::reference::{mode, refusal, Core, WRITING_MARK};
+
+const NOTHING: u8 = 255;
+
+extern "C" {
+    fn rikzord_check_file(file: *const u8, file_len: usize) -> u8;
+
+    fn rikzord_fresh(
+        file: *const u8,
+        file_len: usize,
+        table: *mut Core,
+        table_len: usize,
+        holder: *mut u8,
+        buffer: *mut u8,
+        buffer_len: usize,
+        shared: *mut u8,
+        shared_len: usize,
+    ) -> u8;
+
+    fn rikzord_step(
+        file: *const u8,
+        file_len: usize,
+        trace: *const u8,
+        trace_len: usize,
+        table: *mut Core,
+        table_len: usize,
+        holder: *mut u8,
+        buffer: *mut u8,
+        buffer_len: usize,
+        shared: *mut u8,
+        shared_len: usize,
+        core: u8,
+    ) -> u8;
+
+    fn rikzord_run(
+        file: *const u8,
+        file_len: usize,
+        trace: *const u8,
+        trace_len: usize,
+        table: *mut Core,
+        table_len: usize,
+        holder: *mut u8,
+        buffer: *mut u8,
+        buffer_len: usize,
+        shared: *mut u8,
+        shared_len: usize,
+        order: *const u8,
+        order_len: usize,
+        list: *mut u8,
+        list_len: usize,
+        taken: *mut usize,
+    ) -> u8;
+
+    fn rikzord_next_core(
+        file: *const u8,
+        file_len: usize,
+        trace: *const u8,
+        trace_len: usize,
+        table: *const Core,
+        table_len: usize,
+        holder: u8,
+        core: u8,
+        next: *mut u8,
+    ) -> u8;
+}
+
+/// The machine of `liblent.a`.
+pub struct Linked;
+
+// Safety of each call: every pointer comes from a slice or a reference that lives through the call, with the slice's own length, and no two
+// of those that are written overlap, as Rust's borrows assure.
+impl Machine for Linked {
+    fn name(&self) -> &'static str {
+        "rikzord"
+    }
+
+    fn check_file(&self, file: &[u8]) -> u8 {
+        unsafe { rikzord_check_file(file.as_ptr(), file.len()) }
+    }
+
+    fn fresh(&self, file: &[u8], table: &mut [Core], holder: &mut u8, buffer: &mut [u8], shared: &mut [u8]) -> u8 {
+        unsafe {
+            rikzord_fresh(
+                file.as_ptr(),
+                file.len(),
+                table.as_mut_ptr(),
+                table.len(),
+                holder,
+                buffer.as_mut_ptr(),
+                buffer.len(),
+                shared.as_mut_ptr(),
+                shared.len(),
+            )
+        }
+    }
+
+    fn step(
+        &self,
+        file: &[u8],
+        trace: &[u8],
+        table: &mut [Core],
+        holder: &mut u8,
+        buffer: &mut [u8],
+        shared: &mut [u8],
+        core: u8,
+        taken: &mut Option<u8>,
+    ) -> u8 {
+        let mode_of = |table: &[Core]| table.get(core as usize).map(|core| core.registers.mode);
+        let before = mode_of(table);
+        let number = unsafe {
+            rikzord_step(
+                file.as_ptr(),
+                file.len(),
+                trace.as_ptr(),
+                trace.len(),
+                table.as_mut_ptr(),
+                table.len(),
+                holder,
+                buffer.as_mut_ptr(),
+                buffer.len(),
+                shared.as_mut_ptr(),
+                shared.len(),
+                core,
+            )
+        };
+        if number == refusal::NONE {
+            *taken = match (before, mode_of(table)) {
+                (Some(mode::AWAITS_READING), Some(mode::READING)) => Some(core),
+                (Some(mode::AWAITS_WRITING), Some(mode::WRITING)) => Some(core + WRITING_MARK),
+                _ => None,
+            };
+        }
+        number
+    }
+
+    fn run(
+        &self,
+        file: &[u8],
+        trace: &[u8],
+        table: &mut [Core],
+        holder: &mut u8,
+        buffer: &mut [u8],
+        shared: &mut [u8],
+        order: &[u8],
+        list: &mut [u8],
+        taken: &mut usize,
+    ) -> u8 {
+        unsafe {
+            rikzord_run(
+                file.as_ptr(),
+                file.len(),
+                trace.as_ptr(),
+                trace.len(),
+                table.as_mut_ptr(),
+                table.len(),
+                holder,
+                buffer.as_mut_ptr(),
+                buffer.len(),
+                shared.as_mut_ptr(),
+                shared.len(),
+                order.as_ptr(),
+                order.len(),
+                list.as_mut_ptr(),
+                list.len(),
+                taken,
+            )
+        }
+    }
+
+    fn next_core(&self, file: &[u8], trace: &[u8], table: &[Core], holder: u8, core: u8) -> Next {
+        let mut next = NOTHING;
+        let number = unsafe {
+            rikzord_next_core(file.as_ptr(), file.len(), trace.as_ptr(), trace.len(), table.as_ptr(), table.len(), holder, core, &mut next)
+        };
+        match (number, next) {
+            (refusal::NONE, NOTHING) => Next::Nothing,
+            (refusal::NONE, core) => Next::Core(core),
+            (number, _) => Next::Refused(number),
+        }
+    }
+}

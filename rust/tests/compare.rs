@@ -1,0 +1,122 @@
+//! A short comparison, and the test that the comparison sees wrong machines.
+
+use rikzord_comparison::comparison::compare;
+use rikzord_comparison::interface::{Machine, Next, Reference, Stepwise};
+use rikzord_comparison::reference::{self, refusal, Core};
+use std::panic::{catch_unwind, AssertUnwindSafe};
+
+#[test]
+fn a_run_is_its_steps() {
+    let tally = compare(&Reference, &Stepwise(Reference), 2, 3000);
+    assert_eq!(tally.missing(), Vec::<String>::new());
+}
+
+#[cfg(feature = "linked")]
+#[test]
+fn the_linked_machine_agrees() {
+    let tally = compare(&Reference, &rikzord_comparison::linked::Linked, 3, 3000);
+    assert_eq!(tally.missing(), Vec::<String>::new());
+}
+
+#[derive(Clone, Copy, Debug, PartialEq)]
+enum Mistake {
+    /// Judges the order step by step, so that steps before a wrong one are made.
+    OrderJudgedLate,
+    /// Writes the number of takings of a refused run.
+    OutputOfRefused,
+    /// Clears records of the table that the task set doesn't have.
+    WholeTableFresh,
+    /// Tries the given core first.
+    RingStartsAtItself,
+    /// Judges the state before the trace.
+    StateBeforeTrace,
+    /// Leaves the freed stack entry as it was.
+    StackEntryKept,
+    /// Clears the rest of the order list.
+    RestOfListCleared,
+}
+
+struct Wrong(Mistake);
+
+impl Machine for Wrong {
+    fn name(&self) -> &'static str {
+        "wrong"
+    }
+
+    fn check_file(&self, file: &[u8]) -> u8 {
+        reference::check_file(file)
+    }
+
+    fn fresh(&self, file: &[u8], table: &mut [Core], holder: &mut u8, buffer: &mut [u8], shared: &mut [u8]) -> u8 {
+        let number = reference::fresh(file, table, holder, buffer, shared);
+        if self.0 == Mistake::WholeTableFresh && number == refusal::NONE {
+            table.fill(Core::fresh());
+        }
+        number
+    }
+
+    fn step(
+        &self,
+        file: &[u8],
+        trace: &[u8],
+        table: &mut [Core],
+        holder: &mut u8,
+        buffer: &mut [u8],
+        shared: &mut [u8],
+        core: u8,
+        taken: &mut Option<u8>,
+    ) -> u8 {
+        let before = table.to_vec();
+        let number = reference::step(file, trace, table, holder, buffer, shared, core, taken);
+        if self.0 == Mistake::StackEntryKept {
+            table.iter_mut().zip(before).for_each(|(core, before)| core.places = before.places);
+        }
+        number
+    }
+
+    fn run(
+        &self,
+        file: &[u8],
+        trace: &[u8],
+        table: &mut [Core],
+        holder: &mut u8,
+        buffer: &mut [u8],
+        shared: &mut [u8],
+        order: &[u8],
+        list: &mut [u8],
+        taken: &mut usize,
+    ) -> u8 {
+        let number = reference::run(file, trace, table, holder, buffer, shared, order, list, taken);
+        match (self.0, number) {
+            (Mistake::OutputOfRefused, 1..) => *taken = 0,
+            (Mistake::RestOfListCleared, 0) => list[*taken..].fill(0),
+            (Mistake::StateBeforeTrace, refusal::TRACE) if table.iter().any(|core| core.registers.mode > 5) => return refusal::UNFIT,
+            (Mistake::OrderJudgedLate, refusal::NO_SUCH_CORE) => {
+                let sound = order.iter().position(|&core| core as usize >= table.len()).unwrap();
+                reference::run(file, trace, table, holder, buffer, shared, &order[..sound], list, &mut 0);
+            }
+            _ => {}
+        }
+        number
+    }
+
+    fn next_core(&self, file: &[u8], trace: &[u8], table: &[Core], holder: u8, core: u8) -> Next {
+        let before = if self.0 == Mistake::RingStartsAtItself && (core as usize) < table.len() {
+            (core as usize + table.len() - 1) % table.len()
+        } else {
+            core as usize
+        };
+        Reference.next_core(file, trace, table, holder, before as u8)
+    }
+}
+
+#[test]
+fn wrong_machines_are_seen() {
+    use Mistake::*;
+    for mistake in
+        [OrderJudgedLate, OutputOfRefused, WholeTableFresh, RingStartsAtItself, StateBeforeTrace, StackEntryKept, RestOfListCleared]
+    {
+        let compared = catch_unwind(AssertUnwindSafe(|| compare(&Reference, &Wrong(mistake), 4, 2000)));
+        assert!(compared.is_err(), "{mistake:?} went unseen");
+    }
+}
