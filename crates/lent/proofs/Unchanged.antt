@@ -1,23 +1,27 @@
 -- A refused call on a lent table leaves every record, the semaphore's holder and every lent byte as on entry: each claim is the whole of what the
--- call leaves. In order: a table whose records are written back; the calls. Assumes nothing.
-use mathlib.Core.Path.{_≡_, refl, sym, ap, _∙_}
+-- call leaves. In order: a table whose records are written back; the calls; the registers of one core.
+-- Assumes nothing.
+use mathlib.Core.Path.{_≡_, refl, sym, ap, subst, _∙_}
 use mathlib.Core.Logic.{_≢_}
 use mathlib.Core.Bool.{true, false}
 use mathlib.Core.List.{List, []}
-use Prim.Native.Nat.{ℕ}
+use Prim.Native.Nat.{ℕ, _<_}
 use lib.ListN.{length}
-use lib.Seq.{set-getD}
-use lib.Dec.{leb}
-use borrow.Author.Tests.{ne-eqb}
+use lib.Seq.{set-getD, getD-set-same}
+use lib.Dec.{leb, ltb}
+use borrow.Author.Tests.{ne-eqb, ltb-true}
 use Rattle.verdict.specs.Verdict.{next}
-use Rattle.verdict.proofs.Verdict.{pick-true, pick-false}
+use Rattle.verdict.proofs.Verdict.{pick-true, pick-false, by-pick}
 use Rattle.records.specs.File.{cores}
 use Rattle.taskset.specs.Judge.{judge}
+use Rattle.protocol.specs.declared.Registers.{Registers}
 use Rattle.states.specs.declared.State.{State}
+use Rattle.states.specs.Machine.{none}
 use Rattle.runner.specs.Runs.{Left, left}
-use Rattle.machine.specs.Calls.{answerOf, tableOf, freshRefusal, freshCall, runRefusal, runCall, stepRefusal, stepCall}
+use Rattle.machine.specs.declared.Next.{Next}
+use Rattle.machine.specs.Calls.{answerOf, tableOf, freshRefusal, freshCall, runRefusal, runCall, stepRefusal, stepCall, nextRefusal, nextCall}
 use Rattle.lent.specs.declared.Core.{Core}
-use Rattle.lent.specs.Lent.{noCore, counted, loaded, held, afterOf, refusedOf, holderAfter, onTable, saved, lent, written, stepTable, stepLent, runTable, runLent, takenAfter, takenTable, takenLent, freshTable, freshLent}
+use Rattle.lent.specs.Lent.{noCore, counted, loaded, held, afterOf, refusedOf, holderAfter, onTable, saved, lent, written, stepTable, stepLent, runTable, runLent, takenAfter, takenTable, takenLent, freshTable, freshLent, answered, foundAfter, nextTable, nextLent, withRegisters, registersAfter, stepRegisters}
 use Rattle.lent.proofs.Laws.{refused-records, refused-holder, short-refused}
 
 -- ---- a table whose own records are written back
@@ -63,3 +67,24 @@ pub fresh-short-refused : (f : List ℕ) (ys : List Core) (holder : ℕ) (d sh :
 unfolding freshLent freshTable
 fresh-short-refused f ys holder d sh e =
     ap (λ (l : Left). written ys (onTable (loaded ys) holder l)) (pick-false _ _ _ e) ∙ refused-lent ys holder d sh [] _ (tableOf 0 0) (short-refused (judge f))
+
+pub next-core-refused : (f t : List ℕ) (ys : List Core) (holder given found : ℕ) → nextRefusal f t (held (loaded ys) holder) given ≢ 0
+    → nextLent f t ys holder given found ≡ answered (nextRefusal f t (held (loaded ys) holder) given) found
+unfolding nextLent nextTable nextCall
+next-core-refused f t ys holder given found ne =
+    ap (λ (n : Next). answered (n .refusal) (foundAfter found n)) (pick-false _ _ _ (ne-eqb _ 0 ne))
+    ∙ ap (answered (nextRefusal f t (held (loaded ys) holder) given)) (pick-false _ _ _ (ne-eqb _ 0 ne))
+
+-- ---- the registers of one core
+
+pub registers-kept : (s : State) (r : Registers) (k : ℕ) → length (s .cores) ≡ 4 → registersAfter (withRegisters s k r) k r ≡ r
+unfolding withRegisters
+registers-kept s r k four = by-pick (λ (x : Registers). x ≡ r) (ltb k 4) _ r (λ e. getD-set-same (s .cores) k r none (subst (λ (n : ℕ). k < n) (sym four) (ltb-true k 4 e))) (λ e. refl)
+
+pub registers-refused : (f t : List ℕ) (s : State) (r : Registers) (d sh : List ℕ) (k : ℕ) → length (s .cores) ≡ 4 → stepRefusal f t (withRegisters s k r) d sh k ≢ 0
+    → (stepRegisters f t s r d sh k ≡ left (answerOf (stepRefusal f t (withRegisters s k r) d sh k) (withRegisters s k r)) d sh [])
+    × (registersAfter (stepRegisters f t s r d sh k .answer .state) k r ≡ r)
+unfolding stepRegisters stepCall
+registers-refused f t s r d sh k four ne =
+    let e : stepCall f t (withRegisters s k r) d sh k ≡ left (answerOf (stepRefusal f t (withRegisters s k r) d sh k) (withRegisters s k r)) d sh [] = pick-false _ _ _ (ne-eqb _ 0 ne) in
+    (e, ap (λ (l : Left). registersAfter (l .answer .state) k r) e ∙ registers-kept s r k four)
