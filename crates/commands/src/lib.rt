@@ -2,15 +2,34 @@
 // A width w is in bytes. A command leaves a value of a kind that it does not take as it is; no accepted code asks for that.
 ghost use mathlib.Core.Path.{_≡_};
 ghost use mathlib.Core.Bool.{true, false};
-ghost use Prim.Native.Nat.{_+_, _%_, _≤_, _<_};
+ghost use Prim.Native.Nat.{_+_, _%_, _^_, _≤_, _<_};
 ghost use lib.ListN.{length};
 ghost use lib.Dec.{leb, eqb};
-ghost use Rattle.verdict.specs.Verdict.{both, within};
-ghost use Rattle.memory.specs.Memory.{readLE};
-ghost use Rattle.values.specs.Types.{takes};
+ghost use Rattle.verdict.specs.Verdict.{both, either, within};
+ghost use Rattle.memory.specs.Memory.{splice, bytesLE, readLE};
+ghost use Rattle.values.specs.Types.{widthOf, takes};
 ghost use Rattle.values.specs.Width.{Width};
-ghost use Rattle.values.specs.Commands.{ADD, SUB, MUL, DIV, MOD, AND, OR, XOR, NOT, SHL, SHR, ROL, ROR, GT, GE, EQ, LE, LT, NE, byZero, secondWidth, zeroDivisor, performed, Ready};
+ghost use Rattle.values.specs.Commands.{ADD, SUB, MUL, DIV, MOD, AND, OR, XOR, NOT, SHL, SHR, ROL, ROR, GT, GE, EQ, LE, LT, NE, byZero, secondWidth, command, zeroDivisor, beyond, anyBeyond};
+ghost use Rattle.commands.specs.Attempts.{attempt, attempted, Given};
+ghost use Rattle.commands.specs.declared.Performed.the-variants.{Done};
 use values::Value;
+use values::pattern_of;
+use values::read_value as read;
+
+// The operands of a typed command: its type, the place of the result, and those of the sources. NOT has one source, which stands for both.
+pub struct Operands {
+    pub kind: u8,
+    pub to: usize,
+    pub first: usize,
+    pub second: usize,
+}
+
+// What a typed command answers: it is done; an operand is beyond the data; the divisor is zero.
+pub enum Performed {
+    Done,
+    Beyond,
+    ByZero,
+}
 
 // Arithmetic: whole numbers wrap at the width, floats round once.
 pub fn add(w: usize, a: Value, b: Value) -> Value
@@ -310,183 +329,22 @@ pub fn takes_type(code: u8, t: u8) -> bool
     false
 }
 
-// From memory to memory: the sources are read before the destination is written.
-pub fn add_at(d: &mut [u8], t: u8, to: usize, a: usize, b: usize)
-    requires { ⌜ Ready 16 t (now d) to a b ⌝ }
-    ensures { λ _. ⌜ now (d .exit) ≡ performed 16 t (now (d .entry)) to a b ⌝ }
+// Whether one of three operands is beyond the data: n bytes at p, m bytes at q, k bytes at s.
+fn beyond(size: usize, p: usize, n: usize, q: usize, m: usize, s: usize, k: usize) -> bool
+    requires { ⌜ (p + n < 2 ^ 64) × (q + m < 2 ^ 64) × (s + k < 2 ^ 64) ⌝ }
+    ensures { λ r. ⌜ r ≡ either (beyond size p n) (anyBeyond size q m s k) ⌝ }
 {
-    let x = values::read_value(d, t, a);
-    let y = values::read_value(d, t, b);
-    values::write_value(d, t, to, add(values::width_of(t), x, y));
-}
-
-pub fn sub_at(d: &mut [u8], t: u8, to: usize, a: usize, b: usize)
-    requires { ⌜ Ready 17 t (now d) to a b ⌝ }
-    ensures { λ _. ⌜ now (d .exit) ≡ performed 17 t (now (d .entry)) to a b ⌝ }
-{
-    let x = values::read_value(d, t, a);
-    let y = values::read_value(d, t, b);
-    values::write_value(d, t, to, sub(values::width_of(t), x, y));
-}
-
-pub fn mul_at(d: &mut [u8], t: u8, to: usize, a: usize, b: usize)
-    requires { ⌜ Ready 18 t (now d) to a b ⌝ }
-    ensures { λ _. ⌜ now (d .exit) ≡ performed 18 t (now (d .entry)) to a b ⌝ }
-{
-    let x = values::read_value(d, t, a);
-    let y = values::read_value(d, t, b);
-    values::write_value(d, t, to, mul(values::width_of(t), x, y));
-}
-
-pub fn div_at(d: &mut [u8], t: u8, to: usize, a: usize, b: usize)
-    requires { ⌜ Ready 19 t (now d) to a b ⌝ }
-    ensures { λ _. ⌜ now (d .exit) ≡ performed 19 t (now (d .entry)) to a b ⌝ }
-{
-    let x = values::read_value(d, t, a);
-    let y = values::read_value(d, t, b);
-    values::write_value(d, t, to, div(values::width_of(t), x, y));
-}
-
-pub fn modulo_at(d: &mut [u8], t: u8, to: usize, a: usize, b: usize)
-    requires { ⌜ Ready 20 t (now d) to a b ⌝ }
-    ensures { λ _. ⌜ now (d .exit) ≡ performed 20 t (now (d .entry)) to a b ⌝ }
-{
-    let x = values::read_value(d, t, a);
-    let y = values::read_value(d, t, b);
-    values::write_value(d, t, to, modulo(x, y));
-}
-
-pub fn and_at(d: &mut [u8], t: u8, to: usize, a: usize, b: usize)
-    requires { ⌜ Ready 24 t (now d) to a b ⌝ }
-    ensures { λ _. ⌜ now (d .exit) ≡ performed 24 t (now (d .entry)) to a b ⌝ }
-{
-    let x = values::read_value(d, t, a);
-    let y = values::read_value(d, t, b);
-    values::write_value(d, t, to, and(x, y));
-}
-
-pub fn or_at(d: &mut [u8], t: u8, to: usize, a: usize, b: usize)
-    requires { ⌜ Ready 25 t (now d) to a b ⌝ }
-    ensures { λ _. ⌜ now (d .exit) ≡ performed 25 t (now (d .entry)) to a b ⌝ }
-{
-    let x = values::read_value(d, t, a);
-    let y = values::read_value(d, t, b);
-    values::write_value(d, t, to, or(x, y));
-}
-
-pub fn xor_at(d: &mut [u8], t: u8, to: usize, a: usize, b: usize)
-    requires { ⌜ Ready 26 t (now d) to a b ⌝ }
-    ensures { λ _. ⌜ now (d .exit) ≡ performed 26 t (now (d .entry)) to a b ⌝ }
-{
-    let x = values::read_value(d, t, a);
-    let y = values::read_value(d, t, b);
-    values::write_value(d, t, to, xor(x, y));
-}
-
-// NOT has one source.
-pub fn not_at(d: &mut [u8], t: u8, to: usize, a: usize)
-    requires { ⌜ Ready 27 t (now d) to a 0 ⌝ }
-    ensures { λ _. ⌜ now (d .exit) ≡ performed 27 t (now (d .entry)) to a 0 ⌝ }
-{
-    let x = values::read_value(d, t, a);
-    values::write_value(d, t, to, not(values::width_of(t), x));
-}
-
-pub fn shl_at(d: &mut [u8], t: u8, to: usize, a: usize, b: usize)
-    requires { ⌜ Ready 28 t (now d) to a b ⌝ }
-    ensures { λ _. ⌜ now (d .exit) ≡ performed 28 t (now (d .entry)) to a b ⌝ }
-{
-    let x = values::read_value(d, t, a);
-    let count = d[b];
-    values::write_value(d, t, to, shl(values::width_of(t), x, count));
-}
-
-pub fn shr_at(d: &mut [u8], t: u8, to: usize, a: usize, b: usize)
-    requires { ⌜ Ready 29 t (now d) to a b ⌝ }
-    ensures { λ _. ⌜ now (d .exit) ≡ performed 29 t (now (d .entry)) to a b ⌝ }
-{
-    let x = values::read_value(d, t, a);
-    let count = d[b];
-    values::write_value(d, t, to, shr(values::width_of(t), x, count));
-}
-
-pub fn rol_at(d: &mut [u8], t: u8, to: usize, a: usize, b: usize)
-    requires { ⌜ Ready 30 t (now d) to a b ⌝ }
-    ensures { λ _. ⌜ now (d .exit) ≡ performed 30 t (now (d .entry)) to a b ⌝ }
-{
-    let x = values::read_value(d, t, a);
-    let count = d[b];
-    values::write_value(d, t, to, rol(values::width_of(t), x, count));
-}
-
-pub fn ror_at(d: &mut [u8], t: u8, to: usize, a: usize, b: usize)
-    requires { ⌜ Ready 31 t (now d) to a b ⌝ }
-    ensures { λ _. ⌜ now (d .exit) ≡ performed 31 t (now (d .entry)) to a b ⌝ }
-{
-    let x = values::read_value(d, t, a);
-    let count = d[b];
-    values::write_value(d, t, to, ror(values::width_of(t), x, count));
-}
-
-// The type of a comparison's result.
-const BOOL: u8 = 0;
-
-pub fn gt_at(d: &mut [u8], t: u8, to: usize, a: usize, b: usize)
-    requires { ⌜ Ready 32 t (now d) to a b ⌝ }
-    ensures { λ _. ⌜ now (d .exit) ≡ performed 32 t (now (d .entry)) to a b ⌝ }
-{
-    let x = values::read_value(d, t, a);
-    let y = values::read_value(d, t, b);
-    values::write_value(d, BOOL, to, Value::Bool(gt(x, y)));
-}
-
-pub fn ge_at(d: &mut [u8], t: u8, to: usize, a: usize, b: usize)
-    requires { ⌜ Ready 33 t (now d) to a b ⌝ }
-    ensures { λ _. ⌜ now (d .exit) ≡ performed 33 t (now (d .entry)) to a b ⌝ }
-{
-    let x = values::read_value(d, t, a);
-    let y = values::read_value(d, t, b);
-    values::write_value(d, BOOL, to, Value::Bool(ge(x, y)));
-}
-
-pub fn eq_at(d: &mut [u8], t: u8, to: usize, a: usize, b: usize)
-    requires { ⌜ Ready 34 t (now d) to a b ⌝ }
-    ensures { λ _. ⌜ now (d .exit) ≡ performed 34 t (now (d .entry)) to a b ⌝ }
-{
-    let x = values::read_value(d, t, a);
-    let y = values::read_value(d, t, b);
-    values::write_value(d, BOOL, to, Value::Bool(eq(x, y)));
-}
-
-pub fn le_at(d: &mut [u8], t: u8, to: usize, a: usize, b: usize)
-    requires { ⌜ Ready 35 t (now d) to a b ⌝ }
-    ensures { λ _. ⌜ now (d .exit) ≡ performed 35 t (now (d .entry)) to a b ⌝ }
-{
-    let x = values::read_value(d, t, a);
-    let y = values::read_value(d, t, b);
-    values::write_value(d, BOOL, to, Value::Bool(le(x, y)));
-}
-
-pub fn lt_at(d: &mut [u8], t: u8, to: usize, a: usize, b: usize)
-    requires { ⌜ Ready 36 t (now d) to a b ⌝ }
-    ensures { λ _. ⌜ now (d .exit) ≡ performed 36 t (now (d .entry)) to a b ⌝ }
-{
-    let x = values::read_value(d, t, a);
-    let y = values::read_value(d, t, b);
-    values::write_value(d, BOOL, to, Value::Bool(lt(x, y)));
-}
-
-pub fn ne_at(d: &mut [u8], t: u8, to: usize, a: usize, b: usize)
-    requires { ⌜ Ready 37 t (now d) to a b ⌝ }
-    ensures { λ _. ⌜ now (d .exit) ≡ performed 37 t (now (d .entry)) to a b ⌝ }
-{
-    let x = values::read_value(d, t, a);
-    let y = values::read_value(d, t, b);
-    values::write_value(d, BOOL, to, Value::Bool(ne(x, y)));
+    if size < p + n {
+        return true;
+    }
+    if size < q + m {
+        return true;
+    }
+    size < s + k
 }
 
 // Whether DIV or MOD of a whole-number type would have a zero divisor.
-pub fn zero_divisor(code: u8, t: u8, d: &[u8], b: usize) -> bool
+fn zero_divisor(code: u8, t: u8, d: &[u8], b: usize) -> bool
     requires { ⌜ (0 < secondWidth code t → b + secondWidth code t ≤ length (now d)) ⌝ }
     ensures { λ r. ⌜ r ≡ zeroDivisor code t (readLE (now (d .entry)) b (secondWidth code t)) ⌝ }
 {
@@ -505,30 +363,662 @@ pub fn zero_divisor(code: u8, t: u8, d: &[u8], b: usize) -> bool
     memory::load(d, b, values::width_of(t)) == 0
 }
 
+// Stores a pattern of w bytes, by a copy of its bytes: stores of the single bytes, alike in every arm, would be compiled as one for all
+// widths, a byte at a time; a copy of a constant length is one instruction.
+fn store_pattern(d: &mut [u8], w: usize, to: usize, p: u64)
+    requires { ⌜ Width w × (to + w ≤ length (now d)) ⌝ }
+    ensures { λ _. ⌜ now (d .exit) ≡ splice (now (d .entry)) to (bytesLE w p) ⌝ }
+{
+    let mut bytes: [u8; 8] = [0; 8];
+    memory::store(&mut bytes, 0, 8, p);
+    match w {
+        1 => memory::copy(d, to, &bytes, 0, 1),
+        2 => memory::copy(d, to, &bytes, 0, 2),
+        4 => memory::copy(d, to, &bytes, 0, 4),
+        _ => memory::copy(d, to, &bytes, 0, 8),
+    }
+}
+
+// The same, which ends a command.
+fn put(d: &mut [u8], w: usize, to: usize, p: u64) -> Performed
+    requires { ⌜ Width w × (to + w ≤ length (now d)) ⌝ }
+    ensures { λ r. ⌜ attempt r (now (d .exit)) ≡ attempt Done (splice (now (d .entry)) to (bytesLE w p)) ⌝ }
+{
+    store_pattern(d, w, to, p);
+    Performed::Done
+}
+
+// From memory to memory, each command by two functions. The first reads the sources and gives the pattern to be stored: each arm has its
+// type and width as constants, so that it is compiled for that type alone. The second tries the addresses, then the divisor, and stores.
+fn add_of(d: &[u8], t: u8, a: usize, b: usize) -> u64
+    requires { ⌜ (takes 16 t ≡ true) × (a + widthOf t ≤ length (now d)) × (b + widthOf t ≤ length (now d)) ⌝ }
+    ensures { λ r. ⌜ r ≡ command 16 t (readLE (now (d .entry)) a (widthOf t)) (readLE (now (d .entry)) b (widthOf t)) ⌝ }
+{
+    match t {
+        1 => pattern_of(1, add(1, read(d, 1, a), read(d, 1, b))),
+        2 => pattern_of(1, add(1, read(d, 2, a), read(d, 2, b))),
+        3 => pattern_of(2, add(2, read(d, 3, a), read(d, 3, b))),
+        4 => pattern_of(2, add(2, read(d, 4, a), read(d, 4, b))),
+        5 => pattern_of(4, add(4, read(d, 5, a), read(d, 5, b))),
+        6 => pattern_of(4, add(4, read(d, 6, a), read(d, 6, b))),
+        7 => pattern_of(8, add(8, read(d, 7, a), read(d, 7, b))),
+        8 => pattern_of(8, add(8, read(d, 8, a), read(d, 8, b))),
+        9 => pattern_of(4, add(4, read(d, 9, a), read(d, 9, b))),
+        10 => pattern_of(8, add(8, read(d, 10, a), read(d, 10, b))),
+        _ => pattern_of(4, add(4, read(d, 11, a), read(d, 11, b))),
+    }
+}
+
+pub fn add_at(d: &mut [u8], o: Operands) -> Performed
+    requires { ⌜ Given 16 o ⌝ }
+    ensures { λ r. ⌜ attempt r (now (d .exit)) ≡ attempted 16 o (now (d .entry)) ⌝ }
+{
+    let t = o.kind;
+    let to = o.to;
+    let a = o.first;
+    let b = o.second;
+    let w = values::width_of(t);
+    if beyond(d.len(), to, w, a, w, b, w) {
+        return Performed::Beyond;
+    }
+    put(d, w, to, add_of(d, t, a, b))
+}
+
+fn sub_of(d: &[u8], t: u8, a: usize, b: usize) -> u64
+    requires { ⌜ (takes 17 t ≡ true) × (a + widthOf t ≤ length (now d)) × (b + widthOf t ≤ length (now d)) ⌝ }
+    ensures { λ r. ⌜ r ≡ command 17 t (readLE (now (d .entry)) a (widthOf t)) (readLE (now (d .entry)) b (widthOf t)) ⌝ }
+{
+    match t {
+        1 => pattern_of(1, sub(1, read(d, 1, a), read(d, 1, b))),
+        2 => pattern_of(1, sub(1, read(d, 2, a), read(d, 2, b))),
+        3 => pattern_of(2, sub(2, read(d, 3, a), read(d, 3, b))),
+        4 => pattern_of(2, sub(2, read(d, 4, a), read(d, 4, b))),
+        5 => pattern_of(4, sub(4, read(d, 5, a), read(d, 5, b))),
+        6 => pattern_of(4, sub(4, read(d, 6, a), read(d, 6, b))),
+        7 => pattern_of(8, sub(8, read(d, 7, a), read(d, 7, b))),
+        8 => pattern_of(8, sub(8, read(d, 8, a), read(d, 8, b))),
+        9 => pattern_of(4, sub(4, read(d, 9, a), read(d, 9, b))),
+        10 => pattern_of(8, sub(8, read(d, 10, a), read(d, 10, b))),
+        _ => pattern_of(4, sub(4, read(d, 11, a), read(d, 11, b))),
+    }
+}
+
+pub fn sub_at(d: &mut [u8], o: Operands) -> Performed
+    requires { ⌜ Given 17 o ⌝ }
+    ensures { λ r. ⌜ attempt r (now (d .exit)) ≡ attempted 17 o (now (d .entry)) ⌝ }
+{
+    let t = o.kind;
+    let to = o.to;
+    let a = o.first;
+    let b = o.second;
+    let w = values::width_of(t);
+    if beyond(d.len(), to, w, a, w, b, w) {
+        return Performed::Beyond;
+    }
+    put(d, w, to, sub_of(d, t, a, b))
+}
+
+fn mul_of(d: &[u8], t: u8, a: usize, b: usize) -> u64
+    requires { ⌜ (takes 18 t ≡ true) × (a + widthOf t ≤ length (now d)) × (b + widthOf t ≤ length (now d)) ⌝ }
+    ensures { λ r. ⌜ r ≡ command 18 t (readLE (now (d .entry)) a (widthOf t)) (readLE (now (d .entry)) b (widthOf t)) ⌝ }
+{
+    match t {
+        1 => pattern_of(1, mul(1, read(d, 1, a), read(d, 1, b))),
+        2 => pattern_of(1, mul(1, read(d, 2, a), read(d, 2, b))),
+        3 => pattern_of(2, mul(2, read(d, 3, a), read(d, 3, b))),
+        4 => pattern_of(2, mul(2, read(d, 4, a), read(d, 4, b))),
+        5 => pattern_of(4, mul(4, read(d, 5, a), read(d, 5, b))),
+        6 => pattern_of(4, mul(4, read(d, 6, a), read(d, 6, b))),
+        7 => pattern_of(8, mul(8, read(d, 7, a), read(d, 7, b))),
+        8 => pattern_of(8, mul(8, read(d, 8, a), read(d, 8, b))),
+        9 => pattern_of(4, mul(4, read(d, 9, a), read(d, 9, b))),
+        _ => pattern_of(8, mul(8, read(d, 10, a), read(d, 10, b))),
+    }
+}
+
+pub fn mul_at(d: &mut [u8], o: Operands) -> Performed
+    requires { ⌜ Given 18 o ⌝ }
+    ensures { λ r. ⌜ attempt r (now (d .exit)) ≡ attempted 18 o (now (d .entry)) ⌝ }
+{
+    let t = o.kind;
+    let to = o.to;
+    let a = o.first;
+    let b = o.second;
+    let w = values::width_of(t);
+    if beyond(d.len(), to, w, a, w, b, w) {
+        return Performed::Beyond;
+    }
+    put(d, w, to, mul_of(d, t, a, b))
+}
+
+fn div_of(d: &[u8], t: u8, a: usize, b: usize) -> u64
+    requires { ⌜ (takes 19 t ≡ true) × (a + widthOf t ≤ length (now d)) × (b + widthOf t ≤ length (now d)) × (zeroDivisor 19 t (readLE (now d) b (widthOf t)) ≡ false) ⌝ }
+    ensures { λ r. ⌜ r ≡ command 19 t (readLE (now (d .entry)) a (widthOf t)) (readLE (now (d .entry)) b (widthOf t)) ⌝ }
+{
+    match t {
+        1 => pattern_of(1, div(1, read(d, 1, a), read(d, 1, b))),
+        2 => pattern_of(1, div(1, read(d, 2, a), read(d, 2, b))),
+        3 => pattern_of(2, div(2, read(d, 3, a), read(d, 3, b))),
+        4 => pattern_of(2, div(2, read(d, 4, a), read(d, 4, b))),
+        5 => pattern_of(4, div(4, read(d, 5, a), read(d, 5, b))),
+        6 => pattern_of(4, div(4, read(d, 6, a), read(d, 6, b))),
+        7 => pattern_of(8, div(8, read(d, 7, a), read(d, 7, b))),
+        8 => pattern_of(8, div(8, read(d, 8, a), read(d, 8, b))),
+        9 => pattern_of(4, div(4, read(d, 9, a), read(d, 9, b))),
+        _ => pattern_of(8, div(8, read(d, 10, a), read(d, 10, b))),
+    }
+}
+
+pub fn div_at(d: &mut [u8], o: Operands) -> Performed
+    requires { ⌜ Given 19 o ⌝ }
+    ensures { λ r. ⌜ attempt r (now (d .exit)) ≡ attempted 19 o (now (d .entry)) ⌝ }
+{
+    let t = o.kind;
+    let to = o.to;
+    let a = o.first;
+    let b = o.second;
+    let w = values::width_of(t);
+    if beyond(d.len(), to, w, a, w, b, w) {
+        return Performed::Beyond;
+    }
+    if zero_divisor(19, t, d, b) {
+        return Performed::ByZero;
+    }
+    put(d, w, to, div_of(d, t, a, b))
+}
+
+fn modulo_of(d: &[u8], t: u8, a: usize, b: usize) -> u64
+    requires { ⌜ (takes 20 t ≡ true) × (a + widthOf t ≤ length (now d)) × (b + widthOf t ≤ length (now d)) × (zeroDivisor 20 t (readLE (now d) b (widthOf t)) ≡ false) ⌝ }
+    ensures { λ r. ⌜ r ≡ command 20 t (readLE (now (d .entry)) a (widthOf t)) (readLE (now (d .entry)) b (widthOf t)) ⌝ }
+{
+    match t {
+        1 => pattern_of(1, modulo(read(d, 1, a), read(d, 1, b))),
+        2 => pattern_of(1, modulo(read(d, 2, a), read(d, 2, b))),
+        3 => pattern_of(2, modulo(read(d, 3, a), read(d, 3, b))),
+        4 => pattern_of(2, modulo(read(d, 4, a), read(d, 4, b))),
+        5 => pattern_of(4, modulo(read(d, 5, a), read(d, 5, b))),
+        6 => pattern_of(4, modulo(read(d, 6, a), read(d, 6, b))),
+        7 => pattern_of(8, modulo(read(d, 7, a), read(d, 7, b))),
+        _ => pattern_of(8, modulo(read(d, 8, a), read(d, 8, b))),
+    }
+}
+
+pub fn modulo_at(d: &mut [u8], o: Operands) -> Performed
+    requires { ⌜ Given 20 o ⌝ }
+    ensures { λ r. ⌜ attempt r (now (d .exit)) ≡ attempted 20 o (now (d .entry)) ⌝ }
+{
+    let t = o.kind;
+    let to = o.to;
+    let a = o.first;
+    let b = o.second;
+    let w = values::width_of(t);
+    if beyond(d.len(), to, w, a, w, b, w) {
+        return Performed::Beyond;
+    }
+    if zero_divisor(20, t, d, b) {
+        return Performed::ByZero;
+    }
+    put(d, w, to, modulo_of(d, t, a, b))
+}
+
+fn and_of(d: &[u8], t: u8, a: usize, b: usize) -> u64
+    requires { ⌜ (takes 24 t ≡ true) × (a + widthOf t ≤ length (now d)) × (b + widthOf t ≤ length (now d)) ⌝ }
+    ensures { λ r. ⌜ r ≡ command 24 t (readLE (now (d .entry)) a (widthOf t)) (readLE (now (d .entry)) b (widthOf t)) ⌝ }
+{
+    match t {
+        0 => pattern_of(1, and(read(d, 0, a), read(d, 0, b))),
+        2 => pattern_of(1, and(read(d, 2, a), read(d, 2, b))),
+        4 => pattern_of(2, and(read(d, 4, a), read(d, 4, b))),
+        6 => pattern_of(4, and(read(d, 6, a), read(d, 6, b))),
+        _ => pattern_of(8, and(read(d, 8, a), read(d, 8, b))),
+    }
+}
+
+pub fn and_at(d: &mut [u8], o: Operands) -> Performed
+    requires { ⌜ Given 24 o ⌝ }
+    ensures { λ r. ⌜ attempt r (now (d .exit)) ≡ attempted 24 o (now (d .entry)) ⌝ }
+{
+    let t = o.kind;
+    let to = o.to;
+    let a = o.first;
+    let b = o.second;
+    let w = values::width_of(t);
+    if beyond(d.len(), to, w, a, w, b, w) {
+        return Performed::Beyond;
+    }
+    put(d, w, to, and_of(d, t, a, b))
+}
+
+fn or_of(d: &[u8], t: u8, a: usize, b: usize) -> u64
+    requires { ⌜ (takes 25 t ≡ true) × (a + widthOf t ≤ length (now d)) × (b + widthOf t ≤ length (now d)) ⌝ }
+    ensures { λ r. ⌜ r ≡ command 25 t (readLE (now (d .entry)) a (widthOf t)) (readLE (now (d .entry)) b (widthOf t)) ⌝ }
+{
+    match t {
+        0 => pattern_of(1, or(read(d, 0, a), read(d, 0, b))),
+        2 => pattern_of(1, or(read(d, 2, a), read(d, 2, b))),
+        4 => pattern_of(2, or(read(d, 4, a), read(d, 4, b))),
+        6 => pattern_of(4, or(read(d, 6, a), read(d, 6, b))),
+        _ => pattern_of(8, or(read(d, 8, a), read(d, 8, b))),
+    }
+}
+
+pub fn or_at(d: &mut [u8], o: Operands) -> Performed
+    requires { ⌜ Given 25 o ⌝ }
+    ensures { λ r. ⌜ attempt r (now (d .exit)) ≡ attempted 25 o (now (d .entry)) ⌝ }
+{
+    let t = o.kind;
+    let to = o.to;
+    let a = o.first;
+    let b = o.second;
+    let w = values::width_of(t);
+    if beyond(d.len(), to, w, a, w, b, w) {
+        return Performed::Beyond;
+    }
+    put(d, w, to, or_of(d, t, a, b))
+}
+
+fn xor_of(d: &[u8], t: u8, a: usize, b: usize) -> u64
+    requires { ⌜ (takes 26 t ≡ true) × (a + widthOf t ≤ length (now d)) × (b + widthOf t ≤ length (now d)) ⌝ }
+    ensures { λ r. ⌜ r ≡ command 26 t (readLE (now (d .entry)) a (widthOf t)) (readLE (now (d .entry)) b (widthOf t)) ⌝ }
+{
+    match t {
+        0 => pattern_of(1, xor(read(d, 0, a), read(d, 0, b))),
+        2 => pattern_of(1, xor(read(d, 2, a), read(d, 2, b))),
+        4 => pattern_of(2, xor(read(d, 4, a), read(d, 4, b))),
+        6 => pattern_of(4, xor(read(d, 6, a), read(d, 6, b))),
+        _ => pattern_of(8, xor(read(d, 8, a), read(d, 8, b))),
+    }
+}
+
+pub fn xor_at(d: &mut [u8], o: Operands) -> Performed
+    requires { ⌜ Given 26 o ⌝ }
+    ensures { λ r. ⌜ attempt r (now (d .exit)) ≡ attempted 26 o (now (d .entry)) ⌝ }
+{
+    let t = o.kind;
+    let to = o.to;
+    let a = o.first;
+    let b = o.second;
+    let w = values::width_of(t);
+    if beyond(d.len(), to, w, a, w, b, w) {
+        return Performed::Beyond;
+    }
+    put(d, w, to, xor_of(d, t, a, b))
+}
+
+fn not_of(d: &[u8], t: u8, a: usize) -> u64
+    requires { ⌜ (takes 27 t ≡ true) × (a + widthOf t ≤ length (now d)) ⌝ }
+    ensures { λ r. ⌜ r ≡ command 27 t (readLE (now (d .entry)) a (widthOf t)) 0 ⌝ }
+{
+    match t {
+        0 => pattern_of(1, not(1, read(d, 0, a))),
+        2 => pattern_of(1, not(1, read(d, 2, a))),
+        4 => pattern_of(2, not(2, read(d, 4, a))),
+        6 => pattern_of(4, not(4, read(d, 6, a))),
+        _ => pattern_of(8, not(8, read(d, 8, a))),
+    }
+}
+
+pub fn not_at(d: &mut [u8], o: Operands) -> Performed
+    requires { ⌜ Given 27 o ⌝ }
+    ensures { λ r. ⌜ attempt r (now (d .exit)) ≡ attempted 27 o (now (d .entry)) ⌝ }
+{
+    let t = o.kind;
+    let to = o.to;
+    let a = o.first;
+    let b = o.second;
+    let w = values::width_of(t);
+    if beyond(d.len(), to, w, a, w, b, 0) {
+        return Performed::Beyond;
+    }
+    put(d, w, to, not_of(d, t, a))
+}
+
+fn shl_of(d: &[u8], t: u8, a: usize, b: usize) -> u64
+    requires { ⌜ (takes 28 t ≡ true) × (a + widthOf t ≤ length (now d)) × (b < length (now d)) ⌝ }
+    ensures { λ r. ⌜ r ≡ command 28 t (readLE (now (d .entry)) a (widthOf t)) (readLE (now (d .entry)) b 1) ⌝ }
+{
+    let n = d[b];
+    match t {
+        2 => pattern_of(1, shl(1, read(d, 2, a), n)),
+        4 => pattern_of(2, shl(2, read(d, 4, a), n)),
+        6 => pattern_of(4, shl(4, read(d, 6, a), n)),
+        _ => pattern_of(8, shl(8, read(d, 8, a), n)),
+    }
+}
+
+pub fn shl_at(d: &mut [u8], o: Operands) -> Performed
+    requires { ⌜ Given 28 o ⌝ }
+    ensures { λ r. ⌜ attempt r (now (d .exit)) ≡ attempted 28 o (now (d .entry)) ⌝ }
+{
+    let t = o.kind;
+    let to = o.to;
+    let a = o.first;
+    let b = o.second;
+    let w = values::width_of(t);
+    if beyond(d.len(), to, w, a, w, b, 1) {
+        return Performed::Beyond;
+    }
+    put(d, w, to, shl_of(d, t, a, b))
+}
+
+fn shr_of(d: &[u8], t: u8, a: usize, b: usize) -> u64
+    requires { ⌜ (takes 29 t ≡ true) × (a + widthOf t ≤ length (now d)) × (b < length (now d)) ⌝ }
+    ensures { λ r. ⌜ r ≡ command 29 t (readLE (now (d .entry)) a (widthOf t)) (readLE (now (d .entry)) b 1) ⌝ }
+{
+    let n = d[b];
+    match t {
+        2 => pattern_of(1, shr(1, read(d, 2, a), n)),
+        4 => pattern_of(2, shr(2, read(d, 4, a), n)),
+        6 => pattern_of(4, shr(4, read(d, 6, a), n)),
+        _ => pattern_of(8, shr(8, read(d, 8, a), n)),
+    }
+}
+
+pub fn shr_at(d: &mut [u8], o: Operands) -> Performed
+    requires { ⌜ Given 29 o ⌝ }
+    ensures { λ r. ⌜ attempt r (now (d .exit)) ≡ attempted 29 o (now (d .entry)) ⌝ }
+{
+    let t = o.kind;
+    let to = o.to;
+    let a = o.first;
+    let b = o.second;
+    let w = values::width_of(t);
+    if beyond(d.len(), to, w, a, w, b, 1) {
+        return Performed::Beyond;
+    }
+    put(d, w, to, shr_of(d, t, a, b))
+}
+
+fn rol_of(d: &[u8], t: u8, a: usize, b: usize) -> u64
+    requires { ⌜ (takes 30 t ≡ true) × (a + widthOf t ≤ length (now d)) × (b < length (now d)) ⌝ }
+    ensures { λ r. ⌜ r ≡ command 30 t (readLE (now (d .entry)) a (widthOf t)) (readLE (now (d .entry)) b 1) ⌝ }
+{
+    let n = d[b];
+    match t {
+        2 => pattern_of(1, rol(1, read(d, 2, a), n)),
+        4 => pattern_of(2, rol(2, read(d, 4, a), n)),
+        6 => pattern_of(4, rol(4, read(d, 6, a), n)),
+        _ => pattern_of(8, rol(8, read(d, 8, a), n)),
+    }
+}
+
+pub fn rol_at(d: &mut [u8], o: Operands) -> Performed
+    requires { ⌜ Given 30 o ⌝ }
+    ensures { λ r. ⌜ attempt r (now (d .exit)) ≡ attempted 30 o (now (d .entry)) ⌝ }
+{
+    let t = o.kind;
+    let to = o.to;
+    let a = o.first;
+    let b = o.second;
+    let w = values::width_of(t);
+    if beyond(d.len(), to, w, a, w, b, 1) {
+        return Performed::Beyond;
+    }
+    put(d, w, to, rol_of(d, t, a, b))
+}
+
+fn ror_of(d: &[u8], t: u8, a: usize, b: usize) -> u64
+    requires { ⌜ (takes 31 t ≡ true) × (a + widthOf t ≤ length (now d)) × (b < length (now d)) ⌝ }
+    ensures { λ r. ⌜ r ≡ command 31 t (readLE (now (d .entry)) a (widthOf t)) (readLE (now (d .entry)) b 1) ⌝ }
+{
+    let n = d[b];
+    match t {
+        2 => pattern_of(1, ror(1, read(d, 2, a), n)),
+        4 => pattern_of(2, ror(2, read(d, 4, a), n)),
+        6 => pattern_of(4, ror(4, read(d, 6, a), n)),
+        _ => pattern_of(8, ror(8, read(d, 8, a), n)),
+    }
+}
+
+pub fn ror_at(d: &mut [u8], o: Operands) -> Performed
+    requires { ⌜ Given 31 o ⌝ }
+    ensures { λ r. ⌜ attempt r (now (d .exit)) ≡ attempted 31 o (now (d .entry)) ⌝ }
+{
+    let t = o.kind;
+    let to = o.to;
+    let a = o.first;
+    let b = o.second;
+    let w = values::width_of(t);
+    if beyond(d.len(), to, w, a, w, b, 1) {
+        return Performed::Beyond;
+    }
+    put(d, w, to, ror_of(d, t, a, b))
+}
+
+fn gt_of(d: &[u8], t: u8, a: usize, b: usize) -> u64
+    requires { ⌜ (takes 32 t ≡ true) × (a + widthOf t ≤ length (now d)) × (b + widthOf t ≤ length (now d)) ⌝ }
+    ensures { λ r. ⌜ r ≡ command 32 t (readLE (now (d .entry)) a (widthOf t)) (readLE (now (d .entry)) b (widthOf t)) ⌝ }
+{
+    match t {
+        0 => gt(read(d, 0, a), read(d, 0, b)) as u64,
+        1 => gt(read(d, 1, a), read(d, 1, b)) as u64,
+        2 => gt(read(d, 2, a), read(d, 2, b)) as u64,
+        3 => gt(read(d, 3, a), read(d, 3, b)) as u64,
+        4 => gt(read(d, 4, a), read(d, 4, b)) as u64,
+        5 => gt(read(d, 5, a), read(d, 5, b)) as u64,
+        6 => gt(read(d, 6, a), read(d, 6, b)) as u64,
+        7 => gt(read(d, 7, a), read(d, 7, b)) as u64,
+        8 => gt(read(d, 8, a), read(d, 8, b)) as u64,
+        9 => gt(read(d, 9, a), read(d, 9, b)) as u64,
+        10 => gt(read(d, 10, a), read(d, 10, b)) as u64,
+        _ => gt(read(d, 11, a), read(d, 11, b)) as u64,
+    }
+}
+
+pub fn gt_at(d: &mut [u8], o: Operands) -> Performed
+    requires { ⌜ Given 32 o ⌝ }
+    ensures { λ r. ⌜ attempt r (now (d .exit)) ≡ attempted 32 o (now (d .entry)) ⌝ }
+{
+    let t = o.kind;
+    let to = o.to;
+    let a = o.first;
+    let b = o.second;
+    let w = values::width_of(t);
+    if beyond(d.len(), to, 1, a, w, b, w) {
+        return Performed::Beyond;
+    }
+    put(d, 1, to, gt_of(d, t, a, b))
+}
+
+fn ge_of(d: &[u8], t: u8, a: usize, b: usize) -> u64
+    requires { ⌜ (takes 33 t ≡ true) × (a + widthOf t ≤ length (now d)) × (b + widthOf t ≤ length (now d)) ⌝ }
+    ensures { λ r. ⌜ r ≡ command 33 t (readLE (now (d .entry)) a (widthOf t)) (readLE (now (d .entry)) b (widthOf t)) ⌝ }
+{
+    match t {
+        0 => ge(read(d, 0, a), read(d, 0, b)) as u64,
+        1 => ge(read(d, 1, a), read(d, 1, b)) as u64,
+        2 => ge(read(d, 2, a), read(d, 2, b)) as u64,
+        3 => ge(read(d, 3, a), read(d, 3, b)) as u64,
+        4 => ge(read(d, 4, a), read(d, 4, b)) as u64,
+        5 => ge(read(d, 5, a), read(d, 5, b)) as u64,
+        6 => ge(read(d, 6, a), read(d, 6, b)) as u64,
+        7 => ge(read(d, 7, a), read(d, 7, b)) as u64,
+        8 => ge(read(d, 8, a), read(d, 8, b)) as u64,
+        9 => ge(read(d, 9, a), read(d, 9, b)) as u64,
+        10 => ge(read(d, 10, a), read(d, 10, b)) as u64,
+        _ => ge(read(d, 11, a), read(d, 11, b)) as u64,
+    }
+}
+
+pub fn ge_at(d: &mut [u8], o: Operands) -> Performed
+    requires { ⌜ Given 33 o ⌝ }
+    ensures { λ r. ⌜ attempt r (now (d .exit)) ≡ attempted 33 o (now (d .entry)) ⌝ }
+{
+    let t = o.kind;
+    let to = o.to;
+    let a = o.first;
+    let b = o.second;
+    let w = values::width_of(t);
+    if beyond(d.len(), to, 1, a, w, b, w) {
+        return Performed::Beyond;
+    }
+    put(d, 1, to, ge_of(d, t, a, b))
+}
+
+fn eq_of(d: &[u8], t: u8, a: usize, b: usize) -> u64
+    requires { ⌜ (takes 34 t ≡ true) × (a + widthOf t ≤ length (now d)) × (b + widthOf t ≤ length (now d)) ⌝ }
+    ensures { λ r. ⌜ r ≡ command 34 t (readLE (now (d .entry)) a (widthOf t)) (readLE (now (d .entry)) b (widthOf t)) ⌝ }
+{
+    match t {
+        0 => eq(read(d, 0, a), read(d, 0, b)) as u64,
+        1 => eq(read(d, 1, a), read(d, 1, b)) as u64,
+        2 => eq(read(d, 2, a), read(d, 2, b)) as u64,
+        3 => eq(read(d, 3, a), read(d, 3, b)) as u64,
+        4 => eq(read(d, 4, a), read(d, 4, b)) as u64,
+        5 => eq(read(d, 5, a), read(d, 5, b)) as u64,
+        6 => eq(read(d, 6, a), read(d, 6, b)) as u64,
+        7 => eq(read(d, 7, a), read(d, 7, b)) as u64,
+        8 => eq(read(d, 8, a), read(d, 8, b)) as u64,
+        9 => eq(read(d, 9, a), read(d, 9, b)) as u64,
+        10 => eq(read(d, 10, a), read(d, 10, b)) as u64,
+        _ => eq(read(d, 11, a), read(d, 11, b)) as u64,
+    }
+}
+
+pub fn eq_at(d: &mut [u8], o: Operands) -> Performed
+    requires { ⌜ Given 34 o ⌝ }
+    ensures { λ r. ⌜ attempt r (now (d .exit)) ≡ attempted 34 o (now (d .entry)) ⌝ }
+{
+    let t = o.kind;
+    let to = o.to;
+    let a = o.first;
+    let b = o.second;
+    let w = values::width_of(t);
+    if beyond(d.len(), to, 1, a, w, b, w) {
+        return Performed::Beyond;
+    }
+    put(d, 1, to, eq_of(d, t, a, b))
+}
+
+fn le_of(d: &[u8], t: u8, a: usize, b: usize) -> u64
+    requires { ⌜ (takes 35 t ≡ true) × (a + widthOf t ≤ length (now d)) × (b + widthOf t ≤ length (now d)) ⌝ }
+    ensures { λ r. ⌜ r ≡ command 35 t (readLE (now (d .entry)) a (widthOf t)) (readLE (now (d .entry)) b (widthOf t)) ⌝ }
+{
+    match t {
+        0 => le(read(d, 0, a), read(d, 0, b)) as u64,
+        1 => le(read(d, 1, a), read(d, 1, b)) as u64,
+        2 => le(read(d, 2, a), read(d, 2, b)) as u64,
+        3 => le(read(d, 3, a), read(d, 3, b)) as u64,
+        4 => le(read(d, 4, a), read(d, 4, b)) as u64,
+        5 => le(read(d, 5, a), read(d, 5, b)) as u64,
+        6 => le(read(d, 6, a), read(d, 6, b)) as u64,
+        7 => le(read(d, 7, a), read(d, 7, b)) as u64,
+        8 => le(read(d, 8, a), read(d, 8, b)) as u64,
+        9 => le(read(d, 9, a), read(d, 9, b)) as u64,
+        10 => le(read(d, 10, a), read(d, 10, b)) as u64,
+        _ => le(read(d, 11, a), read(d, 11, b)) as u64,
+    }
+}
+
+pub fn le_at(d: &mut [u8], o: Operands) -> Performed
+    requires { ⌜ Given 35 o ⌝ }
+    ensures { λ r. ⌜ attempt r (now (d .exit)) ≡ attempted 35 o (now (d .entry)) ⌝ }
+{
+    let t = o.kind;
+    let to = o.to;
+    let a = o.first;
+    let b = o.second;
+    let w = values::width_of(t);
+    if beyond(d.len(), to, 1, a, w, b, w) {
+        return Performed::Beyond;
+    }
+    put(d, 1, to, le_of(d, t, a, b))
+}
+
+fn lt_of(d: &[u8], t: u8, a: usize, b: usize) -> u64
+    requires { ⌜ (takes 36 t ≡ true) × (a + widthOf t ≤ length (now d)) × (b + widthOf t ≤ length (now d)) ⌝ }
+    ensures { λ r. ⌜ r ≡ command 36 t (readLE (now (d .entry)) a (widthOf t)) (readLE (now (d .entry)) b (widthOf t)) ⌝ }
+{
+    match t {
+        0 => lt(read(d, 0, a), read(d, 0, b)) as u64,
+        1 => lt(read(d, 1, a), read(d, 1, b)) as u64,
+        2 => lt(read(d, 2, a), read(d, 2, b)) as u64,
+        3 => lt(read(d, 3, a), read(d, 3, b)) as u64,
+        4 => lt(read(d, 4, a), read(d, 4, b)) as u64,
+        5 => lt(read(d, 5, a), read(d, 5, b)) as u64,
+        6 => lt(read(d, 6, a), read(d, 6, b)) as u64,
+        7 => lt(read(d, 7, a), read(d, 7, b)) as u64,
+        8 => lt(read(d, 8, a), read(d, 8, b)) as u64,
+        9 => lt(read(d, 9, a), read(d, 9, b)) as u64,
+        10 => lt(read(d, 10, a), read(d, 10, b)) as u64,
+        _ => lt(read(d, 11, a), read(d, 11, b)) as u64,
+    }
+}
+
+pub fn lt_at(d: &mut [u8], o: Operands) -> Performed
+    requires { ⌜ Given 36 o ⌝ }
+    ensures { λ r. ⌜ attempt r (now (d .exit)) ≡ attempted 36 o (now (d .entry)) ⌝ }
+{
+    let t = o.kind;
+    let to = o.to;
+    let a = o.first;
+    let b = o.second;
+    let w = values::width_of(t);
+    if beyond(d.len(), to, 1, a, w, b, w) {
+        return Performed::Beyond;
+    }
+    put(d, 1, to, lt_of(d, t, a, b))
+}
+
+fn ne_of(d: &[u8], t: u8, a: usize, b: usize) -> u64
+    requires { ⌜ (takes 37 t ≡ true) × (a + widthOf t ≤ length (now d)) × (b + widthOf t ≤ length (now d)) ⌝ }
+    ensures { λ r. ⌜ r ≡ command 37 t (readLE (now (d .entry)) a (widthOf t)) (readLE (now (d .entry)) b (widthOf t)) ⌝ }
+{
+    match t {
+        0 => ne(read(d, 0, a), read(d, 0, b)) as u64,
+        1 => ne(read(d, 1, a), read(d, 1, b)) as u64,
+        2 => ne(read(d, 2, a), read(d, 2, b)) as u64,
+        3 => ne(read(d, 3, a), read(d, 3, b)) as u64,
+        4 => ne(read(d, 4, a), read(d, 4, b)) as u64,
+        5 => ne(read(d, 5, a), read(d, 5, b)) as u64,
+        6 => ne(read(d, 6, a), read(d, 6, b)) as u64,
+        7 => ne(read(d, 7, a), read(d, 7, b)) as u64,
+        8 => ne(read(d, 8, a), read(d, 8, b)) as u64,
+        9 => ne(read(d, 9, a), read(d, 9, b)) as u64,
+        10 => ne(read(d, 10, a), read(d, 10, b)) as u64,
+        _ => ne(read(d, 11, a), read(d, 11, b)) as u64,
+    }
+}
+
+pub fn ne_at(d: &mut [u8], o: Operands) -> Performed
+    requires { ⌜ Given 37 o ⌝ }
+    ensures { λ r. ⌜ attempt r (now (d .exit)) ≡ attempted 37 o (now (d .entry)) ⌝ }
+{
+    let t = o.kind;
+    let to = o.to;
+    let a = o.first;
+    let b = o.second;
+    let w = values::width_of(t);
+    if beyond(d.len(), to, 1, a, w, b, w) {
+        return Performed::Beyond;
+    }
+    put(d, 1, to, ne_of(d, t, a, b))
+}
+
 // The typed command with this code byte.
-pub fn perform(code: u8, t: u8, d: &mut [u8], to: usize, a: usize, b: usize)
-    requires { ⌜ Ready code t (now d) to a b ⌝ }
-    ensures { λ _. ⌜ now (d .exit) ≡ performed code t (now (d .entry)) to a b ⌝ }
+pub fn perform(code: u8, d: &mut [u8], o: Operands) -> Performed
+    requires { ⌜ Given code o ⌝ }
+    ensures { λ r. ⌜ attempt r (now (d .exit)) ≡ attempted code o (now (d .entry)) ⌝ }
 {
     match code {
-        16 => add_at(d, t, to, a, b),
-        17 => sub_at(d, t, to, a, b),
-        18 => mul_at(d, t, to, a, b),
-        19 => div_at(d, t, to, a, b),
-        20 => modulo_at(d, t, to, a, b),
-        24 => and_at(d, t, to, a, b),
-        25 => or_at(d, t, to, a, b),
-        26 => xor_at(d, t, to, a, b),
-        27 => not_at(d, t, to, a),
-        28 => shl_at(d, t, to, a, b),
-        29 => shr_at(d, t, to, a, b),
-        30 => rol_at(d, t, to, a, b),
-        31 => ror_at(d, t, to, a, b),
-        32 => gt_at(d, t, to, a, b),
-        33 => ge_at(d, t, to, a, b),
-        34 => eq_at(d, t, to, a, b),
-        35 => le_at(d, t, to, a, b),
-        36 => lt_at(d, t, to, a, b),
-        _ => ne_at(d, t, to, a, b),
+        16 => add_at(d, o),
+        17 => sub_at(d, o),
+        18 => mul_at(d, o),
+        19 => div_at(d, o),
+        20 => modulo_at(d, o),
+        24 => and_at(d, o),
+        25 => or_at(d, o),
+        26 => xor_at(d, o),
+        27 => not_at(d, o),
+        28 => shl_at(d, o),
+        29 => shr_at(d, o),
+        30 => rol_at(d, o),
+        31 => ror_at(d, o),
+        32 => gt_at(d, o),
+        33 => ge_at(d, o),
+        34 => eq_at(d, o),
+        35 => le_at(d, o),
+        36 => lt_at(d, o),
+        _ => ne_at(d, o),
     }
 }

@@ -1,5 +1,5 @@
--- What accepted code says of the instruction at the program counter. In order: the typed commands by their code byte; their widths;
--- what the function of each command asks. Assumes nothing.
+-- What accepted code says of the instruction at the program counter. In order: the typed commands by their code byte; what
+-- the function of each command asks. Assumes nothing.
 use mathlib.Core.Path.{_≡_, refl, sym, ap, _∙_}
 use mathlib.Core.Bool.{Bool, true, false}
 use mathlib.Core.Logic.{_⊎_, inl, inr, ⊎-elim}
@@ -9,23 +9,25 @@ use native.Mathlib.Omega.{arith}
 use borrow.Author.Tests.{eqb-true, eqb-false, ne-eqb}
 use lib.Dec.{eqb}
 use lib.ListN.{length}
+use mir.Syntax.{w16}
+use mir.Val.{Fits}
 use Rattle.verdict.specs.Verdict.{pick, either, within}
-use Rattle.verdict.proofs.Verdict.{absurd-bool, by-pick, both-true, inside as within-true, inside-true, outside}
+use Rattle.verdict.proofs.Verdict.{absurd-bool, both-true, inside-true}
 use Rattle.memory.specs.Memory.{byte, word}
 use Rattle.protocol.specs.declared.Registers.{Registers}
 use Rattle.code.specs.declared.Instruction.the-variants.{Typed, Unknown}
 use Rattle.code.specs.Commands.{three, layoutOf, lengthOf}
 use Rattle.code.specs.Instructions.{typedAt, instructionAt, instructionLength}
-use Rattle.code.proofs.Laws.{takes-not, three-length, typed-left, typed-takes}
-use Rattle.values.specs.Types.{widthOf, takes}
-use Rattle.values.specs.Commands.{resultType, resultWidth, secondWidth}
+use Rattle.code.proofs.Laws.{three-length, typed-left}
+use Rattle.values.specs.Types.{takes}
 use Rattle.code.specs.Code.{isWidth, operandsOk}
 use Rattle.code.proofs.Sound.{Sound, sound}
 use Rattle.values.specs.Width.{Width}
-use Rattle.values.proofs.Types.{width-ok}
-use Rattle.values.proofs.Commands.{taken-type}
-use Rattle.values.proofs.Widths.{width-le}
-use Rattle.processor.specs.Executable.{Executable, Stands, secondAt}
+use Rattle.values.proofs.Commands.{last-code}
+use Rattle.commands.specs.declared.Operands.{Operands}
+use Rattle.commands.specs.Attempts.{Given}
+use Rattle.processor.specs.Executable.{Executable, Stands}
+use Rattle.processor.specs.Typed.{operandsAt, Low}
 
 -- ---- the typed commands by their code byte
 
@@ -34,108 +36,57 @@ either-cases true b e = inl refl
 either-cases false b e = inr e
 
 -- the code bytes with three addresses
-three-range : (op : ℕ) → three op ≡ true → (16 ≤ op) × (op ≤ 37) × (op ≡ 27 → ⊥)
+three-range : (op : ℕ) → three op ≡ true → (16 ≤ op) × (op ≤ 37)
 three-range op e = go (either-cases (within 16 20 op) _ e)
   where
-    rest : (within 24 26 op ≡ true) ⊎ (within 28 37 op ≡ true) → (16 ≤ op) × (op ≤ 37) × (op ≡ 27 → ⊥)
-    rest (inl f) = let h = inside-true 24 26 op f in (omega (arith, h .0), omega (arith, h .1), λ z. let y : ⊥ = omega (arith, h .1) in y)
-    rest (inr f) = let h = inside-true 28 37 op f in (omega (arith, h .0), omega (arith, h .1), λ z. let y : ⊥ = omega (arith, h .0) in y)
+    rest : (within 24 26 op ≡ true) ⊎ (within 28 37 op ≡ true) → (16 ≤ op) × (op ≤ 37)
+    rest (inl f) = let h = inside-true 24 26 op f in (omega (arith, h .0), omega (arith, h .1))
+    rest (inr f) = let h = inside-true 28 37 op f in (omega (arith, h .0), omega (arith, h .1))
 
-    go : (within 16 20 op ≡ true) ⊎ (either (within 24 26 op) (within 28 37 op) ≡ true) → (16 ≤ op) × (op ≤ 37) × (op ≡ 27 → ⊥)
-    go (inl f) = let h = inside-true 16 20 op f in (omega (arith, h .0), omega (arith, h .1), λ z. let y : ⊥ = omega (arith, h .1) in y)
+    go : (within 16 20 op ≡ true) ⊎ (either (within 24 26 op) (within 28 37 op) ≡ true) → (16 ≤ op) × (op ≤ 37)
+    go (inl f) = let h = inside-true 16 20 op f in (omega (arith, h .0), omega (arith, h .1))
     go (inr f) = rest (either-cases (within 24 26 op) _ f)
 
--- a command that takes a type has three addresses or is NOT
-taken : (op t : ℕ) → op < 256 → takes op t ≡ true → (three op ≡ true) ⊎ (op ≡ 27)
-taken op t h e = go (three op) refl
+-- a code byte of no other command is of a typed one
+typed-instruction : (c : List ℕ) (p : ℕ) → 10 ≤ byte c p → (byte c p ≡ 41 → ⊥) → (byte c p ≡ 42 → ⊥) → instructionAt c p ≡ typedAt c p Unknown
+typed-instruction c p l n m =
+    typed-left c p (off 0 (omega arith)) (off 1 (omega arith)) (off 2 (omega arith)) (off 3 (omega arith)) (off 4 (omega arith))
+    (off 5 (omega arith)) (off 6 (omega arith)) (off 7 (omega arith)) (off 8 (omega arith)) (off 9 (omega arith)) n m
   where
-    also : three op ≡ false → (b : Bool) → eqb op 27 ≡ b → (three op ≡ true) ⊎ (op ≡ 27)
-    also f true g = inr (eqb-true op 27 g)
-    also f false g = absurd-bool (sym (takes-not op t h f g) ∙ e)
+    off : (k : ℕ) → k < 10 → byte c p ≡ k → ⊥
+    off k i e = omega arith
 
-    go : (b : Bool) → three op ≡ b → (three op ≡ true) ⊎ (op ≡ 27)
-    go true f = inl f
-    go false f = also f (eqb op 27) refl
+-- the instruction and its length, where the second source stands n bytes after the start
+pub record TypedAt (c : List ℕ) (p op n : ℕ) : Type 0 where
+  pub is : instructionAt c p ≡ Typed op (byte c (p + 1)) (word c (p + 2)) (word c (p + 4)) (word c (p + n))
+  pub long : instructionLength c p ≡ n + 2
 
-pub typed-range : (op t : ℕ) → op < 256 → takes op t ≡ true → (16 ≤ op) × (op ≤ 37)
-typed-range op t h e = go (taken op t h e)
-  where
-    go : (three op ≡ true) ⊎ (op ≡ 27) → (16 ≤ op) × (op ≤ 37)
-    go (inl f) = let r = three-range op f in (r .0, r .1)
-    go (inr f) = (omega arith, omega arith)
-
-typed-instruction : (c : List ℕ) (p : ℕ) → 16 ≤ byte c p → byte c p ≤ 37 → instructionAt c p ≡ typedAt c p Unknown
-typed-instruction c p l h = typed-left c p (off 0 (omega arith)) (off 1 (omega arith)) (off 2 (omega arith)) (off 3 (omega arith)) (off 4 (omega arith)) (off 5 (omega arith)) (off 6 (omega arith)) (off 7 (omega arith)) (off 8 (omega arith)) (off 9 (omega arith)) (λ e. omega arith) (λ e. omega arith)
-  where
-    off : (n : ℕ) → n < 16 → byte c p ≡ n → ⊥
-    off n i e = omega arith
-
--- the instruction and its length
-pub record TypedAt (c : List ℕ) (p op : ℕ) : Type 0 where
-  pub is : instructionAt c p ≡ Typed op (byte c (p + 1)) (word c (p + 2)) (word c (p + 4)) (word c (p + secondAt op))
-  pub long : instructionLength c p ≡ secondAt op + 2
-
-not-length : lengthOf 27 ≡ 6
-unfolding lengthOf layoutOf pick
-not-length = refl
-
-pub typed-here : (c : List ℕ) (p op : ℕ) → op < 256 → takes op (byte c (p + 1)) ≡ true → byte c p ≡ op → TypedAt c p op
+pub three-here : (c : List ℕ) (p op : ℕ) → byte c p ≡ op → three op ≡ true → TypedAt c p op 6
 unfolding typedAt instructionLength pick
-typed-here c p op h t e = go (taken op (byte c (p + 1)) h t)
+three-here c p op e f =
+    let h = three-range op f in
+    let six : eqb op 6 ≡ false = ne-eqb op 6 (λ z. let y : ⊥ = omega (arith, h .0) in y) in
+    record {
+      is = typed-instruction c p (omega (arith, h .0)) (λ z. omega (arith, h .1)) (λ z. omega (arith, h .1)) ∙ rw (e, f);
+      long = rw (e, six, three-length op (omega (arith, h .1)) f);
+    }
+
+-- one that is listed and does not have three addresses is NOT
+not-listed : (c : List ℕ) (p : ℕ) → (three (byte c p) ≡ true → ⊥) → operandsOk (typedAt c p Unknown) ≡ true → byte c p ≡ 27
+unfolding typedAt pick
+not-listed c p n h = go (three (byte c p)) refl
   where
-    range : (16 ≤ op) × (op ≤ 37)
-    range = typed-range op (byte c (p + 1)) h t
+    also : three (byte c p) ≡ false → (b : Bool) → eqb (byte c p) 27 ≡ b → byte c p ≡ 27
+    also f true g = eqb-true (byte c p) 27 g
+    also f false g = absurd-bool (rw (f, g) at h)
 
-    six : eqb op 6 ≡ false
-    six = ne-eqb op 6 (λ z. let y : ⊥ = omega (arith, range .0) in y)
+    go : (b : Bool) → three (byte c p) ≡ b → byte c p ≡ 27
+    go true f = absurd (n f)
+    go false f = also f (eqb (byte c p) 27) refl
 
-    typed : instructionAt c p ≡ typedAt c p Unknown
-    typed = typed-instruction c p (omega (arith, range .0)) (omega (arith, range .1))
-
-    go : (three op ≡ true) ⊎ (op ≡ 27) → TypedAt c p op
-    go (inl f) =
-        let n : eqb op 27 ≡ false = ne-eqb op 27 (three-range op f .2) in
-        record { is = typed ∙ rw (e, f, n); long = rw (e, six, n, three-length op h f) }
-    go (inr f) = record { is = typed ∙ rw (e, f); long = rw (e, f, not-length) }
-
--- ---- their widths
-
-result-plain : (op t : ℕ) → op < 32 → widthOf t ≡ resultWidth op t
-unfolding resultWidth resultType pick
-result-plain op t h = rw (outside 32 37 op (λ l u. let y : ⊥ = omega arith in y))
-
-result-compared : (op t : ℕ) → 32 ≤ op → op ≤ 37 → 1 ≡ resultWidth op t
-unfolding resultWidth resultType widthOf pick
-result-compared op t h l = rw (within-true 32 37 op h l)
-
-second-plain : (op t : ℕ) → (op ≡ 27 → ⊥) → (28 ≤ op → op ≤ 31 → ⊥) → widthOf t ≡ secondWidth op t
-unfolding secondWidth pick
-second-plain op t h l = rw (outside 28 31 op l, ne-eqb op 27 h)
-
-pub second-count : (op t : ℕ) → 28 ≤ op → op ≤ 31 → 1 ≡ secondWidth op t
-unfolding secondWidth pick
-second-count op t h l = rw (within-true 28 31 op h l)
-
-pub second-none : (op t : ℕ) → op ≡ 27 → 0 ≡ secondWidth op t
-unfolding secondWidth pick
-second-none op t e = rw e
-
-pub type-width : (t w : ℕ) → t < 12 → w ≡ widthOf t → w ≤ 8
-type-width t w h e = rw e (width-le (width-ok t h))
-
--- the widths that the code computes
-pub result-wide : (op t w : ℕ) → op < 256 → takes op t ≡ true → op < 32 → w ≡ widthOf t → (w ≡ resultWidth op t) × (w ≤ 8)
-result-wide op t w h k l e = (e ∙ result-plain op t l, type-width t w (taken-type op t k) e)
-
-pub result-one : (op t : ℕ) → op < 256 → takes op t ≡ true → 32 ≤ op → (1 ≡ resultWidth op t) × (1 ≤ 8)
-result-one op t h k l = (result-compared op t l (typed-range op t h k .1), omega arith)
-
-pub second-wide : (op t w : ℕ) → takes op t ≡ true → (op ≡ 27 → ⊥) → (28 ≤ op → op ≤ 31 → ⊥) → w ≡ widthOf t → (w ≡ secondWidth op t) × (w ≤ 8)
-second-wide op t w k n l e = (e ∙ second-plain op t n l, type-width t w (taken-type op t k) e)
-
--- the second address is not before the first
-pub second-later : (op : ℕ) → 4 ≤ secondAt op
-second-later op = by-pick (λ (n : ℕ). 4 ≤ n) (eqb op 27) 4 6 (λ e. omega arith) (λ e. omega arith)
+pub not-here : (c : List ℕ) (p : ℕ) → byte c p ≡ 27 → TypedAt c p 27 4
+unfolding typedAt instructionAt instructionLength lengthOf layoutOf pick
+not-here c p e = record { is = rw e; long = rw e }
 
 -- ---- what the function of each command asks
 
@@ -207,16 +158,34 @@ module _ (c : List ℕ) (r : Registers) (d : List ℕ) (x : Executable c r d) wh
       let s = stands op e in
       (o, record { here = e; whole = omega (arith, s .whole); short = x .short }, element-size op o e)
 
-  -- a code byte of no other command is of a typed one
-  pub stands-typed : (op : ℕ) → byte c (r .counter) ≡ op → op < 256 → 10 ≤ op → (op ≡ 41 → ⊥) → (op ≡ 42 → ⊥)
-      → Stands op (secondAt op + 2) c r × (takes op (byte c (r .counter + 1)) ≡ true)
-  stands-typed op e h l n m =
-      let off : (k : ℕ) → k < 10 → byte c (r .counter) ≡ k → ⊥ = λ k i f. let y : ⊥ = omega arith in y in
-      let typed : instructionAt c (r .counter) ≡ typedAt c (r .counter) Unknown =
-      typed-left c (r .counter) (off 0 (omega arith)) (off 1 (omega arith)) (off 2 (omega arith)) (off 3 (omega arith)) (off 4 (omega arith))
-      (off 5 (omega arith)) (off 6 (omega arith)) (off 7 (omega arith)) (off 8 (omega arith)) (off 9 (omega arith)) (λ f. n (sym e ∙ f)) (λ f. m (sym e ∙ f)) in
-      let t : takes (byte c (r .counter)) (byte c (r .counter + 1)) ≡ true =
-      sym (typed-takes c (r .counter) (omega arith)) ∙ ap operandsOk (sym typed) ∙ here .here .listed in
-      let t′ : takes op (byte c (r .counter + 1)) ≡ true = rw e at t in
-      let i : r .counter + (secondAt op + 2) ≤ length c = rw (typed-here c (r .counter) op h t′ e .long) at (here .here .inside) in
-      (record { here = e; whole = i; short = x .short }, t′)
+  -- what a typed command's functions ask
+  pub typed-inside : (op n : ℕ) → TypedAt c (r .counter) op n → (r .counter + (n + 2) ≤ length c) × (length c ≤ 8192)
+  typed-inside op n t = (rw (t .long) at (here .here .inside), x .short)
+
+  typed-taken : (op n : ℕ) → TypedAt c (r .counter) op n → takes op (byte c (r .counter + 1)) ≡ true
+  typed-taken op n t = rw (t .is) at (here .here .listed)
+
+  pub typed-given : (op n : ℕ) (o : Operands) → TypedAt c (r .counter) op n → (o ≡ operandsAt n c r) × Low o → Given op o
+  typed-given op n o t e = record { taken = rw (e .0) (typed-taken op n t); to-low = e .1 .0; first-low = e .1 .1; second-low = e .1 .2 }
+
+  -- the same of a command with three addresses, by its code byte
+  pub three-inside : (op : ℕ) → byte c (r .counter) ≡ op → three op ≡ true → (r .counter + 8 ≤ length c) × (length c ≤ 8192)
+  three-inside op e t = typed-inside op 6 (three-here c (r .counter) op e t)
+
+  pub three-given : (op : ℕ) (o : Operands) → byte c (r .counter) ≡ op → three op ≡ true → (o ≡ operandsAt 6 c r) × Low o → Given op o
+  three-given op o e t = typed-given op 6 o (three-here c (r .counter) op e t)
+
+  pub next-fits : Fits w16 (r .counter + 8)
+  next-fits = record { fits = omega (arith, here .inside, x .short) }
+
+  -- a code byte of no other command is NOT's
+  pub last-here : 10 ≤ byte c (r .counter) → (byte c (r .counter) ≡ 41 → ⊥) → (byte c (r .counter) ≡ 42 → ⊥)
+      → (byte c (r .counter) ≡ 16 → ⊥) → (byte c (r .counter) ≡ 17 → ⊥) → (byte c (r .counter) ≡ 18 → ⊥) → (byte c (r .counter) ≡ 19 → ⊥)
+      → (byte c (r .counter) ≡ 20 → ⊥) → (byte c (r .counter) ≡ 24 → ⊥) → (byte c (r .counter) ≡ 25 → ⊥) → (byte c (r .counter) ≡ 26 → ⊥)
+      → (byte c (r .counter) ≡ 28 → ⊥) → (byte c (r .counter) ≡ 29 → ⊥) → (byte c (r .counter) ≡ 30 → ⊥) → (byte c (r .counter) ≡ 31 → ⊥)
+      → (byte c (r .counter) ≡ 32 → ⊥) → (byte c (r .counter) ≡ 33 → ⊥) → (byte c (r .counter) ≡ 34 → ⊥) → (byte c (r .counter) ≡ 35 → ⊥)
+      → (byte c (r .counter) ≡ 36 → ⊥) → (byte c (r .counter) ≡ 37 → ⊥) → TypedAt c (r .counter) 27 4
+  last-here l n41 n42 n16 n17 n18 n19 n20 n24 n25 n26 n28 n29 n30 n31 n32 n33 n34 n35 n36 n37 =
+      let none : (three (byte c (r .counter)) ≡ true → ⊥) = λ t.
+      n37 (last-code _ _ (typed-taken _ 6 (three-here c (r .counter) _ refl t)) n16 n17 n18 n19 n20 n24 n25 n26 (λ z. absurd-bool (rw z at t)) n28 n29 n30 n31 n32 n33 n34 n35 n36) in
+      not-here c (r .counter) (not-listed c (r .counter) none (ap operandsOk (sym (typed-instruction c (r .counter) l n41 n42)) ∙ here .here .listed))

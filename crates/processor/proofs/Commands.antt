@@ -1,6 +1,6 @@
 -- What `executed` is at each code byte, and each way through a command over what the calls of its function give: a function's returns cite
 -- these, most of them by a search in the sets at the end. Assumes nothing.
-use mathlib.Core.Path.{_≡_, refl}
+use mathlib.Core.Path.{_≡_, refl, sym, ap, _∙_}
 use mathlib.Core.Bool.{Bool, true, false, not, Bool·beq}
 use mathlib.Core.Logic.{_⊎_, inl, inr}
 use mathlib.Core.List.{List}
@@ -12,16 +12,21 @@ use lib.ListN.{length}
 use Rattle.verdict.specs.Verdict.{pick}
 use Rattle.memory.specs.Memory.{byte, word, splice, part, bytesLE, readLE}
 use Rattle.protocol.specs.declared.Registers.{Registers}
+use Rattle.protocol.specs.declared.Outcome.{Outcome}
 use Rattle.protocol.specs.declared.Outcome.the-variants.{Fault, Next, Call, Return as Returned}
-use Rattle.protocol.specs.Instruction.{halted}
+use Rattle.protocol.specs.Instruction.{Executed, halted}
 use Rattle.code.specs.declared.Instruction.the-variants.{Typed}
 use Rattle.code.specs.Commands.{layoutOf, lengthOf}
 use Rattle.code.specs.Instructions.{typedAt, instructionAt, instructionLength}
-use Rattle.values.specs.Types.{takes}
-use Rattle.values.specs.Commands.{secondWidth, zeroDivisor, performed}
-use Rattle.processor.specs.Executable.{Reports, secondAt}
-use Rattle.processor.specs.Processor.{placeOf, beyond, anyBeyond, typedBeyond, answer, branched, called, passed, decided, faultIf, changed, elementAt, ofElement, dataPart, meaning, executed}
-use Rattle.processor.proofs.Accepted.{typed-here}
+use Rattle.values.specs.Commands.{beyond, anyBeyond}
+use Rattle.commands.specs.declared.Operands.{Operands}
+use Rattle.commands.specs.declared.Performed.{Performed}
+use Rattle.commands.specs.declared.Performed.the-variants.{Done, Beyond, ByZero}
+use Rattle.commands.specs.Attempts.{Attempt, attempt, attempted}
+use Rattle.processor.specs.Executable.{Reports}
+use Rattle.processor.specs.Processor.{placeOf, answer, branched, called, passed, decided, faultIf, changed, elementAt, ofElement, dataPart, meaning, executed}
+use Rattle.processor.specs.Typed.{operandsAt, outcomeOf}
+use Rattle.processor.proofs.Accepted.{TypedAt, three-here, three-given, next-fits}
 
 is-true : (b : Bool) → Bool·beq b true ≡ b
 is-true true = refl
@@ -114,14 +119,10 @@ module _ (c : List ℕ) (r : Registers) (d : List ℕ) where
   element-at op (inl z) e = rw (e, z)
   element-at op (inr z) e = rw (e, z)
 
-  typed-at : (op : ℕ) → op < 256 → takes op (byteAt 1) ≡ true → byte c (r .counter) ≡ op
-      → executed c r d
-      ≡ passed (r .counter + (secondAt op + 2)) d
-      (dataPart (Typed op (byteAt 1) (wordAt 2) (wordAt 4) (wordAt (secondAt op))) c r d)
+  typed-at : (op n : ℕ) → TypedAt c (r .counter) op n
+      → executed c r d ≡ passed (r .counter + (n + 2)) d (dataPart (Typed op (byteAt 1) (wordAt 2) (wordAt 4) (wordAt n)) c r d)
   unfolding executed meaning
-  typed-at op h t e =
-      let x = typed-here c (r .counter) op h t e in
-      rw (x .is, x .long)
+  typed-at op n x = rw (x .is, x .long)
 
   -- ---- the ways through a command
 
@@ -234,32 +235,22 @@ module _ (c : List ℕ) (r : Registers) (d : List ℕ) where
   element-done op variable index i n a q to from b x m o e f g h k u v w y z l t i′ j s =
       rw (element-at op o e, ← f, ← g, ← h, k, ← u, ← v, lt-leb _ _ w, ← y, ← z, ← l, t, ← i′, ← j, ← s)
 
-  pub typed-outside : (op s to a b : ℕ) (x : Bool) → op < 256 → takes op (byteAt 1) ≡ true → byte c (r .counter) ≡ op → s ≡ secondAt op
-      → to ≡ operandAt 2 → a ≡ operandAt 4
-      → b ≡ operandAt s
-      → x ≡ typedBeyond op (byteAt 1) (length d) to a b → x ≡ true → answer (Fault 4) d ≡ executed c r d
-  unfolding pick dataPart
-  typed-outside op s to a b x h t e f u v w y z = rw (typed-at op h t e, ← f, ← u, ← v, ← w, ← y, z)
+  -- what a typed command answers, as the instruction's answer
+  abbrev finished : ℕ → Attempt → Executed
+  finished next a = answer (outcomeOf next (a .answer)) (a .memory)
 
-  pub typed-divisor : (op s to a b : ℕ) (x q : Bool) → op < 256 → takes op (byteAt 1) ≡ true → byte c (r .counter) ≡ op → s ≡ secondAt op
-      → to ≡ operandAt 2 → a ≡ operandAt 4
-      → b ≡ operandAt s
-      → x ≡ typedBeyond op (byteAt 1) (length d) to a b → x ≡ false
-      → q ≡ zeroDivisor op (byteAt 1) (readLE d b (secondWidth op (byteAt 1))) → q ≡ true
-      → answer (Fault 3) d ≡ executed c r d
-  unfolding pick dataPart
-  typed-divisor op s to a b x q h t e f u v w y z k l = rw (typed-at op h t e, ← f, ← u, ← v, ← w, ← y, z, ← k, l)
+  finished-tests : (next : ℕ) (x y : Bool) (m : List ℕ)
+      → finished next (pick x (attempt Beyond d) (pick y (attempt ByZero d) (attempt Done m))) ≡ passed next d (faultIf x 4 (faultIf y 3 (changed r m)))
+  unfolding pick
+  finished-tests next true y m = refl
+  finished-tests next false true m = refl
+  finished-tests next false false m = refl
 
-  pub typed-done : (op s to a b : ℕ) (x q : Bool) (m : List ℕ) → op < 256 → takes op (byteAt 1) ≡ true → byte c (r .counter) ≡ op
-      → s ≡ secondAt op → to ≡ operandAt 2 → a ≡ operandAt 4
-      → b ≡ operandAt s
-      → x ≡ typedBeyond op (byteAt 1) (length d) to a b → x ≡ false
-      → q ≡ zeroDivisor op (byteAt 1) (readLE d b (secondWidth op (byteAt 1))) → q ≡ false
-      → m ≡ performed op (byteAt 1) d to a b → answer (Next (r .counter + s + 2)) m ≡ executed c r d
-  unfolding pick dataPart
-  typed-done op s to a b x q m h t e f u v w y z k l g =
-      let i : r .counter + (s + 2) ≡ r .counter + s + 2 = omega arith in
-      rw (typed-at op h t e, ← f, i, ← u, ← v, ← w, ← y, z, ← k, l, ← g)
+  pub typed-done : (op n : ℕ) (o : Operands) (p : Performed) (q : Outcome) (m : List ℕ) → TypedAt c (r .counter) op n
+      → o ≡ operandsAt n c r → attempt p m ≡ attempted op o d → q ≡ outcomeOf (r .counter + (n + 2)) p → answer q m ≡ executed c r d
+  unfolding attempted dataPart
+  typed-done op n o p q m x e f g =
+      rw g (ap (finished (r .counter + (n + 2))) f ∙ rw e (finished-tests (r .counter + (n + 2)) _ _ _) ∙ sym (typed-at op n x))
 
 pub ruleset branches = (branch-beyond, branch-made, branch-not)
 
@@ -268,3 +259,5 @@ pub ruleset calls = (call-instance-full, call-instance-beyond, call-instance-mad
 pub ruleset moves = (move-constant-beyond, move-constant-done, copy-memory-beyond, copy-memory-done)
 
 pub ruleset reports = (report-beyond, report-done)
+
+pub ruleset typed = (three-here, three-given, next-fits, typed-done)

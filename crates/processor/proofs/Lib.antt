@@ -1,4 +1,4 @@
-pub mod Operands
+pub mod Inside
 pub mod Accepted
 pub mod Commands
 pub mod Kept

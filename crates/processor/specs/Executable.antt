@@ -5,8 +5,6 @@ use mathlib.Core.Logic.{_⊎_}
 use mathlib.Core.List.{List}
 use Prim.Native.Nat.{ℕ, _+_, _≤_}
 use lib.ListN.{length}
-use lib.Dec.{eqb}
-use Rattle.verdict.specs.Verdict.{pick}
 use Rattle.memory.specs.Memory.{byte}
 use Rattle.code.specs.Code.{judgeCode, isStart}
 use Rattle.protocol.specs.declared.Registers.{Registers}
@@ -27,7 +25,3 @@ pub record Stands (code n : ℕ) (c : List ℕ) (r : Registers) : Type 0 where
 -- what 41 and 42 store: the cycle's time in four bytes, the flag byte in one
 abbrev pub Reports : ℕ → Registers → ℕ → ℕ → Type 0
 Reports code r width value = ((code ≡ 41) × (width ≡ 4) × (value ≡ r .time)) ⊎ ((code ≡ 42) × (width ≡ 1) × (value ≡ r .flags))
-
--- where the address of a typed command's second operand stands in the instruction: NOT's one operand stands for both
-abbrev pub secondAt : ℕ → ℕ
-secondAt code = pick (eqb code 27) 4 6

@@ -1,3 +1,4 @@
 pub mod Processor
 pub mod Executable
 pub mod Placed
+pub mod Typed

@@ -6,10 +6,9 @@ use mathlib.Core.Bool.{Bool, true, false, not}
 use mathlib.Core.List.{List}
 use lib.ListN.{length}
 use lib.Dec.{ltb, leb, eqb}
-use Rattle.verdict.specs.Verdict.{pick, either}
+use Rattle.verdict.specs.Verdict.{pick}
 use Rattle.memory.specs.Memory.{byte, splice, part, bytesLE, readLE, word}
-use Rattle.values.specs.Types.{widthOf}
-use Rattle.values.specs.Commands.{resultWidth, secondWidth, zeroDivisor, performed}
+use Rattle.values.specs.Commands.{beyond, anyBeyond, typedBeyond, secondWidth, zeroDivisor, performed}
 use Rattle.protocol.specs.declared.Registers.{Registers}
 use Rattle.protocol.specs.declared.Outcome.{Outcome}
 use Rattle.protocol.specs.declared.Outcome.the-variants.{Fault, Next, Call, Return as Returned}
@@ -24,10 +23,6 @@ use Rattle.code.specs.Flow.{Kind, Returns, Jumps, Branches, Calls, Passes, kind
 -- "An address of 16 bits below 32,768 is added to the data offset; from there on, subtract 32,768 and it is absolute."
 unfoldable pub placeOf : ℕ → ℕ → ℕ
 placeOf offset address = pick (ltb address 32768) (offset + address) (address - 32768)
-
--- "An operand is beyond the data if its place plus its width exceeds the data size"
-unfoldable pub beyond : ℕ → ℕ → ℕ → Bool
-beyond size place width = ltb size (place + width)
 
 -- the place of an address operand of a core
 abbrev pub at : Registers → ℕ → ℕ
@@ -47,14 +42,6 @@ faultIf test b x = pick test (refused b) x
 -- nothing but the data afterwards
 abbrev pub changed : Registers → List ℕ → Decided
 changed r m = decided false (r .offset) m
-
--- of two operands, of n bytes at p and of m bytes at q, one is beyond the data
-abbrev pub anyBeyond : ℕ → ℕ → ℕ → ℕ → ℕ → Bool
-anyBeyond size p n q m = either (beyond size p n) (beyond size q m)
-
--- of a typed command's operands one is
-abbrev pub typedBeyond : ℕ → ℕ → ℕ → ℕ → ℕ → ℕ → Bool
-typedBeyond code t size to a b = either (beyond size to (resultWidth code t)) (anyBeyond size a (widthOf t) b (secondWidth code t))
 
 -- AURD, AUWD: the addresses of variable and index, the index, the address of the chosen element; a negative INT index is 32,768 or more
 -- as it is stored, above every count

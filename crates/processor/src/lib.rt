@@ -1,19 +1,20 @@
 // Document 01, mode 2: one instruction of a core, from its registers, its code and its lent data. What it answers is applied to the
 // registers and the call stack by the machine, which also tries the instruction limit first.
+use commands::Operands;
+use commands::Performed;
 use protocol::Outcome;
 use protocol::Registers;
 ghost use mathlib.Core.Path.{_≡_};
-ghost use mathlib.Core.Bool.{true};
 ghost use mathlib.Core.Logic.{_⊎_};
 ghost use Prim.Native.Nat.{_+_, _*_, _≤_, _<_};
 ghost use lib.ListN.{length};
 ghost use Rattle.memory.specs.Memory.{byte, splice, part, word};
 ghost use Rattle.verdict.specs.Verdict.{pick};
 ghost use Rattle.values.specs.Width.{Width};
-ghost use Rattle.values.specs.Types.{takes};
-ghost use Rattle.values.specs.Commands.{resultWidth, secondWidth};
-ghost use Rattle.processor.specs.Processor.{placeOf, beyond, anyBeyond, typedBeyond, answer, executed};
-ghost use Rattle.processor.specs.Executable.{Executable, Stands, Reports, secondAt};
+ghost use Rattle.values.specs.Commands.{beyond, anyBeyond};
+ghost use Rattle.processor.specs.Processor.{placeOf, answer, executed};
+ghost use Rattle.processor.specs.Typed.{operandsAt, Low, outcomeOf};
+ghost use Rattle.processor.specs.Executable.{Executable, Stands, Reports};
 
 // ---- addresses
 
@@ -206,74 +207,44 @@ fn access_element(op: u8, r: Registers, code: &[u8], d: &mut [u8]) -> Outcome
 
 // ---- typed commands
 
-// Where the address of the second operand stands in the instruction.
-fn second_at(op: u8) -> usize
-    ensures { λ r. ⌜ r ≡ secondAt op ⌝ }
-{
-    if op == 27 {
-        return 4;
-    }
-    6
-}
-
-// The width of the result.
-fn result_width(op: u8, t: u8) -> usize
-    requires { ⌜ takes op t ≡ true ⌝ }
-    ensures { λ r. ⌜ (r ≡ resultWidth op t) × (r ≤ 8) ⌝ }
-{
-    if 32 <= op {
-        return 1;
-    }
-    values::width_of(t)
-}
-
-// The width of the second operand.
-fn second_width(op: u8, t: u8) -> usize
-    requires { ⌜ takes op t ≡ true ⌝ }
-    ensures { λ r. ⌜ (r ≡ secondWidth op t) × (r ≤ 8) ⌝ }
-{
-    if op < 27 {
-        return values::width_of(t);
-    }
-    if op == 27 {
-        return 0;
-    }
-    if op < 32 {
-        return 1;
-    }
-    values::width_of(t)
-}
-
-// Whether an operand of a typed command is beyond the data.
-fn typed_beyond(op: u8, t: u8, size: usize, to: usize, a: usize, b: usize) -> bool
-    requires { ⌜ (takes op t ≡ true) × (to < 98304) × (a < 98304) × (b < 98304) ⌝ }
-    ensures { λ r. ⌜ r ≡ typedBeyond op t size to a b ⌝ }
-{
-    if is_beyond(size, to, result_width(op, t)) {
-        return true;
-    }
-    any_beyond(size, a, values::width_of(t), b, second_width(op, t))
-}
-
-// A typed command.
-fn typed(op: u8, r: Registers, code: &[u8], d: &mut [u8]) -> Outcome
-    requires { ⌜ Stands op (secondAt op + 2) (now code) r × (takes op (byte (now code) (r .counter + 1)) ≡ true) ⌝ }
-    ensures { λ o. ⌜ answer o (now (d .exit)) ≡ executed (now (code .entry)) r (now (d .entry)) ⌝ }
+// The operands of a command with three addresses.
+fn operands(r: Registers, code: &[u8]) -> Operands
+    requires { ⌜ (r .counter + 8 ≤ length (now code)) × (length (now code) ≤ 8192) ⌝ }
+    ensures { λ o. ⌜ (o ≡ operandsAt 6 (now (code .entry)) r) × Low o ⌝ }
 {
     let p = r.counter as usize;
-    let t = code[p + 1];
-    let second = second_at(op);
-    let to = operand(r.offset, code, p + 2);
-    let a = operand(r.offset, code, p + 4);
-    let b = operand(r.offset, code, p + second);
-    if typed_beyond(op, t, d.len(), to, a, b) {
-        return Outcome::Fault(protocol::ADDRESS);
+    Operands {
+        kind: code[p + 1],
+        to: operand(r.offset, code, p + 2),
+        first: operand(r.offset, code, p + 4),
+        second: operand(r.offset, code, p + 6),
     }
-    if commands::zero_divisor(op, t, d, b) {
-        return Outcome::Fault(protocol::DIVISOR);
+}
+
+// Those of NOT, which has two: its one source stands for both.
+fn single(r: Registers, code: &[u8]) -> Operands
+    requires { ⌜ (r .counter + 6 ≤ length (now code)) × (length (now code) ≤ 8192) ⌝ }
+    ensures { λ o. ⌜ (o ≡ operandsAt 4 (now (code .entry)) r) × Low o ⌝ }
+{
+    let p = r.counter as usize;
+    let source = operand(r.offset, code, p + 4);
+    Operands {
+        kind: code[p + 1],
+        to: operand(r.offset, code, p + 2),
+        first: source,
+        second: source,
     }
-    commands::perform(op, t, d, to, a, b);
-    Outcome::Next((p + second + 2) as u16)
+}
+
+// What a typed command before the place `next` answers, as an instruction.
+fn outcome(performed: Performed, next: u16) -> Outcome
+    ensures { λ o. ⌜ o ≡ outcomeOf next performed ⌝ }
+{
+    match performed {
+        Performed::Done => Outcome::Next(next),
+        Performed::Beyond => Outcome::Fault(protocol::ADDRESS),
+        Performed::ByZero => Outcome::Fault(protocol::DIVISOR),
+    }
 }
 
 // ---- the cycle's time and the flag byte
@@ -319,6 +290,24 @@ pub fn execute(r: Registers, code: &[u8], d: &mut [u8]) -> Outcome
         8 | 9 => access_element(op, r, code, d),
         41 => store_number(op, r, code, d, 4, r.time as u64),
         42 => store_number(op, r, code, d, 1, r.flags as u64),
-        _ => typed(op, r, code, d),
+        16 => outcome(commands::add_at(d, operands(r, code)), r.counter + 8),
+        17 => outcome(commands::sub_at(d, operands(r, code)), r.counter + 8),
+        18 => outcome(commands::mul_at(d, operands(r, code)), r.counter + 8),
+        19 => outcome(commands::div_at(d, operands(r, code)), r.counter + 8),
+        20 => outcome(commands::modulo_at(d, operands(r, code)), r.counter + 8),
+        24 => outcome(commands::and_at(d, operands(r, code)), r.counter + 8),
+        25 => outcome(commands::or_at(d, operands(r, code)), r.counter + 8),
+        26 => outcome(commands::xor_at(d, operands(r, code)), r.counter + 8),
+        28 => outcome(commands::shl_at(d, operands(r, code)), r.counter + 8),
+        29 => outcome(commands::shr_at(d, operands(r, code)), r.counter + 8),
+        30 => outcome(commands::rol_at(d, operands(r, code)), r.counter + 8),
+        31 => outcome(commands::ror_at(d, operands(r, code)), r.counter + 8),
+        32 => outcome(commands::gt_at(d, operands(r, code)), r.counter + 8),
+        33 => outcome(commands::ge_at(d, operands(r, code)), r.counter + 8),
+        34 => outcome(commands::eq_at(d, operands(r, code)), r.counter + 8),
+        35 => outcome(commands::le_at(d, operands(r, code)), r.counter + 8),
+        36 => outcome(commands::lt_at(d, operands(r, code)), r.counter + 8),
+        37 => outcome(commands::ne_at(d, operands(r, code)), r.counter + 8),
+        _ => outcome(commands::not_at(d, single(r, code)), r.counter + 6),
     }
 }

@@ -1,29 +1,31 @@
--- Laws of a command on memory, over the code byte. In order: what `Ready` gives; divisors; the test for a zero divisor; what makes a result the command's, by the kind of its
--- second operand; lengths. Assumes nothing.
-use Prim.Native.Nat.{ℕ, suc, _+_, _-_, _^_, _≤_, _<_}
+-- Laws of a command on memory, over the code byte. In order: types and widths; divisors; the test for a zero divisor; what makes a pattern the command's,
+-- by the kind of its second operand; the last type of a `match`; the code byte that a `match` found; lengths. Assumes nothing.
+use Prim.Native.Nat.{ℕ, suc, _+_, _-_, _%_, _^_, _≤_, _<_}
 use mathlib.Core.Bool.{Bool, true, false}
 use mathlib.Core.List.{List, [], _∷_}
 use mathlib.Core.Path.{_≡_, refl, sym, _∙_, ap, subst}
+use mathlib.Core.Logic.{inl, inr}
 use native.Mathlib.Omega.{arith}
 use lib.ListN.{length, getD, List·getD-eq-default}
 use lib.IntN.{ℤ, pos, negsuc}
-use lib.Dec.{ltb, eqb}
+use lib.Dec.{leb, ltb, eqb}
+use mir.Val.{boolByte}
 use borrow.Author.Tests.{eqb-true, leb-true, ltb-true, ltb-false, ne-eqb}
 use Rattle.verdict.specs.Verdict.{pick, both, within}
 use Rattle.verdict.proofs.Verdict.{absurd-bool, by-pick, pick-false, both-true, both-not, inside, inside-true, outside}
-use Rattle.memory.specs.Memory.{splice, part, bytesLE, valueLE, readLE}
+use Rattle.memory.specs.Memory.{readLE}
 use Rattle.memory.proofs.Laws.{length-splice}
 use Rattle.memory.proofs.Number.{read-byte}
 use Rattle.values.specs.Types.{widthOf, takes}
 use Rattle.values.specs.Width.{Width, signed, eqZ}
-use Rattle.values.specs.Values.{typed, stored, readValue}
-use Rattle.values.specs.Commands.{result, resultType, resultWidth, secondWidth, command, zeroDivisor, performed, byZero, Ready}
+use Rattle.values.specs.Values.{typed, patternOf, stored, readValue}
+use Rattle.values.specs.Commands.{result, resultType, secondWidth, command, zeroDivisor, performed, byZero}
 use Rattle.values.specs.declared.Value.{Value}
 use Rattle.values.specs.declared.Value.the-variants.{Bool as VBool}
 use Rattle.values.proofs.Widths.{width-pos, width-le}
-use Rattle.values.proofs.Types.{each-type, width-ok, past}
+use Rattle.values.proofs.Types.{each-type, width-ok, past, last-type}
 
--- ---- what `Ready` gives
+-- ---- types and widths
 
 -- a type that a command takes is one of the twelve
 pub taken-type : (code t : ℕ) → takes code t ≡ true → t < 12
@@ -36,30 +38,21 @@ taken-type code t =
     (λ c. by-pick (λ (x : Bool). x ≡ true → t < 12) (within 28 31 code) _ _ (λ c e. omega (arith, inside-true 2 8 t (both-true _ _ e .0) .1))
     (λ c. by-pick (λ (x : Bool). x ≡ true → t < 12) (within 32 37 code) _ _ (λ c e. omega (arith, leb-true t 11 e)) (λ c e. absurd-bool e))))))
 
-module _ {code t : ℕ} {s : List ℕ} {to a b : ℕ} (r : Ready code t s to a b) where
-  pub ready-type : t < 12
-  ready-type = taken-type code t (r .taken)
+-- the widths, as constants
+pub one-byte : Width 1
+one-byte = inl refl
 
-  pub ready-width : {w : ℕ} → w ≡ widthOf t → Width w
-  ready-width e = subst Width (sym e) (width-ok t ready-type)
+pub two-bytes : Width 2
+two-bytes = inr (inl refl)
 
-  -- the second operand, where it has the command's type
-  pub second-in : secondWidth code t ≡ widthOf t → b + widthOf t ≤ length s
-  second-in e =
-      subst (λ (n : ℕ). b + n ≤ length s) e (r .second-inside (subst (λ (n : ℕ). 0 < n) (sym e) (width-pos (width-ok t ready-type))))
+pub four-bytes : Width 4
+four-bytes = inr (inr (inl refl))
 
-  -- and where it is a count
-  pub count-in : secondWidth code t ≡ 1 → b < length s
-  count-in e =
-      let h : b + 1 ≤ length s = subst (λ (n : ℕ). b + n ≤ length s) e (r .second-inside (subst (λ (n : ℕ). 0 < n) (sym e) (omega arith))) in
-      omega arith
+pub eight-bytes : Width 8
+eight-bytes = inr (inr (inr refl))
 
-  -- the result, by its type
-  pub result-in : (k : ℕ) → resultType code t ≡ k → to + widthOf k ≤ length s
-  unfolding resultWidth
-  result-in k e = subst (λ (n : ℕ). to + widthOf n ≤ length s) e (r .result-inside)
+pub ruleset widths = (one-byte, two-bytes, four-bytes, eight-bytes)
 
--- and what gives it, where each operand has eight bytes of room
 pub width-room : (t : ℕ) → widthOf t ≤ 8
 unfolding widthOf
 width-room t = go (ltb t 12) refl
@@ -67,21 +60,6 @@ width-room t = go (ltb t 12) refl
     go : (b : Bool) → ltb t 12 ≡ b → widthOf t ≤ 8
     go true e = width-le (width-ok t (ltb-true t 12 e))
     go false e = subst (λ (n : ℕ). n ≤ 8) (sym (List·getD-eq-default (1 ∷ 1 ∷ 1 ∷ 2 ∷ 2 ∷ 4 ∷ 4 ∷ 8 ∷ 8 ∷ 4 ∷ 8 ∷ 4 ∷ []) 0 (ltb-false t 12 e))) (omega arith)
-
-pub second-room : (code t : ℕ) → secondWidth code t ≤ 8
-unfolding secondWidth
-second-room code t =
-    by-pick (λ (n : ℕ). n ≤ 8) (within 28 31 code) 1 _ (λ e. omega arith)
-    (λ e. by-pick (λ (n : ℕ). n ≤ 8) (eqb code 27) 0 (widthOf t) (λ e. omega arith) (λ e. width-room t))
-
-pub roomy : {code t : ℕ} {s : List ℕ} {to a b : ℕ} → takes code t ≡ true → to + 8 ≤ length s → a + 8 ≤ length s → b + 8 ≤ length s
-    → zeroDivisor code t (readLE s b (secondWidth code t)) ≡ false → Ready code t s to a b
-unfolding resultWidth
-roomy {code} {t} k h i j z =
-    let u : widthOf t ≤ 8 = width-room t in
-    let v : widthOf (resultType code t) ≤ 8 = width-room (resultType code t) in
-    let w : secondWidth code t ≤ 8 = second-room code t in
-    record { taken = k; result-inside = omega arith; first-inside = omega arith; second-inside = λ e. omega arith; divisor = z }
 
 -- ---- a divisor of a whole-number type is not zero
 
@@ -96,15 +74,15 @@ by-zero p q =
     (λ d h. refl) (λ d h. signed-zero 8 q h) (λ d h. h) (λ d h. signed-zero 16 q h) (λ d h. h) (λ d h. signed-zero 32 q h) (λ d h. h)
     (λ d h. signed-zero 64 q h) (λ d h. h) (λ d h. refl) (λ d h. refl) (λ d h. absurd (d refl))
 
-pub not-by-zero : (code t : ℕ) (s : List ℕ) (to a b : ℕ) (x y : Value) → within 19 20 code ≡ true → takes code 11 ≡ false
-    → secondWidth code t ≡ widthOf t → Ready code t s to a b → x ≡ readValue s t a → y ≡ readValue s t b → byZero x y ≡ false
+pub not-by-zero : (code t k : ℕ) (s : List ℕ) (a b : ℕ) (x y : Value) → t ≡ k → within 19 20 code ≡ true → takes code 11 ≡ false → takes code t ≡ true
+    → x ≡ readValue s k a → y ≡ readValue s k b → zeroDivisor code t (readLE s b (widthOf t)) ≡ false → byZero x y ≡ false
 unfolding readValue zeroDivisor
-not-by-zero code t s to a b x y i j g r p q =
-    ap (λ (v : Value). byZero v y) p ∙ ap (byZero (readValue s t a)) q
-    ∙ by-zero (readLE s a (widthOf t)) (readLE s b (widthOf t)) t (ready-type r)
-    (λ e. absurd-bool (sym j ∙ sym (ap (takes code) e) ∙ r .taken))
-    (sym (ap (λ (c : Bool). both c (both (within 1 8 t) (eqb (readLE s b (widthOf t)) 0))) i)
-    ∙ ap (λ (n : ℕ). zeroDivisor code t (readLE s b n)) (sym g) ∙ r .divisor)
+not-by-zero code t k s a b x y key i j l p q z =
+    ap (λ (v : Value). byZero v y) (p ∙ ap (λ (n : ℕ). readValue s n a) (sym key))
+    ∙ ap (byZero (readValue s t a)) (q ∙ ap (λ (n : ℕ). readValue s n b) (sym key))
+    ∙ by-zero (readLE s a (widthOf t)) (readLE s b (widthOf t)) t (taken-type code t l)
+    (λ e. absurd-bool (sym j ∙ sym (ap (takes code) e) ∙ l))
+    (sym (ap (λ (c : Bool). both c (both (within 1 8 t) (eqb (readLE s b (widthOf t)) 0))) i) ∙ z)
 
 -- ---- the test for a zero divisor
 
@@ -139,104 +117,99 @@ module _ (code t : ℕ) (h : 19 ≤ code) (k : code ≤ 20) (w : ℕ) (e : w ≡
       (ap (λ (c : Bool). both c (both (within 1 8 t) (eqb (readLE s b (secondWidth code t)) 0))) (inside 19 20 code h k)
       ∙ ap (λ (c : Bool). both c (eqb (readLE s b (secondWidth code t)) 0)) (inside 1 8 t i j))
 
--- ---- what makes a result the command's
+exactly : {n k : ℕ} → n ≤ k → k ≤ n → n ≡ k
+exactly h d = omega arith
 
-module _ (code t : ℕ) (s r : List ℕ) (to a b : ℕ) where
-  done : (k n : ℕ) (v : Value) → resultType code t ≡ k → secondWidth code t ≡ n
-      → v ≡ result code (widthOf t) (readValue s t a) (typed t (readLE s b n)) (readLE s b n)
-      → r ≡ splice s to (bytesLE (widthOf k) (stored k v)) → r ≡ performed code t s to a b
-  unfolding performed command resultWidth readValue
-  done k n v f g e h =
-      h ∙ ap (λ (x : Value). splice s to (bytesLE (widthOf k) (stored k x))) e
-      ∙ ap (λ (m : ℕ). splice s to (bytesLE (widthOf m) (stored m (result code (widthOf t) (readValue s t a) (typed t (readLE s b n)) (readLE s b n))))) (sym f)
-      ∙ ap (λ (m : ℕ). splice s to (bytesLE (widthOf (resultType code t)) (stored (resultType code t) (result code (widthOf t) (readValue s t a) (typed t (readLE s b m)) (readLE s b m))))) (sym g)
+-- ---- what makes a pattern the command's, where a `match` found that the type is k
 
-  operands : {x y : Value} {w : ℕ} (m : ℕ) → x ≡ readValue s t a → y ≡ readValue s t b → w ≡ widthOf t
-      → result code w x y m ≡ result code (widthOf t) (readValue s t a) (readValue s t b) m
-  operands {x} {y} {w} m p q l =
-      ap (λ (n : ℕ). result code n x y m) l
-      ∙ ap (λ (v : Value). result code (widthOf t) v y m) p
-      ∙ ap (λ (v : Value). result code (widthOf t) (readValue s t a) v m) q
+pub place-at : (t k p size : ℕ) → t ≡ k → p + widthOf t ≤ size → p + widthOf k ≤ size
+place-at t k p size e h = subst (λ (n : ℕ). p + widthOf n ≤ size) e h
+
+module _ (code t k w : ℕ) (s : List ℕ) (a b : ℕ) (key : t ≡ k) (wide : w ≡ widthOf k) where
+  read-at : (x : Value) (at : ℕ) → x ≡ readValue s k at → x ≡ typed t (readLE s at (widthOf t))
+  unfolding readValue
+  read-at x at e = e ∙ ap (λ (n : ℕ). typed n (readLE s at (widthOf n))) (sym key)
+
+  wide-at : w ≡ widthOf t
+  wide-at = wide ∙ ap widthOf (sym key)
 
   -- two operands of one type
-  pub two-done : (x y v : Value) (w : ℕ) → resultType code t ≡ t → secondWidth code t ≡ widthOf t
-      → x ≡ readValue s t a → y ≡ readValue s t b → w ≡ widthOf t → v ≡ result code w x y (readLE s b (widthOf t))
-      → r ≡ splice s to (bytesLE (widthOf t) (stored t v)) → r ≡ performed code t s to a b
-  unfolding readValue
-  two-done x y v w f g p q l e h = done t (widthOf t) v f g (e ∙ operands (readLE s b (widthOf t)) p q l) h
+  pub two-pattern : (x y v : Value) (p : ℕ) → resultType code t ≡ t → x ≡ readValue s k a → y ≡ readValue s k b
+      → v ≡ result code w x y (readLE s b (widthOf t)) → p ≡ patternOf w v → p ≡ command code t (readLE s a (widthOf t)) (readLE s b (widthOf t))
+  unfolding command stored
+  two-pattern x y v p f g h e i =
+      i ∙ ap (patternOf w) (e ∙ ap (λ (u : Value). result code w u y (readLE s b (widthOf t))) (read-at x a g)
+      ∙ ap (λ (u : Value). result code w (typed t (readLE s a (widthOf t))) u (readLE s b (widthOf t))) (read-at y b h))
+      ∙ ap (λ (n : ℕ). patternOf n (result code n (typed t (readLE s a (widthOf t))) (typed t (readLE s b (widthOf t))) (readLE s b (widthOf t)))) wide-at
+      ∙ ap (λ (n : ℕ). patternOf (widthOf n) (result code (widthOf t) (typed t (readLE s a (widthOf t))) (typed t (readLE s b (widthOf t))) (readLE s b (widthOf t)))) (sym f)
 
-  -- the same, where the command does not ask for the width
-  pub plain-done : (x y v : Value) → resultType code t ≡ t → secondWidth code t ≡ widthOf t
-      → x ≡ readValue s t a → y ≡ readValue s t b → v ≡ result code (widthOf t) x y (readLE s b (widthOf t))
-      → r ≡ splice s to (bytesLE (widthOf t) (stored t v)) → r ≡ performed code t s to a b
-  plain-done x y v f g p q e h = two-done x y v (widthOf t) f g p q refl e h
-
-  -- a comparison
-  pub compare-done : (x y : Value) (v z : Bool) → resultType code t ≡ 0 → secondWidth code t ≡ widthOf t
-      → x ≡ readValue s t a → y ≡ readValue s t b → v ≡ z → VBool z ≡ result code (widthOf t) x y (readLE s b (widthOf t))
-      → r ≡ splice s to (bytesLE (widthOf 0) (stored 0 (VBool v))) → r ≡ performed code t s to a b
-  unfolding readValue
-  compare-done x y v z f g p q i e h = done 0 (widthOf t) (VBool v) f g (ap VBool i ∙ e ∙ operands (readLE s b (widthOf t)) p q refl) h
-
-  -- one operand of the command's type, and n bytes more
-  one-done : (n : ℕ) (x v : Value) (w : ℕ) → resultType code t ≡ t → secondWidth code t ≡ n
-      → x ≡ readValue s t a → w ≡ widthOf t → v ≡ result code w x (typed t (readLE s b n)) (readLE s b n)
-      → r ≡ splice s to (bytesLE (widthOf t) (stored t v)) → r ≡ performed code t s to a b
-  one-done n x v w f g p l e h =
-      done t n v f g
-      (e
-      ∙ ap (λ (m : ℕ). result code m x (typed t (readLE s b n)) (readLE s b n)) l
-      ∙ ap (λ (u : Value). result code (widthOf t) u (typed t (readLE s b n)) (readLE s b n)) p) h
-
-  -- no second operand
-  pub alone-done : (x v : Value) (w : ℕ) → resultType code t ≡ t → secondWidth code t ≡ 0
-      → x ≡ readValue s t a → w ≡ widthOf t → v ≡ result code w x (typed t (readLE s b 0)) (readLE s b 0)
-      → r ≡ splice s to (bytesLE (widthOf t) (stored t v)) → r ≡ performed code t s to a b
-  alone-done = one-done 0
+  -- one operand of the command's type, and the pattern q
+  pub one-pattern : (q : ℕ) (x v : Value) (p : ℕ) → resultType code t ≡ t → x ≡ readValue s k a
+      → v ≡ result code w x (typed t q) q → p ≡ patternOf w v → p ≡ command code t (readLE s a (widthOf t)) q
+  unfolding command stored
+  one-pattern q x v p f g e i =
+      i ∙ ap (patternOf w) (e ∙ ap (λ (u : Value). result code w u (typed t q) q) (read-at x a g))
+      ∙ ap (λ (n : ℕ). patternOf n (result code n (typed t (readLE s a (widthOf t))) (typed t q) q)) wide-at
+      ∙ ap (λ (n : ℕ). patternOf (widthOf n) (result code (widthOf t) (typed t (readLE s a (widthOf t))) (typed t q) q)) (sym f)
 
   -- a shift, by a BYTE count
-  pub shift-done : (x v : Value) (w : ℕ) → resultType code t ≡ t → secondWidth code t ≡ 1
-      → x ≡ readValue s t a → w ≡ widthOf t → v ≡ result code w x (typed t (getD s b 0)) (getD s b 0)
-      → r ≡ splice s to (bytesLE (widthOf t) (stored t v)) → r ≡ performed code t s to a b
-  shift-done x v w f g p l e h =
-      one-done 1 x v w f g p l (e ∙ ap (λ (m : ℕ). result code w x (typed t m) m) (sym (read-byte s b))) h
+  pub shift-pattern : (x v : Value) (p : ℕ) → resultType code t ≡ t → x ≡ readValue s k a
+      → v ≡ result code w x (typed t (getD s b 0)) (getD s b 0) → p ≡ patternOf w v → p ≡ command code t (readLE s a (widthOf t)) (readLE s b 1)
+  shift-pattern x v p f g e i =
+      one-pattern (getD s b 0) x v p f g e i ∙ ap (command code t (readLE s a (widthOf t))) (sym (read-byte s b))
 
--- NOT has no second operand
-not-second : (t : ℕ) (s : List ℕ) (to a b : ℕ) → performed 27 t s to a 0 ≡ performed 27 t s to a b
-unfolding performed secondWidth pick readLE part valueLE
-not-second t s to a b = refl
+-- a comparison, whose result is a BOOL
+pub compare-pattern : (code t k : ℕ) (s : List ℕ) (a b : ℕ) (x y : Value) (v r : Bool) → t ≡ k → resultType code t ≡ 0
+    → x ≡ readValue s k a → y ≡ readValue s k b → v ≡ r → VBool r ≡ result code (widthOf t) x y (readLE s b (widthOf t))
+    → boolByte v ≡ command code t (readLE s a (widthOf t)) (readLE s b (widthOf t))
+unfolding command stored patternOf
+compare-pattern code t k s a b x y v r key f g h j e =
+    ap (patternOf (widthOf (resultType code t)))
+    (ap VBool j ∙ e ∙ ap (λ (u : Value). result code (widthOf t) u y (readLE s b (widthOf t))) (read-at code t k (widthOf k) s a b key refl x a g)
+    ∙ ap (λ (u : Value). result code (widthOf t) (typed t (readLE s a (widthOf t))) u (readLE s b (widthOf t))) (read-at code t k (widthOf k) s a b key refl y b h))
 
-not-ready : {t : ℕ} {s : List ℕ} {to a b : ℕ} → Ready 27 t s to a b → Ready 27 t s to a 0
-unfolding secondWidth pick zeroDivisor
-not-ready r =
-    record {
-      taken = r .taken;
-      result-inside = r .result-inside;
-      first-inside = r .first-inside;
-      second-inside = λ h. absurd (let z : ⊥ = omega arith in z);
-      divisor = refl;
-    }
+-- ---- the last type of a `match`: one that the command takes, and none of those before it
+
+last-even : (t : ℕ) → t ≤ 8 → t % 2 ≡ 0 → (t ≡ 0 → ⊥) → (t ≡ 2 → ⊥) → (t ≡ 4 → ⊥) → (t ≡ 6 → ⊥) → t ≡ 8
+last-even t h g a b c d = omega arith
+
+pub last-bits : (t : ℕ) → both (leb t 8) (eqb (t % 2) 0) ≡ true → (t ≡ 0 → ⊥) → (t ≡ 2 → ⊥) → (t ≡ 4 → ⊥) → (t ≡ 6 → ⊥) → t ≡ 8
+last-bits t e a b c d =
+    let i = both-true (leb t 8) (eqb (t % 2) 0) e in
+    last-even t (leb-true t 8 (i .0)) (eqb-true (t % 2) 0 (i .1)) a b c d
+
+pub last-shifted : (t : ℕ) → both (within 2 8 t) (eqb (t % 2) 0) ≡ true → (t ≡ 2 → ⊥) → (t ≡ 4 → ⊥) → (t ≡ 6 → ⊥) → t ≡ 8
+last-shifted t e b c d =
+    let i = both-true (within 2 8 t) (eqb (t % 2) 0) e in
+    let l : 2 ≤ t = inside-true 2 8 t (i .0) .0 in
+    last-even t (inside-true 2 8 t (i .0) .1) (eqb-true (t % 2) 0 (i .1)) (λ z. omega arith) b c d
+
+pub last-whole : (t : ℕ) → within 1 8 t ≡ true → (t ≡ 1 → ⊥) → (t ≡ 2 → ⊥) → (t ≡ 3 → ⊥) → (t ≡ 4 → ⊥) → (t ≡ 5 → ⊥) → (t ≡ 6 → ⊥)
+    → (t ≡ 7 → ⊥) → t ≡ 8
+last-whole t l b c d e f g h =
+    let i = inside-true 1 8 t l in
+    exactly (i .1) (past (past (past (past (past (past (past (i .0) b) c) d) e) f) g) h)
+
+pub last-float : (t : ℕ) → within 1 10 t ≡ true → (t ≡ 1 → ⊥) → (t ≡ 2 → ⊥) → (t ≡ 3 → ⊥) → (t ≡ 4 → ⊥) → (t ≡ 5 → ⊥) → (t ≡ 6 → ⊥)
+    → (t ≡ 7 → ⊥) → (t ≡ 8 → ⊥) → (t ≡ 9 → ⊥) → t ≡ 10
+last-float t l b c d e f g h m n =
+    let i = inside-true 1 10 t l in
+    exactly (i .1) (past (past (past (past (past (past (past (past (past (i .0) b) c) d) e) f) g) h) m) n)
+
+pub last-time : (t : ℕ) → within 1 11 t ≡ true → (t ≡ 1 → ⊥) → (t ≡ 2 → ⊥) → (t ≡ 3 → ⊥) → (t ≡ 4 → ⊥) → (t ≡ 5 → ⊥) → (t ≡ 6 → ⊥)
+    → (t ≡ 7 → ⊥) → (t ≡ 8 → ⊥) → (t ≡ 9 → ⊥) → (t ≡ 10 → ⊥) → t ≡ 11
+last-time t l b c d e f g h m n o =
+    let i = inside-true 1 11 t l in
+    exactly (i .1) (past (past (past (past (past (past (past (past (past (past (i .0) b) c) d) e) f) g) h) m) n) o)
+
+pub last-compared : (t : ℕ) → leb t 11 ≡ true → (t ≡ 0 → ⊥) → (t ≡ 1 → ⊥) → (t ≡ 2 → ⊥) → (t ≡ 3 → ⊥) → (t ≡ 4 → ⊥) → (t ≡ 5 → ⊥) → (t ≡ 6 → ⊥)
+    → (t ≡ 7 → ⊥) → (t ≡ 8 → ⊥) → (t ≡ 9 → ⊥) → (t ≡ 10 → ⊥) → t ≡ 11
+last-compared t l a b c d e f g h i j k = last-type t (omega (arith, leb-true t 11 l)) a b c d e f g h i j k
 
 -- ---- the code byte that a `match` found
 
-pub ready-at : {code t : ℕ} {s : List ℕ} {to a b : ℕ} (k : ℕ) → code ≡ k → Ready code t s to a b → Ready k t s to a b
-ready-at {code} {t} {s} {to} {a} {b} k e r = subst (λ (n : ℕ). Ready n t s to a b) e r
-
-pub performed-at : (code k t : ℕ) (s r : List ℕ) (to a b : ℕ) → code ≡ k → r ≡ performed k t s to a b → r ≡ performed code t s to a b
-performed-at code k t s r to a b e h = h ∙ ap (λ (n : ℕ). performed n t s to a b) (sym e)
-
--- NOT, whose second operand is nothing
-pub not-ready-at : {code t : ℕ} {s : List ℕ} {to a b : ℕ} → code ≡ 27 → Ready code t s to a b → Ready 27 t s to a 0
-not-ready-at e r = not-ready (ready-at 27 e r)
-
-pub not-performed-at : (code t : ℕ) (s r : List ℕ) (to a b : ℕ) → code ≡ 27 → r ≡ performed 27 t s to a 0 → r ≡ performed code t s to a b
-not-performed-at code t s r to a b e h = performed-at code 27 t s r to a b e (h ∙ not-second t s to a b)
-
 beyond : {n k : ℕ} → suc k ≤ n → n ≤ k → ⊥
 beyond h d = omega arith
-
-exactly : {n k : ℕ} → n ≤ k → k ≤ n → n ≡ k
-exactly h d = omega arith
 
 -- the last of them: none of those before it
 pub last-code : (code t : ℕ) → takes code t ≡ true

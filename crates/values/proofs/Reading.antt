@@ -1,11 +1,10 @@
--- A value from memory and back, by its type. Each law is over the type k that a `match` found and its width w. Assumes nothing.
+-- A value from memory, by its type. Each law is over the type k that a `match` found and its width w. Assumes nothing.
 use Prim.Native.Nat.{ℕ, _+_, _≤_, _<_}
 use mathlib.Core.Path.{_≡_, sym, _∙_, ap, subst}
 use mathlib.Core.List.{List}
-use Rattle.memory.specs.Memory.{readLE, splice, bytesLE}
+use Rattle.memory.specs.Memory.{readLE}
 use Rattle.values.specs.Types.{widthOf}
-use Rattle.values.specs.Values.{typed, patternOf, stored, readValue}
-use Rattle.values.specs.declared.Value.{Value}
+use Rattle.values.specs.Values.{typed, readValue}
 use Rattle.values.proofs.Widths.{width-le}
 use Rattle.values.proofs.Types.{width-ok}
 
@@ -19,11 +18,6 @@ module _ {t : ℕ} (k : ℕ) {w : ℕ} (e : t ≡ k) (f : widthOf k ≡ w) where
   pub read-as : (s : List ℕ) (at : ℕ) {p : ℕ} → p ≡ readLE s at w → typed k p ≡ readValue s t at
   unfolding readValue
   read-as s at g = ap (typed k) (g ∙ ap (readLE s at) width-at) ∙ ap (λ (n : ℕ). typed n (readLE s at (widthOf t))) (sym e)
-
-pub written : (s r : List ℕ) (t at : ℕ) (v : Value) (w p : ℕ) → w ≡ widthOf t → p ≡ patternOf w v → r ≡ splice s at (bytesLE w p)
-    → r ≡ splice s at (bytesLE (widthOf t) (stored t v))
-unfolding stored
-written s r t at v w p e f g = g ∙ ap (λ (q : ℕ). splice s at (bytesLE w q)) f ∙ ap (λ (n : ℕ). splice s at (bytesLE n (patternOf n v))) e
 
 pub width-small : (t : ℕ) {r : ℕ} → t < 12 → r ≡ widthOf t → r ≤ 8
 width-small t h e = subst (λ (n : ℕ). n ≤ 8) (sym e) (width-le (width-ok t h))

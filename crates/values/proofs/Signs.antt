@@ -1,18 +1,19 @@
 -- Signed 64-bit numbers: a number and its bits, by its sign. Assumes nothing.
-use Prim.Native.Nat.{ℕ, zero, suc, _-_, _*_, _/_, _^_, _≤_, _<_}
+use Prim.Native.Nat.{ℕ, zero, suc, _+_, _-_, _*_, _/_, _%_, _^_, _≤_, _<_}
 use mathlib.Core.Path.{_≡_, refl, sym, _∙_, ap, subst}
 use mathlib.Core.Bool.{Bool, true, false}
 use native.Mathlib.Omega.{arith}
 use lib.IntN.{ℤ, pos, negsuc, negℤ, natAbs, _-ℤ_}
 use lib.Signed.{mag, leZ, nonNeg, quotZ, remZ, mag-rem}
-use lib.Dec.{T, eqb, leb·zero}
-use borrow.Author.Tests.{le-ltb, eq-eqb, ne-eqb, eqb-true, eqb-false}
-use native.Mathlib.Nat.{mod-eq-of-lt, mod-one, div-le-self, lt-of-le-of-lt, le-trans, le-suc, div-lt-iff-lt-mul}
+use lib.Dec.{T, ltb, eqb, leb·zero}
+use lib.Pow.{pow-mono}
+use borrow.Author.Tests.{ltb-true, ltb-false, lt-ltb, le-ltb, eq-eqb, ne-eqb, eqb-true, eqb-false}
+use native.Mathlib.Nat.{mod-eq-of-lt, mod-eq-sub-mod, mod-one, div-le-self, lt-of-le-of-lt, le-trans, le-suc, div-lt-iff-lt-mul}
 use mir.Syntax.{w64}
 use mir.Val.{toZ, ofZ, SFits, Fits}
-use mir.Facts.{toZ-ofZ}
-use Rattle.values.specs.Width.{pattern, eqZ}
-use Rattle.values.proofs.Widths.{Cong, cong-64}
+use mir.Facts.{toZ-ofZ, toZ-pos}
+use Rattle.values.specs.Width.{pattern, signed, eqZ}
+use Rattle.values.proofs.Widths.{Cong, cong-64, two-halves, signed-low, signed-high}
 
 pub minus-one : (k : ℕ) → negsuc 0 -ℤ pos k ≡ negsuc k
 minus-one zero = refl
@@ -58,6 +59,62 @@ module _ (z : ℤ) (h : mag z < 2 ^ 63) (e : leZ (pos 0) (toZ w64 (ofZ w64 z)) �
 
   pub pattern-below : 2 ^ 64 - 1 - natAbs (toZ w64 (ofZ w64 (negsuc 0 -ℤ toZ w64 (ofZ w64 z)))) ≡ pattern 64 z
   pattern-below = ap (λ (y : ℤ). 2 ^ 64 - 1 - natAbs y) mirror-read ∙ pattern-down z below h
+
+-- ---- a pattern of fewer than eight bytes: half of the range is added, and taken off again after the sum has wrapped
+
+minus-low : (a b : ℕ) → b ≤ a → pos a -ℤ pos b ≡ pos (a - b)
+minus-low a zero h = ap pos (omega arith)
+minus-low a (suc b) h = rw (le-ltb a (suc b) h)
+
+minus-high : (a b : ℕ) → a < b → pos a -ℤ pos b ≡ negsuc (b - suc a)
+minus-high a zero h = absurd (let z : ⊥ = omega arith in z)
+minus-high a (suc b) h = rw (lt-ltb a (suc b) h)
+
+pub half-small : (w : ℕ) {half : ℕ} → w < 8 → half ≡ 2 ^ (8 * w - 1) → half ≤ 2 ^ 55
+half-small w h e = let l : 8 * w - 1 ≤ 55 = omega arith in subst (λ (n : ℕ). n ≤ 2 ^ 55) (sym e) (pow-mono l)
+
+module _ (w p half low : ℕ) (g : 0 < w) (h : w < 8) (i : p < 2 ^ (8 * w)) (e : half ≡ 2 ^ (8 * w - 1)) (f : low ≡ (p + half) % 2 ^ (8 * w)) where
+  halves : 2 ^ (8 * w) ≡ half + half
+  halves = omega (arith, two-halves w g)
+
+  -- by the sign
+  by-sign : (b : Bool) → ltb p half ≡ b → (pos low -ℤ pos half ≡ signed (8 * w) p) × (low < half + half)
+  by-sign true t =
+      let l : p < half = ltb-true p half t in
+      let k : p + half < 2 ^ (8 * w) = omega (arith, halves) in
+      let s : low ≡ p + half = f ∙ mod-eq-of-lt k in
+      (minus-low low half (omega arith) ∙ ap pos (omega arith) ∙ sym (signed-low (8 * w) p (omega arith)), omega arith)
+  by-sign false t =
+      let l : half ≤ p = ltb-false p half t in
+      let m : 2 ^ (8 * w) ≤ p + half = omega (arith, halves) in
+      let k : p + half - 2 ^ (8 * w) < 2 ^ (8 * w) = omega (arith, halves) in
+      let s : low ≡ p + half - 2 ^ (8 * w) = f ∙ mod-eq-sub-mod m ∙ mod-eq-of-lt k in
+      (minus-high low half (omega (arith, halves)) ∙ ap negsuc (omega (arith, halves)) ∙ sym (signed-high (8 * w) p (omega arith)), omega (arith, halves))
+
+  pub low-small : low < 2 ^ 56
+  low-small = omega (arith, half-small w h e, by-sign (ltb p half) refl .1)
+
+  pub back : toZ w64 low -ℤ toZ w64 half ≡ signed (8 * w) p
+  back =
+      let l : low < 2 ^ 63 = omega (arith, low-small) in
+      let k : half < 2 ^ 63 = omega (arith, half-small w h e) in
+      ap (λ (z : ℤ). z -ℤ toZ w64 half) (toZ-pos w64 l)
+      ∙ ap (λ (z : ℤ). pos low -ℤ z) (toZ-pos w64 k)
+      ∙ by-sign (ltb p half) refl .0
+
+  signed-fits : (b : Bool) → ltb p half ≡ b → mag (signed (8 * w) p) < 2 ^ 63
+  signed-fits true t =
+      let l : p < half = ltb-true p half t in
+      subst (λ (z : ℤ). mag z < 2 ^ 63) (sym (signed-low (8 * w) p (omega arith))) (omega (arith, half-small w h e))
+  signed-fits false t =
+      let l : half ≤ p = ltb-false p half t in
+      subst (λ (z : ℤ). mag z < 2 ^ 63) (sym (signed-high (8 * w) p (omega arith))) (omega (arith, half-small w h e, halves))
+
+  pub back-fits : mag (toZ w64 low -ℤ toZ w64 half) < 2 ^ 63
+  back-fits = subst (λ (z : ℤ). mag z < 2 ^ 63) (sym back) (signed-fits (ltb p half) refl)
+
+  pub back-read : toZ w64 (ofZ w64 (toZ w64 low -ℤ toZ w64 half)) ≡ signed (8 * w) p
+  back-read = read64 (toZ w64 low -ℤ toZ w64 half) back-fits ∙ back
 
 -- the bits of a signed local are its number modulo any width
 pub bits-cong : (w : ℕ) → w ≤ 8 → (z : ℤ) → mag z < 2 ^ 63 → {r : ℕ} → r ≡ pattern 64 (toZ w64 (ofZ w64 z)) → Cong (2 ^ (8 * w)) z r

@@ -1,20 +1,18 @@
 -- The typed commands of document 01 in its order, on values; then by code byte, on stored patterns, and on memory.
 -- In order: a command by what it does to each kind; arithmetic; logic; shifts; comparisons; the table by code byte; zero divisors;
--- a command on memory, and what it asks. w is the width in bytes; a kind that a command does not take is left as it is.
-use Prim.Native.Nat.{ℕ, suc, _+_, _-_, _*_, _/_, _%_, _^_, _≤_, _<_}
-use mathlib.Core.Bool.{Bool, true, false, not, _&&_, _||_, Bool·beq}
+-- operands beyond the data; a command on memory. w is the width in bytes; a kind that a command does not take is left as it is.
+use Prim.Native.Nat.{ℕ, _+_, _*_, _/_, _%_, _^_}
+use mathlib.Core.Bool.{Bool, false, not, _&&_, _||_, Bool·beq}
 use mathlib.Core.List.{List}
-use mathlib.Core.Path.{_≡_}
 use lib.IntN.{ℤ, pos, _+ℤ_, _-ℤ_, _*ℤ_}
-use lib.ListN.{length}
 use lib.Dec.{leb, ltb, eqb}
 use lib.Signed.{quotZ, remZ, ltZ, leZ}
 use lib.Bits.{bitAnd, bitOr, bitXor}
 use lib.Ieee as Ieee
 use lib.Ieee.{Float, Format, binary32, binary64}
-use Rattle.verdict.specs.Verdict.{pick, both, within}
+use Rattle.verdict.specs.Verdict.{pick, both, either, within}
 use Rattle.memory.specs.Memory.{splice, bytesLE, readLE}
-use Rattle.values.specs.Types.{widthOf, takes}
+use Rattle.values.specs.Types.{widthOf}
 use Rattle.values.specs.Width.{pattern, wrap, eqZ, flipped, shiftLeft, shiftRight, rotateLeft, rotateRight}
 use Rattle.values.specs.Values.{typed, stored, truthIn, signedIn, unsignedIn, realIn, lrealIn}
 use Rattle.values.specs.declared.Value.{Value}
@@ -178,17 +176,23 @@ byZero (Unsigned x) v = eqb (unsignedIn v) 0
 byZero (Real x) v = false
 byZero (Lreal x) v = false
 
+-- ---- operands beyond the data
+
+-- "An operand is beyond the data if its place plus its width exceeds the data size"
+unfoldable pub beyond : ℕ → ℕ → ℕ → Bool
+beyond size place width = ltb size (place + width)
+
+-- of two operands, of n bytes at p and of m bytes at q, one is
+abbrev pub anyBeyond : ℕ → ℕ → ℕ → ℕ → ℕ → Bool
+anyBeyond size p n q m = either (beyond size p n) (beyond size q m)
+
+-- of a command's operands one is
+abbrev pub typedBeyond : ℕ → ℕ → ℕ → ℕ → ℕ → ℕ → Bool
+typedBeyond code t size to a b = either (beyond size to (resultWidth code t)) (anyBeyond size a (widthOf t) b (secondWidth code t))
+
 -- ---- a command on memory
 
 -- sources are read before the destination is written
 unfoldable pub performed : ℕ → ℕ → List ℕ → ℕ → ℕ → ℕ → List ℕ
 performed code t s to a b =
     splice s to (bytesLE (resultWidth code t) (command code t (readLE s a (widthOf t)) (readLE s b (secondWidth code t))))
-
--- what it asks: a type on the command's list, each operand inside the data, and no zero divisor
-pub record Ready (code t : ℕ) (s : List ℕ) (to a b : ℕ) : Type 0 where
-  pub taken : takes code t ≡ true
-  pub result-inside : to + resultWidth code t ≤ length s
-  pub first-inside : a + widthOf t ≤ length s
-  pub second-inside : (0 < secondWidth code t → b + secondWidth code t ≤ length s)
-  pub divisor : zeroDivisor code t (readLE s b (secondWidth code t)) ≡ false

@@ -1,6 +1,6 @@
-// The typed values of document 01: the twelve types, reading and writing by type, and whole numbers at a width.
+// The typed values of document 01: the twelve types, reading by type, and whole numbers at a width.
 // In order: the types; what a value holds; floats and their patterns; whole numbers and their patterns; sums, products and quotients;
-// bits; a value from memory and back. A width w is in bytes.
+// bits; a value from memory, and the pattern of a value. A width w is in bytes.
 ghost use mathlib.Core.Path.{_≡_};
 ghost use Prim.Native.Nat.{_+_, _-_, _*_, _%_, _^_, _≤_, _<_};
 ghost use lib.IntN.{pos, negsuc, negℤ, _+ℤ_, _-ℤ_, _*ℤ_};
@@ -8,10 +8,9 @@ ghost use lib.ListN.{length};
 ghost use lib.Signed.{quotZ, remZ};
 ghost use lib.Ieee as Ieee;
 ghost use lib.Ieee.{binary32, binary64};
-ghost use Rattle.memory.specs.Memory.{splice, bytesLE};
 ghost use Rattle.values.specs.Types.{widthOf};
 ghost use Rattle.values.specs.Width.{Width, pattern, signed, wrap, flipped, shiftLeft, shiftRight, turned, rotateLeft, rotateRight};
-ghost use Rattle.values.specs.Values.{patternOf, stored, readValue, truthIn, signedIn, unsignedIn, realIn, lrealIn};
+ghost use Rattle.values.specs.Values.{patternOf, readValue, truthIn, signedIn, unsignedIn, realIn, lrealIn};
 
 // A typed operand: a truth value, a signed or unsigned whole number, a REAL or an LREAL.
 pub enum Value {
@@ -177,12 +176,15 @@ fn below_zero(k: u64) -> i64
     -1 - (k as i64)
 }
 
-// The pattern p of w bytes, read in two's complement.
+// The pattern p of w bytes, read in two's complement. Below eight bytes without a branch, so that a load extends the sign itself.
 pub fn signed_of(w: usize, p: u64) -> i64
     requires { ⌜ (0 < w) × (w ≤ 8) × (p < 2 ^ (8 * w)) ⌝ }
     ensures { λ r. ⌜ r ≡ signed (8 * w) p ⌝ }
 {
     let half = half_of(w);
+    if w < 8 {
+        return (low_bytes(w, p + half) as i64) - (half as i64);
+    }
     if p < half {
         p as i64
     } else {
@@ -376,7 +378,7 @@ pub fn read_value(d: &[u8], t: u8, at: usize) -> Value
 }
 
 // The pattern of a value in w bytes.
-fn pattern_of(w: usize, v: Value) -> u64
+pub fn pattern_of(w: usize, v: Value) -> u64
     requires { ⌜ w ≤ 8 ⌝ }
     ensures { λ r. ⌜ r ≡ patternOf w v ⌝ }
 {
@@ -387,13 +389,4 @@ fn pattern_of(w: usize, v: Value) -> u64
         Value::Real(x) => real_bits(x) as u64,
         Value::Lreal(x) => lreal_bits(x),
     }
-}
-
-// Writes a value of type t at a place.
-pub fn write_value(d: &mut [u8], t: u8, at: usize, v: Value)
-    requires { ⌜ (t < 12) × (at + widthOf t ≤ length (now d)) ⌝ }
-    ensures { λ _. ⌜ now (d .exit) ≡ splice (now (d .entry)) at (bytesLE (widthOf t) (stored t v)) ⌝ }
-{
-    let w = width_of(t);
-    memory::store(d, at, w, pattern_of(w, v));
 }

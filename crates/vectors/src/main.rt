@@ -1,6 +1,8 @@
 // Runs every vector of the files in data/ through the typed commands: the published float vectors, comparisons of special floats, and whole
 // numbers at their limits. For each file and command it prints how many vectors were compared and how many differed.
 ghost use Prim.Native.Nat.{_<_};
+use commands::Operands;
+use commands::Performed;
 use libc::STDOUT_FILENO;
 
 // What is known of a line `op type a b result` when some of it is read. A name is the number that its letters spell. Of a zero divisor the
@@ -142,11 +144,17 @@ fn run(code: u8, t: u8, a: u64, b: u64) -> Outcome {
     let mut d = [0u8; 24];
     memory::store(&mut d, 0, 8, a);
     memory::store(&mut d, 8, 8, b);
-    if commands::zero_divisor(code, t, &d, 8) {
-        return Outcome::Fault;
+    let o = Operands {
+        kind: t,
+        to: 16,
+        first: 0,
+        second: 8,
+    };
+    match commands::perform(code, &mut d, o) {
+        Performed::Done => Outcome::Stored(memory::load(&d, 16, 8)),
+        Performed::ByZero => Outcome::Fault,
+        Performed::Beyond => Outcome::Unknown,
     }
-    commands::perform(code, t, &mut d, 16, 0, 8);
-    Outcome::Stored(memory::load(&d, 16, 8))
 }
 
 // Whether the command gives what the line says.

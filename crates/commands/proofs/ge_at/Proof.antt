@@ -1,33 +1,41 @@
--- `commands::ge_at` meets its contract. What is read, computed and written is the command's effect (`compare-done`). Assumes nothing.
+-- `commands::ge_at` meets its contract. The addresses are tried; what is stored is the command's effect (`was-done`). Assumes nothing.
 use Rattle.verdict.specs.Verdict.{pick}
-use Rattle.values.specs.Commands.{result, resultType, secondWidth}
-use Rattle.values.proofs.Commands.{ready-type, result-in, second-in, compare-done}
+use Rattle.values.specs.Types.{widthOf}
+use Rattle.values.specs.Commands.{resultType, resultWidth, secondWidth, zeroDivisor}
+use Rattle.values.proofs.Commands.{one-byte}
+use Rattle.commands.proofs.Attempts.{given-taken, given-type, place-fits, first-in, second-in, result-in, was-beyond, was-done}
 use borrow.Author.Needs.{needs}
 use Rattle.commands.proofs.ge_at.Statement.{statement}
 use Rattle.commands.proofs.ge_at.Tie as tie
 
-read-value-requires : tie.Need-read-value-requires
-read-value-requires c κs = search ready-type
+width-of-requires : tie.Need-width-of-requires
+width-of-requires c κs = search given-type
 
-read-value-requires-2 : tie.Need-read-value-requires-2
-unfolding secondWidth pick
-read-value-requires-2 c κs = search (ready-type, second-in)
-
-write-value-requires : tie.Need-write-value-requires
-unfolding resultType pick
-write-value-requires c κs = search (needs, result-in)
+beyond-requires : tie.Need-beyond-requires
+beyond-requires c κs = search (needs, place-fits)
 
 returns : tie.Need-returns
-unfolding result resultType secondWidth pick
-returns c = search compare-done
+unfolding resultType resultWidth secondWidth widthOf pick
+returns c = search was-beyond
+
+ge-of-requires : tie.Need-ge-of-requires
+ge-of-requires c κs = (search given-taken, search first-in, search second-in)
+
+put-requires : tie.Need-put-requires
+put-requires c κs = search (one-byte, result-in)
+
+returns-2 : tie.Need-returns-2
+unfolding resultType resultWidth secondWidth widthOf pick zeroDivisor
+returns-2 c = search was-done
 
 pub ge-at-spec : {M : Type 1} → statement M
 ge-at-spec =
     tie.close
     (tie.spec
-    read-value-requires
-    read-value-requires-2
-    (λ c κs. search needs)
-    write-value-requires
+    width-of-requires
+    beyond-requires
+    returns
+    ge-of-requires
+    put-requires
     (λ c. search needs)
-    returns)
+    returns-2)

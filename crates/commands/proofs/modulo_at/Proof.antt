@@ -1,38 +1,53 @@
--- `commands::modulo_at` meets its contract. What is read, computed and written is the command's effect (`plain-done`). Assumes nothing.
+-- `commands::modulo_at` meets its contract. The addresses are tried, then the divisor; what is stored is the command's effect (`was-done`). Assumes nothing.
 use Rattle.verdict.specs.Verdict.{pick}
-use Rattle.values.specs.Commands.{result, resultType, secondWidth}
-use Rattle.values.proofs.Commands.{ready-type, result-in, second-in, not-by-zero, plain-done}
-use Rattle.values.specs.Types.{takes}
+use Rattle.values.specs.Types.{widthOf}
+use Rattle.values.specs.Commands.{resultType, resultWidth, secondWidth}
+use mathlib.Core.Path.{sym, _∙_}
+use Rattle.commands.proofs.Attempts.{given-taken, given-type, place-fits, first-in, second-in, given-width, result-in, was-beyond, was-done, divisor-in, not-zero, was-zero}
 use borrow.Author.Needs.{needs}
 use Rattle.commands.proofs.modulo_at.Statement.{statement}
 use Rattle.commands.proofs.modulo_at.Tie as tie
 
-read-value-requires : tie.Need-read-value-requires
-read-value-requires c κs = search ready-type
+width-of-requires : tie.Need-width-of-requires
+width-of-requires c κs = search given-type
 
-read-value-requires-2 : tie.Need-read-value-requires-2
-unfolding secondWidth pick
-read-value-requires-2 c κs = search (ready-type, second-in)
-
-modulo-requires : tie.Need-modulo-requires
-unfolding secondWidth takes pick
-modulo-requires c κs = search not-by-zero
-
-write-value-requires : tie.Need-write-value-requires
-unfolding resultType pick
-write-value-requires c κs = search (ready-type, result-in)
+beyond-requires : tie.Need-beyond-requires
+beyond-requires c κs = search (needs, place-fits)
 
 returns : tie.Need-returns
-unfolding result resultType secondWidth pick
-returns c = search plain-done
+unfolding resultType resultWidth secondWidth widthOf pick
+returns c = search was-beyond
+
+zero-divisor-requires : tie.Need-zero-divisor-requires
+unfolding secondWidth pick
+zero-divisor-requires c κs = search divisor-in
+
+returns-2 : tie.Need-returns-2
+unfolding resultType resultWidth secondWidth widthOf pick
+returns-2 c = search was-zero
+
+modulo-of-requires : tie.Need-modulo-of-requires
+unfolding secondWidth pick
+modulo-of-requires c κs = (search given-taken, search first-in, search second-in, sym (c .before .before .before .zero-divisor .ensures) ∙ c .before .before .if2 .left)
+
+put-requires : tie.Need-put-requires
+put-requires c κs = search (given-width, result-in)
+
+returns-3 : tie.Need-returns-3
+unfolding resultType resultWidth secondWidth widthOf pick
+returns-3 c = search (was-done, not-zero)
 
 pub modulo-at-spec : {M : Type 1} → statement M
 modulo-at-spec =
     tie.close
     (tie.spec
-    read-value-requires
-    read-value-requires-2
-    modulo-requires
-    write-value-requires
+    width-of-requires
+    beyond-requires
+    returns
+    zero-divisor-requires
     (λ c. search needs)
-    returns)
+    returns-2
+    modulo-of-requires
+    put-requires
+    (λ c. search needs)
+    returns-3)

@@ -1,35 +1,41 @@
--- `commands::not_at` meets its contract. What is read, computed and written is the command's effect (`alone-done`). Assumes nothing.
+-- `commands::not_at` meets its contract. The addresses are tried; what is stored is the command's effect (`was-done`). Assumes nothing.
 use Rattle.verdict.specs.Verdict.{pick}
-use Rattle.values.specs.Commands.{result, resultType, secondWidth}
-use Rattle.values.proofs.Commands.{ready-type, result-in, ready-width, alone-done}
+use Rattle.values.specs.Types.{widthOf}
+use Rattle.values.specs.Commands.{resultType, resultWidth, secondWidth, zeroDivisor}
+use Rattle.memory.specs.Memory.{readLE, part, valueLE}
+use Rattle.commands.proofs.Attempts.{given-taken, given-type, place-fits, first-in, given-width, result-in, was-beyond, was-done}
 use borrow.Author.Needs.{needs}
 use Rattle.commands.proofs.not_at.Statement.{statement}
 use Rattle.commands.proofs.not_at.Tie as tie
 
-read-value-requires : tie.Need-read-value-requires
-read-value-requires c κs = search ready-type
-
 width-of-requires : tie.Need-width-of-requires
-width-of-requires c κs = search ready-type
+width-of-requires c κs = search given-type
 
-not-requires : tie.Need-not-requires
-not-requires c κs = search ready-width
-
-write-value-requires : tie.Need-write-value-requires
-unfolding resultType pick
-write-value-requires c κs = search (ready-type, result-in)
+beyond-requires : tie.Need-beyond-requires
+beyond-requires c κs = search (needs, place-fits)
 
 returns : tie.Need-returns
-unfolding result resultType secondWidth pick
-returns c = search alone-done
+unfolding resultType resultWidth secondWidth widthOf pick
+returns c = search was-beyond
+
+not-of-requires : tie.Need-not-of-requires
+not-of-requires c κs = (search given-taken, search first-in)
+
+put-requires : tie.Need-put-requires
+put-requires c κs = search (given-width, result-in)
+
+returns-2 : tie.Need-returns-2
+unfolding resultType resultWidth secondWidth widthOf pick readLE part valueLE zeroDivisor
+returns-2 c = search was-done
 
 pub not-at-spec : {M : Type 1} → statement M
 not-at-spec =
     tie.close
     (tie.spec
-    read-value-requires
     width-of-requires
-    not-requires
-    write-value-requires
+    beyond-requires
+    returns
+    not-of-requires
+    put-requires
     (λ c. search needs)
-    returns)
+    returns-2)

@@ -1,40 +1,40 @@
--- `commands::rol_at` meets its contract. What is read, computed and written is the command's effect (`shift-done`). Assumes nothing.
+-- `commands::rol_at` meets its contract. The addresses are tried; what is stored is the command's effect (`was-done`). Assumes nothing.
 use Rattle.verdict.specs.Verdict.{pick}
-use Rattle.values.specs.Commands.{result, resultType, secondWidth}
-use Rattle.values.proofs.Commands.{ready-type, result-in, count-in, ready-width, shift-done}
+use Rattle.values.specs.Types.{widthOf}
+use Rattle.values.specs.Commands.{resultType, resultWidth, secondWidth, zeroDivisor}
+use Rattle.commands.proofs.Attempts.{given-taken, given-type, place-fits, first-in, count-in, given-width, result-in, was-beyond, was-done}
 use borrow.Author.Needs.{needs}
 use Rattle.commands.proofs.rol_at.Statement.{statement}
 use Rattle.commands.proofs.rol_at.Tie as tie
 
-read-value-requires : tie.Need-read-value-requires
-read-value-requires c κs = search ready-type
-
-slice-read-count : tie.Need-slice-read-count
-unfolding secondWidth pick
-slice-read-count c = search count-in
-
 width-of-requires : tie.Need-width-of-requires
-width-of-requires c κs = search ready-type
+width-of-requires c κs = search given-type
 
-rol-requires : tie.Need-rol-requires
-rol-requires c κs = search ready-width
-
-write-value-requires : tie.Need-write-value-requires
-unfolding resultType pick
-write-value-requires c κs = search (ready-type, result-in)
+beyond-requires : tie.Need-beyond-requires
+beyond-requires c κs = search (needs, place-fits)
 
 returns : tie.Need-returns
-unfolding result resultType secondWidth pick
-returns c = search shift-done
+unfolding resultType resultWidth secondWidth widthOf pick
+returns c = search was-beyond
+
+rol-of-requires : tie.Need-rol-of-requires
+rol-of-requires c κs = (search given-taken, search first-in, search count-in)
+
+put-requires : tie.Need-put-requires
+put-requires c κs = search (given-width, result-in)
+
+returns-2 : tie.Need-returns-2
+unfolding resultType resultWidth secondWidth widthOf pick zeroDivisor
+returns-2 c = search was-done
 
 pub rol-at-spec : {M : Type 1} → statement M
 rol-at-spec =
     tie.close
     (tie.spec
-    read-value-requires
-    slice-read-count
     width-of-requires
-    rol-requires
-    write-value-requires
+    beyond-requires
+    returns
+    rol-of-requires
+    put-requires
     (λ c. search needs)
-    returns)
+    returns-2)

@@ -4,7 +4,7 @@ use native.Mathlib.Omega.{arith}
 use borrow.Author.Needs.{needs}
 use Rattle.values.proofs.Widths.{width-le}
 use Rattle.processor.proofs.Commands.{element-beyond, element-index, element-outside, element-done}
-use Rattle.processor.proofs.Operands.{inside, both-inside, select-both}
+use Rattle.processor.proofs.Inside.{inside, both-inside, select-both}
 use Rattle.processor.proofs.access_element.Tie as tie
 use Rattle.processor.proofs.access_element.Statement.{statement}
 

@@ -3,7 +3,7 @@ use mathlib.Core.Path.{sym, _∙_}
 use native.Mathlib.Omega.{arith}
 use borrow.Author.Needs.{needs}
 use Rattle.processor.proofs.Commands.{branches}
-use Rattle.processor.proofs.Operands.{inside}
+use Rattle.processor.proofs.Inside.{inside}
 use Rattle.processor.proofs.branch.Tie as tie
 use Rattle.processor.proofs.branch.Statement.{statement}
 

@@ -2,7 +2,7 @@
 use native.Mathlib.Omega.{arith}
 use borrow.Author.Needs.{needs}
 use Rattle.values.proofs.Widths.{last-width}
-use Rattle.processor.proofs.Operands.{stored-copy}
+use Rattle.processor.proofs.Inside.{stored-copy}
 use Rattle.processor.proofs.copy_element.Tie as tie
 use Rattle.processor.proofs.copy_element.Statement.{statement}
 

@@ -3,7 +3,7 @@ use mathlib.Core.Path.{sym, _∙_}
 use native.Mathlib.Omega.{arith}
 use borrow.Author.Needs.{needs}
 use Rattle.processor.proofs.Commands.{moves}
-use Rattle.processor.proofs.Operands.{both-inside}
+use Rattle.processor.proofs.Inside.{both-inside}
 use Rattle.processor.proofs.copy_memory.Tie as tie
 use Rattle.processor.proofs.copy_memory.Statement.{statement}
 

@@ -1,23 +1,17 @@
--- What each function asks follows from accepted code (proofs/Accepted); what it ensures is what is asked.
+-- What each function asks follows from accepted code (proofs/Accepted); what it ensures is what is asked, of a typed command by `typed-done`.
 use mathlib.Core.Path.{refl, sym}
 use mathlib.Core.Logic.{inl, inr}
 use native.Mathlib.Omega.{arith}
 use borrow.Author.Needs.{needs}
 use Rattle.verdict.specs.Verdict.{pick}
 use Rattle.code.specs.Commands.{lengthOf, layoutOf}
-use Rattle.processor.proofs.Accepted.{inside-code, stands, stands-report, stands-constant, stands-branch, stands-element, stands-typed}
-use Rattle.processor.proofs.Commands.{return-at, jump-at}
+use Rattle.processor.proofs.Accepted.{inside-code, stands, stands-report, stands-constant, stands-branch, stands-element, three-inside, last-here, typed-inside, typed-given}
+use Rattle.processor.proofs.Commands.{return-at, jump-at, typed-done, typed}
 use Rattle.processor.proofs.execute.Tie as tie
 use Rattle.processor.proofs.execute.Statement.{statement}
 
-cast-p : tie.Need-cast-p
-cast-p c = search needs
-
 shared-slice-read-op : tie.Need-shared-slice-read-op
 shared-slice-read-op c = inside-code _ _ _ (c .before .before .before .before .pre)
-
-add-word : tie.Need-add-word
-add-word c = search needs
 
 word-requires : tie.Need-word-requires
 unfolding lengthOf layoutOf pick
@@ -38,28 +32,28 @@ copy-memory-requires : tie.Need-copy-memory-requires
 unfolding lengthOf layoutOf pick
 copy-memory-requires c κs = (stands _ _ _ (c .before .before .before .before .before .before .pre) 7 (c .before .match .keys6), c .before .before .before .before .before .before .pre .small)
 
-cast-store-number : tie.Need-cast-store-number
-cast-store-number c = search needs
-
 store-number-requires : tie.Need-store-number-requires
 unfolding lengthOf layoutOf pick
 store-number-requires c κs = (inl (c .before .before .match .keys7, refl, refl), stands-report _ _ _ (c .before .before .before .before .before .before .before .pre) _ 41 refl (c .before .before .match .keys7) refl)
-
-cast-store-number-2 : tie.Need-cast-store-number-2
-cast-store-number-2 c = search needs
 
 store-number-requires-2 : tie.Need-store-number-requires-2
 unfolding lengthOf layoutOf pick
 store-number-requires-2 c κs = (inr (c .before .before .match .keys8, refl, refl), stands-report _ _ _ (c .before .before .before .before .before .before .before .pre) _ 42 refl (c .before .before .match .keys8) refl)
 
 branch-requires : tie.Need-branch-requires
-branch-requires c κs = stands-branch _ _ _ (c .before .before .before .before .before .before .before .pre) _ refl (c .before .if1 .taken) (c .before .before .match .rest .0 .0 .0 .0 .0 .0 .0 .1) (c .before .before .match .rest .0 .0 .0 .0 .0 .0 .1)
+branch-requires c κs = let n = c .before .before .match .rest .0 .0 .0 .0 .0 .0 .0 .0 .0 .0 .0 .0 .0 .0 .0 .0 .0 .0 .0 .0 .0 .0 .0 .0 in stands-branch _ _ _ (c .before .before .before .before .before .before .before .pre) _ refl (c .before .if1 .taken) (n .0 .1) (n .1)
 
 access-element-requires : tie.Need-access-element-requires
-access-element-requires c κs = stands-element _ _ _ (c .before .before .before .before .before .before .before .before .pre) _ refl (c .before .before .if1 .left) (c .before .if2 .taken) (c .before .before .before .match .rest .0 .0 .0 .0 .0 .1) (c .before .before .before .match .rest .0 .0 .0 .0 .1) (c .before .before .before .match .rest .0 .0 .0 .1) (c .before .before .before .match .rest .0 .0 .1)
+access-element-requires c κs = let n = c .before .before .before .match .rest .0 .0 .0 .0 .0 .0 .0 .0 .0 .0 .0 .0 .0 .0 .0 .0 .0 .0 .0 .0 in stands-element _ _ _ (c .before .before .before .before .before .before .before .before .pre) _ refl (c .before .before .if1 .left) (c .before .if2 .taken) (n .0 .0 .0 .1) (n .0 .0 .1) (n .0 .1) (n .1)
 
-typed-requires : tie.Need-typed-requires
-typed-requires c κs = stands-typed _ _ _ (c .before .before .before .before .before .before .before .before .pre) _ refl (omega (arith, c .before .before .before .before .before .before .before .shared-slice-known .given (c .before .before .before .before .before .before .before .before .args .r .counter))) (c .before .if2 .left) (c .before .before .before .match .rest .0 .1) (c .before .before .before .match .rest .1)
+single-requires : tie.Need-single-requires
+single-requires c κs = typed-inside _ _ _ (c .before .before .before .before .before .before .before .before .pre) 27 4 (search last-here)
+
+not-at-requires : tie.Need-not-at-requires
+not-at-requires c κs = typed-given _ _ _ (c .before .before .before .before .before .before .before .before .before .pre) 27 4 _ (search last-here) (c .single .ensures)
+
+add-outcome-19 : tie.Need-add-outcome-19
+add-outcome-19 c = omega (arith, inside-code _ _ _ (c .before .before .before .before .before .before .before .before .before .before .before .before .before .pre), c .before .before .before .before .before .before .before .before .before .before .before .before .before .pre .short)
 
 returns : tie.Need-returns
 returns c = sym (return-at _ _ _ (c .match .keys1))
@@ -67,96 +61,156 @@ returns c = sym (return-at _ _ _ (c .match .keys1))
 returns-2 : tie.Need-returns-2
 returns-2 c = rw (c .word .ensures) (sym (jump-at _ _ _ (c .before .match .keys2)))
 
-same-length : tie.Need-same-length
-same-length c = search needs
-
-returns-3 : tie.Need-returns-3
-returns-3 c = search needs
-
-same-length-2 : tie.Need-same-length-2
-same-length-2 c = search needs
-
-returns-4 : tie.Need-returns-4
-returns-4 c = search needs
-
-same-length-3 : tie.Need-same-length-3
-same-length-3 c = search needs
-
-returns-5 : tie.Need-returns-5
-returns-5 c = search needs
-
-same-length-4 : tie.Need-same-length-4
-same-length-4 c = search needs
-
-returns-6 : tie.Need-returns-6
-returns-6 c = search needs
-
-same-length-5 : tie.Need-same-length-5
-same-length-5 c = search needs
-
-returns-7 : tie.Need-returns-7
-returns-7 c = search needs
-
-same-length-6 : tie.Need-same-length-6
-same-length-6 c = search needs
-
-returns-8 : tie.Need-returns-8
-returns-8 c = search needs
-
-same-length-7 : tie.Need-same-length-7
-same-length-7 c = search needs
-
-returns-9 : tie.Need-returns-9
-returns-9 c = search needs
-
-same-length-8 : tie.Need-same-length-8
-same-length-8 c = search needs
-
-returns-10 : tie.Need-returns-10
-returns-10 c = search needs
-
-same-length-9 : tie.Need-same-length-9
-same-length-9 c = search needs
-
-returns-11 : tie.Need-returns-11
-returns-11 c = search needs
+returns-29 : tie.Need-returns-29
+returns-29 c = let n = c .before .before .before .before .before .before .before .before .before .match .rest in typed-done _ _ _ 27 4 _ _ _ _ (last-here _ _ _ (c .before .before .before .before .before .before .before .before .before .before .before .before .before .before .pre) (c .before .before .before .before .before .before .before .if2 .left) (n .0 .0 .0 .0 .0 .0 .0 .0 .0 .0 .0 .0 .0 .0 .0 .0 .0 .0 .0 .1) (n .0 .0 .0 .0 .0 .0 .0 .0 .0 .0 .0 .0 .0 .0 .0 .0 .0 .0 .1) (n .0 .0 .0 .0 .0 .0 .0 .0 .0 .0 .0 .0 .0 .0 .0 .0 .0 .1) (n .0 .0 .0 .0 .0 .0 .0 .0 .0 .0 .0 .0 .0 .0 .0 .0 .1) (n .0 .0 .0 .0 .0 .0 .0 .0 .0 .0 .0 .0 .0 .0 .0 .1) (n .0 .0 .0 .0 .0 .0 .0 .0 .0 .0 .0 .0 .0 .0 .1) (n .0 .0 .0 .0 .0 .0 .0 .0 .0 .0 .0 .0 .0 .1) (n .0 .0 .0 .0 .0 .0 .0 .0 .0 .0 .0 .0 .1) (n .0 .0 .0 .0 .0 .0 .0 .0 .0 .0 .0 .1) (n .0 .0 .0 .0 .0 .0 .0 .0 .0 .0 .1) (n .0 .0 .0 .0 .0 .0 .0 .0 .0 .1) (n .0 .0 .0 .0 .0 .0 .0 .0 .1) (n .0 .0 .0 .0 .0 .0 .0 .1) (n .0 .0 .0 .0 .0 .0 .1) (n .0 .0 .0 .0 .0 .1) (n .0 .0 .0 .0 .1) (n .0 .0 .0 .1) (n .0 .0 .1) (n .0 .1) (n .1)) (c .before .before .before .before .before .single .ensures .0) (c .before .before .before .before .not-at .ensures) (c .outcome19 .ensures)
 
 pub execute-spec : {M : Type 1} → statement M
 execute-spec =
     tie.close
     (tie.spec
-    cast-p
+    (λ c. search needs)
     shared-slice-read-op
-    add-word
+    (λ c. search needs)
     word-requires
     call-instance-requires
     call-function-requires
     move-constant-requires
     copy-memory-requires
-    cast-store-number
+    (λ c. search needs)
     store-number-requires
-    cast-store-number-2
+    (λ c. search needs)
     store-number-requires-2
+    (λ c κs. three-inside _ _ _ (c .before .before .before .before .before .before .pre) _ (c .before .match .keys9) refl)
+    (λ c κs. search typed)
+    (λ c. search typed)
+    (λ c κs. search needs)
+    (λ c κs. three-inside _ _ _ (c .before .before .before .before .before .before .pre) _ (c .before .match .keys10) refl)
+    (λ c κs. search typed)
+    (λ c. search typed)
+    (λ c κs. search needs)
+    (λ c κs. three-inside _ _ _ (c .before .before .before .before .before .before .pre) _ (c .before .match .keys11) refl)
+    (λ c κs. search typed)
+    (λ c. search typed)
+    (λ c κs. search needs)
+    (λ c κs. three-inside _ _ _ (c .before .before .before .before .before .before .pre) _ (c .before .match .keys12) refl)
+    (λ c κs. search typed)
+    (λ c. search typed)
+    (λ c κs. search needs)
+    (λ c κs. three-inside _ _ _ (c .before .before .before .before .before .before .pre) _ (c .before .match .keys13) refl)
+    (λ c κs. search typed)
+    (λ c. search typed)
+    (λ c κs. search needs)
+    (λ c κs. three-inside _ _ _ (c .before .before .before .before .before .before .pre) _ (c .before .match .keys14) refl)
+    (λ c κs. search typed)
+    (λ c. search typed)
+    (λ c κs. search needs)
+    (λ c κs. three-inside _ _ _ (c .before .before .before .before .before .before .pre) _ (c .before .match .keys15) refl)
+    (λ c κs. search typed)
+    (λ c. search typed)
+    (λ c κs. search needs)
+    (λ c κs. three-inside _ _ _ (c .before .before .before .before .before .before .pre) _ (c .before .match .keys16) refl)
+    (λ c κs. search typed)
+    (λ c. search typed)
+    (λ c κs. search needs)
+    (λ c κs. three-inside _ _ _ (c .before .before .before .before .before .before .pre) _ (c .before .match .keys17) refl)
+    (λ c κs. search typed)
+    (λ c. search typed)
+    (λ c κs. search needs)
+    (λ c κs. three-inside _ _ _ (c .before .before .before .before .before .before .pre) _ (c .before .match .keys18) refl)
+    (λ c κs. search typed)
+    (λ c. search typed)
+    (λ c κs. search needs)
+    (λ c κs. three-inside _ _ _ (c .before .before .before .before .before .before .pre) _ (c .before .match .keys19) refl)
+    (λ c κs. search typed)
+    (λ c. search typed)
+    (λ c κs. search needs)
+    (λ c κs. three-inside _ _ _ (c .before .before .before .before .before .before .pre) _ (c .before .match .keys20) refl)
+    (λ c κs. search typed)
+    (λ c. search typed)
+    (λ c κs. search needs)
+    (λ c κs. three-inside _ _ _ (c .before .before .before .before .before .before .pre) _ (c .before .match .keys21) refl)
+    (λ c κs. search typed)
+    (λ c. search typed)
+    (λ c κs. search needs)
+    (λ c κs. three-inside _ _ _ (c .before .before .before .before .before .before .pre) _ (c .before .match .keys22) refl)
+    (λ c κs. search typed)
+    (λ c. search typed)
+    (λ c κs. search needs)
+    (λ c κs. three-inside _ _ _ (c .before .before .before .before .before .before .pre) _ (c .before .match .keys23) refl)
+    (λ c κs. search typed)
+    (λ c. search typed)
+    (λ c κs. search needs)
+    (λ c κs. three-inside _ _ _ (c .before .before .before .before .before .before .pre) _ (c .before .match .keys24) refl)
+    (λ c κs. search typed)
+    (λ c. search typed)
+    (λ c κs. search needs)
+    (λ c κs. three-inside _ _ _ (c .before .before .before .before .before .before .pre) _ (c .before .match .keys25) refl)
+    (λ c κs. search typed)
+    (λ c. search typed)
+    (λ c κs. search needs)
+    (λ c κs. three-inside _ _ _ (c .before .before .before .before .before .before .pre) _ (c .before .match .keys26) refl)
+    (λ c κs. search typed)
+    (λ c. search typed)
+    (λ c κs. search needs)
     branch-requires
     access-element-requires
-    typed-requires
+    single-requires
+    not-at-requires
+    add-outcome-19
+    (λ c κs. search needs)
     returns
     returns-2
-    same-length
-    returns-3
-    same-length-2
-    returns-4
-    same-length-3
-    returns-5
-    same-length-4
-    returns-6
-    same-length-5
-    returns-7
-    same-length-6
-    returns-8
-    same-length-7
-    returns-9
-    same-length-8
-    returns-10
-    same-length-9
-    returns-11)
+    (λ c. search needs)
+    (λ c. search needs)
+    (λ c. search needs)
+    (λ c. search needs)
+    (λ c. search needs)
+    (λ c. search needs)
+    (λ c. search needs)
+    (λ c. search needs)
+    (λ c. search needs)
+    (λ c. search needs)
+    (λ c. search needs)
+    (λ c. search needs)
+    (λ c. search needs)
+    (λ c. search typed)
+    (λ c. search needs)
+    (λ c. search typed)
+    (λ c. search needs)
+    (λ c. search typed)
+    (λ c. search needs)
+    (λ c. search typed)
+    (λ c. search needs)
+    (λ c. search typed)
+    (λ c. search needs)
+    (λ c. search typed)
+    (λ c. search needs)
+    (λ c. search typed)
+    (λ c. search needs)
+    (λ c. search typed)
+    (λ c. search needs)
+    (λ c. search typed)
+    (λ c. search needs)
+    (λ c. search typed)
+    (λ c. search needs)
+    (λ c. search typed)
+    (λ c. search needs)
+    (λ c. search typed)
+    (λ c. search needs)
+    (λ c. search typed)
+    (λ c. search needs)
+    (λ c. search typed)
+    (λ c. search needs)
+    (λ c. search typed)
+    (λ c. search needs)
+    (λ c. search typed)
+    (λ c. search needs)
+    (λ c. search typed)
+    (λ c. search needs)
+    (λ c. search typed)
+    (λ c. search needs)
+    (λ c. search needs)
+    (λ c. search needs)
+    (λ c. search needs)
+    (λ c. search needs)
+    returns-29)

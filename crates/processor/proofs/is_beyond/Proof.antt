@@ -1,6 +1,6 @@
 -- The test is the definition; the bounds keep the sum from wrapping.
 use borrow.Author.Needs.{needs}
-use Rattle.processor.specs.Processor.{beyond}
+use Rattle.values.specs.Commands.{beyond}
 use Rattle.processor.proofs.is_beyond.Tie as tie
 use Rattle.processor.proofs.is_beyond.Statement.{statement}
 

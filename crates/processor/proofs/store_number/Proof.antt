@@ -3,7 +3,7 @@ use mathlib.Core.Path.{sym, _∙_}
 use mathlib.Core.Logic.{⊎-elim}
 use native.Mathlib.Omega.{arith}
 use borrow.Author.Needs.{needs}
-use Rattle.processor.proofs.Operands.{inside}
+use Rattle.processor.proofs.Inside.{inside}
 use Rattle.processor.proofs.Commands.{report-beyond, report-done}
 use Rattle.processor.proofs.store_number.Tie as tie
 use Rattle.processor.proofs.store_number.Statement.{statement}

@@ -1,5 +1,6 @@
--- `values::signed_of` meets its contract. Patterns below half stand for themselves, the others for a number below zero. Assumes nothing.
-use Rattle.values.proofs.Signs.{read64}
+-- `values::signed_of` meets its contract. Below eight bytes half of the range is added and taken off again (`back`). At eight, patterns below half
+-- stand for themselves, the others for a number below zero. Assumes nothing.
+use Rattle.values.proofs.Signs.{read64, half-small, low-small, back-fits, back-read}
 use lib.Pow.{pow-pos}
 use native.Mathlib.Omega.{arith}
 use mathlib.Core.Path.{sym, ap, _∙_}
@@ -12,32 +13,53 @@ use borrow.Author.Needs.{needs}
 use Rattle.values.proofs.signed_of.Statement.{statement}
 use Rattle.values.proofs.signed_of.Tie as tie
 
+add-low-bytes : tie.Need-add-low-bytes
+add-low-bytes c = record { fits = omega (arith, half-small (c .before .before .args .w) (omega arith) (c .before .half-of .ensures), W.two-halves (c .before .before .args .w) (c .before .before .pre .0)) }
+
 cast-result : tie.Need-cast-result
-cast-result c = record { sfits = omega (arith, c .before .half-of .ensures, W.half-le (c .before .before .args .w) (c .before .before .pre .1)) }
+cast-result c = record { sfits = omega (arith, low-small _ _ _ _ (c .before .before .before .pre .0) (omega arith) (c .before .before .before .pre .2) (c .before .before .half-of .ensures) (c .low-bytes .ensures)) }
 
-sub-below-zero : tie.Need-sub-below-zero
-sub-below-zero c = omega (arith, c .before .half-of .ensures, pow-pos (8 * c .before .before .args .w - 1))
+cast-result-2 : tie.Need-cast-result-2
+cast-result-2 c = record { sfits = omega (arith, half-small (c .before .before .before .args .w) (omega arith) (c .before .before .half-of .ensures)) }
 
-sub-below-zero-2 : tie.Need-sub-below-zero-2
-sub-below-zero-2 c = omega (arith, c .before .half-of .ensures, W.two-halves (c .before .before .args .w) (c .before .before .pre .0))
-
-below-zero-requires : tie.Need-below-zero-requires
-below-zero-requires c κs = omega (arith, c .before .half-of .ensures, W.half-le (c .before .before .args .w) (c .before .before .pre .1), pow-pos (8 * c .before .before .args .w - 1))
+sub-result : tie.Need-sub-result
+sub-result c = record { sfits = back-fits _ _ _ _ (c .before .before .before .pre .0) (omega arith) (c .before .before .before .pre .2) (c .before .before .half-of .ensures) (c .low-bytes .ensures) }
 
 returns : tie.Need-returns
-returns c = toZ-pos w64 (omega (arith, c .before .half-of .ensures, W.half-le (c .before .before .args .w) (c .before .before .pre .1))) ∙ sym (W.signed-low (8 * c .before .before .args .w) (c .before .before .args .p) (omega (arith, c .before .half-of .ensures)))
+returns c = back-read _ _ _ _ (c .before .before .before .pre .0) (omega arith) (c .before .before .before .pre .2) (c .before .before .half-of .ensures) (c .low-bytes .ensures)
+
+cast-result-3 : tie.Need-cast-result-3
+cast-result-3 c = record { sfits = omega (arith, c .before .before .half-of .ensures, W.half-le (c .before .before .before .args .w) (c .before .before .before .pre .1)) }
+
+sub-below-zero : tie.Need-sub-below-zero
+sub-below-zero c = omega (arith, c .before .before .half-of .ensures, pow-pos (8 * c .before .before .before .args .w - 1))
+
+sub-below-zero-2 : tie.Need-sub-below-zero-2
+sub-below-zero-2 c = omega (arith, c .before .before .half-of .ensures, W.two-halves (c .before .before .before .args .w) (c .before .before .before .pre .0))
+
+below-zero-requires : tie.Need-below-zero-requires
+below-zero-requires c κs = omega (arith, c .before .before .half-of .ensures, W.half-le (c .before .before .before .args .w) (c .before .before .before .pre .1), pow-pos (8 * c .before .before .before .args .w - 1))
 
 returns-2 : tie.Need-returns-2
-returns-2 c = read64 (c .below-zero .result) (c .below-zero .ok) ∙ c .below-zero .ensures ∙ ap negsuc (omega (arith, c .before .before .half-of .ensures, W.two-halves (c .before .before .before .args .w) (c .before .before .before .pre .0))) ∙ sym (W.signed-high (8 * c .before .before .before .args .w) (c .before .before .before .args .p) (omega (arith, c .before .before .half-of .ensures)))
+returns-2 c = toZ-pos w64 (omega (arith, c .before .before .half-of .ensures, W.half-le (c .before .before .before .args .w) (c .before .before .before .pre .1))) ∙ sym (W.signed-low (8 * c .before .before .before .args .w) (c .before .before .before .args .p) (omega (arith, c .before .before .half-of .ensures)))
+
+returns-3 : tie.Need-returns-3
+returns-3 c = read64 (c .below-zero .result) (c .below-zero .ok) ∙ c .below-zero .ensures ∙ ap negsuc (omega (arith, c .before .before .before .half-of .ensures, W.two-halves (c .before .before .before .before .args .w) (c .before .before .before .before .pre .0))) ∙ sym (W.signed-high (8 * c .before .before .before .before .args .w) (c .before .before .before .before .args .p) (omega (arith, c .before .before .before .half-of .ensures)))
 
 pub signed-of-spec : {M : Type 1} → statement M
 signed-of-spec =
     tie.close
     (tie.spec
     (λ c κs. search needs)
+    add-low-bytes
+    (λ c κs. search needs)
     cast-result
+    cast-result-2
+    sub-result
+    returns
+    cast-result-3
     sub-below-zero
     sub-below-zero-2
     below-zero-requires
-    returns
-    returns-2)
+    returns-2
+    returns-3)

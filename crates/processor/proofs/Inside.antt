@@ -14,9 +14,7 @@ use Rattle.verdict.proofs.Verdict.{absurd-bool, by-pick}
 use Rattle.memory.specs.Memory.{splice, part, bytesLE, readLE}
 use Rattle.memory.proofs.Laws.{length-part}
 use Rattle.memory.proofs.Number.{bytes-value}
-use Rattle.values.specs.Types.{widthOf}
-use Rattle.values.specs.Commands.{resultWidth, secondWidth}
-use Rattle.processor.specs.Processor.{beyond, anyBeyond, typedBeyond}
+use Rattle.values.specs.Commands.{beyond, anyBeyond}
 
 -- ---- operands inside the data
 
@@ -33,13 +31,6 @@ pub both-inside : (size p n q m : ℕ) → anyBeyond size p n q m ≡ false → 
 both-inside size p n q m e =
     let a = either-false (beyond size p n) (beyond size q m) e in
     (inside size p n (a .0), inside size q m (a .1))
-
-pub typed-inside : (op t size to a b : ℕ) → typedBeyond op t size to a b ≡ false
-    → (to + resultWidth op t ≤ size) × (a + widthOf t ≤ size) × (b + secondWidth op t ≤ size)
-typed-inside op t size to a b e =
-    let x = either-false (beyond size to (resultWidth op t)) _ e in
-    let y = both-inside size a (widthOf t) b (secondWidth op t) (x .1) in
-    (inside size to (resultWidth op t) (x .0), y .0, y .1)
 
 -- a selected stretch lies inside if both do
 pub select-both : (test : Bool) (a b p n size : ℕ) → p ≡ pick test a b → a + n ≤ size → b + n ≤ size → p + n ≤ size

@@ -1,0 +1,124 @@
+-- Laws of a command's answer, over its code byte and operands. In order: what is given; what the test of the addresses gives; a store by its width; the ways that a command ends;
+-- the code byte that a `match` found. Assumes nothing.
+use Prim.Native.Nat.{ℕ, _+_, _^_, _≤_, _<_}
+use mathlib.Core.Bool.{Bool, true, false}
+use mathlib.Core.List.{List}
+use mathlib.Core.Path.{_≡_, refl, sym, _∙_, ap, subst}
+use native.Mathlib.Omega.{arith}
+use lib.ListN.{length, replicate}
+use borrow.Author.Tests.{ltb-false}
+use Rattle.verdict.specs.Verdict.{either}
+use Rattle.verdict.proofs.Verdict.{absurd-bool, pick-true, pick-false}
+use Rattle.memory.specs.Memory.{splice, part, bytesLE, readLE}
+use Rattle.values.specs.Types.{widthOf, takes}
+use Rattle.values.specs.Width.{Width}
+use Rattle.values.specs.Commands.{resultWidth, secondWidth, command, zeroDivisor, beyond, anyBeyond, performed}
+use Rattle.values.proofs.Types.{width-ok}
+use Rattle.values.proofs.Commands.{taken-type, width-room}
+use Rattle.commands.specs.Attempts.{attempt, attempted, Given}
+use Rattle.commands.specs.declared.Operands.{Operands}
+use Rattle.commands.specs.declared.Performed.{Performed}
+use Rattle.commands.specs.declared.Performed.the-variants.{Done, Beyond, ByZero}
+
+-- ---- what is given
+
+module _ {code : ℕ} {o : Operands} (g : Given code o) where
+  pub given-taken : takes code (o .kind) ≡ true
+  given-taken = g .taken
+
+  pub given-type : o .kind < 12
+  given-type = taken-type code (o .kind) (g .taken)
+
+  pub given-width : {w : ℕ} → w ≡ widthOf (o .kind) → Width w
+  given-width e = subst Width (sym e) (width-ok (o .kind) given-type)
+
+-- a place of an address with the bytes of a type fits a machine word
+pub place-fits : (p w t : ℕ) → p < 98304 → w ≡ widthOf t → p + w < 2 ^ 64
+place-fits p w t h e = let l : widthOf t ≤ 8 = width-room t in omega arith
+
+-- ---- what the test of the addresses gives
+
+either-false : (a b : Bool) → either a b ≡ false → (a ≡ false) × (b ≡ false)
+either-false true b e = absurd-bool (sym e)
+either-false false b e = (refl, e)
+
+in-data : (size p n : ℕ) → beyond size p n ≡ false → p + n ≤ size
+unfolding beyond
+in-data size p n e = ltb-false size (p + n) e
+
+module _ (size to n a m b k : ℕ) (r : Bool) (e : r ≡ either (beyond size to n) (anyBeyond size a m b k)) (f : r ≡ false) where
+  all-in : (to + n ≤ size) × (a + m ≤ size) × (b + k ≤ size)
+  all-in =
+      let x = either-false (beyond size to n) (anyBeyond size a m b k) (sym e ∙ f) in
+      let y = either-false (beyond size a m) (beyond size b k) (x .1) in
+      (in-data size to n (x .0), in-data size a m (y .0), in-data size b k (y .1))
+
+  pub result-in : to + n ≤ size
+  result-in = all-in .0
+
+  pub first-in : (t : ℕ) → m ≡ widthOf t → a + widthOf t ≤ size
+  first-in t l = subst (λ (x : ℕ). a + x ≤ size) l (all-in .1)
+
+  pub second-in : (t : ℕ) → k ≡ widthOf t → b + widthOf t ≤ size
+  second-in t l = subst (λ (x : ℕ). b + x ≤ size) l (all-in .2)
+
+  -- the same, as the test of the divisor asks it
+  pub divisor-in : (t : ℕ) → k ≡ widthOf t → (0 < widthOf t → b + widthOf t ≤ size)
+  divisor-in t l h = second-in t l
+
+  -- the count of a shift
+  pub count-in : k ≡ 1 → b < size
+  count-in l = omega (arith, all-in .2)
+
+pub not-zero : (code t q : ℕ) (z : Bool) → z ≡ zeroDivisor code t q → z ≡ false → zeroDivisor code t q ≡ false
+not-zero code t q z e f = sym e ∙ f
+
+-- ---- a store by the width w that a `match` found to be k
+
+pub store-in : (w k to size : ℕ) → w ≡ k → to + w ≤ size → to + k ≤ size
+store-in w k to size e h = subst (λ (n : ℕ). to + n ≤ size) e h
+
+-- the first bytes of eight are those of the pattern at that width
+pub first-bytes : (p : ℕ) (z : List ℕ) → z ≡ splice (replicate 8 0) 0 (bytesLE 8 p)
+    → (part z 0 1 ≡ bytesLE 1 p) × (part z 0 2 ≡ bytesLE 2 p) × (part z 0 4 ≡ bytesLE 4 p) × (part z 0 8 ≡ bytesLE 8 p)
+unfolding part splice bytesLE
+first-bytes p z e = (ap (λ (u : List ℕ). part u 0 1) e, ap (λ (u : List ℕ). part u 0 2) e, ap (λ (u : List ℕ). part u 0 4) e, ap (λ (u : List ℕ). part u 0 8) e)
+
+pub copied-at : (w k to p : ℕ) (s r z : List ℕ) → w ≡ k → part z 0 k ≡ bytesLE k p → r ≡ splice s to (part z 0 k) → r ≡ splice s to (bytesLE w p)
+copied-at w k to p s r z e f h = h ∙ ap (splice s to) f ∙ ap (λ (n : ℕ). splice s to (bytesLE n p)) (sym e)
+
+-- ---- the ways that a command ends
+
+module _ (code : ℕ) (o : Operands) (s : List ℕ) (n m k : ℕ) (r : Bool) (e : r ≡ either (beyond (length s) (o .to) n) (anyBeyond (length s) (o .first) m (o .second) k))
+    (wide : n ≡ resultWidth code (o .kind)) (first : m ≡ widthOf (o .kind)) (second : k ≡ secondWidth code (o .kind)) where
+  tested : r ≡ either (beyond (length s) (o .to) (resultWidth code (o .kind))) (anyBeyond (length s) (o .first) (widthOf (o .kind)) (o .second) (secondWidth code (o .kind)))
+  tested =
+      e ∙ ap (λ (x : ℕ). either (beyond (length s) (o .to) x) (anyBeyond (length s) (o .first) m (o .second) k)) wide
+      ∙ ap (λ (x : ℕ). either (beyond (length s) (o .to) (resultWidth code (o .kind))) (anyBeyond (length s) (o .first) x (o .second) k)) first
+      ∙ ap (λ (x : ℕ). either (beyond (length s) (o .to) (resultWidth code (o .kind))) (anyBeyond (length s) (o .first) (widthOf (o .kind)) (o .second) x)) second
+
+  pub was-beyond : r ≡ true → attempt Beyond s ≡ attempted code o s
+  unfolding attempted
+  was-beyond t = sym (pick-true _ _ _ (sym tested ∙ t))
+
+  module _ (f : r ≡ false) where
+    pub was-zero : (z : Bool) → z ≡ zeroDivisor code (o .kind) (readLE s (o .second) (secondWidth code (o .kind))) → z ≡ true → attempt ByZero s ≡ attempted code o s
+    unfolding attempted
+    was-zero z g t = sym (pick-false _ _ _ (sym tested ∙ f) ∙ pick-true _ _ _ (sym g ∙ t))
+
+    pub was-done : (p : Performed) (t : List ℕ) (q : ℕ) → zeroDivisor code (o .kind) (readLE s (o .second) (secondWidth code (o .kind))) ≡ false
+        → q ≡ command code (o .kind) (readLE s (o .first) (widthOf (o .kind))) (readLE s (o .second) (secondWidth code (o .kind)))
+        → attempt p t ≡ attempt Done (splice s (o .to) (bytesLE n q)) → attempt p t ≡ attempted code o s
+    unfolding attempted performed
+    was-done p t q z i h =
+        h ∙ ap (λ (x : ℕ). attempt Done (splice s (o .to) (bytesLE n x))) i
+        ∙ ap (λ (x : ℕ). attempt Done (splice s (o .to) (bytesLE x (command code (o .kind) (readLE s (o .first) (widthOf (o .kind))) (readLE s (o .second) (secondWidth code (o .kind))))))) wide
+        ∙ sym (pick-false _ _ _ (sym tested ∙ f) ∙ pick-false _ _ _ z)
+
+-- ---- the code byte that a `match` found
+
+pub given-at : {code : ℕ} {o : Operands} (k : ℕ) → code ≡ k → Given code o → Given k o
+given-at {code} {o} k e g = subst (λ (n : ℕ). Given n o) e g
+
+pub attempted-at : (code k : ℕ) (o : Operands) (s t : List ℕ) (p : Performed) → code ≡ k → attempt p t ≡ attempted k o s → attempt p t ≡ attempted code o s
+attempted-at code k o s t p e h = h ∙ ap (λ (n : ℕ). attempted n o s) (sym e)

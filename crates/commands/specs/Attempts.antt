@@ -1,0 +1,37 @@
+-- What a typed command of an instruction answers, and the data after it: the addresses are tried first, then the divisor.
+use Prim.Native.Nat.{ℕ, _<_}
+use mathlib.Core.Bool.{true}
+use mathlib.Core.List.{List}
+use mathlib.Core.Path.{_≡_}
+use lib.ListN.{length}
+use Rattle.verdict.specs.Verdict.{pick}
+use Rattle.memory.specs.Memory.{readLE}
+use Rattle.values.specs.Types.{takes}
+use Rattle.values.specs.Commands.{secondWidth, zeroDivisor, typedBeyond, performed}
+use Rattle.commands.specs.declared.Operands.{Operands}
+use Rattle.commands.specs.declared.Performed.{Performed}
+use Rattle.commands.specs.declared.Performed.the-variants.{Done, Beyond, ByZero}
+
+-- ---- an answer with the data afterwards
+
+pub record Attempt : Type 0 where
+  pub answer : Performed
+  pub memory : List ℕ
+
+abbrev pub attempt : Performed → List ℕ → Attempt
+attempt p m = record { answer = p; memory = m }
+
+-- the command with this code byte on the data s
+unfoldable pub attempted : ℕ → Operands → List ℕ → Attempt
+attempted code o s =
+    pick (typedBeyond code (o .kind) (length s) (o .to) (o .first) (o .second)) (attempt Beyond s)
+    (pick (zeroDivisor code (o .kind) (readLE s (o .second) (secondWidth code (o .kind)))) (attempt ByZero s)
+    (attempt Done (performed code (o .kind) s (o .to) (o .first) (o .second))))
+
+-- ---- what it asks: a type on the command's list; places of addresses are below 98,304
+
+pub record Given (code : ℕ) (o : Operands) : Type 0 where
+  pub taken : takes code (o .kind) ≡ true
+  pub to-low : o .to < 98304
+  pub first-low : o .first < 98304
+  pub second-low : o .second < 98304
