@@ -1,5 +1,5 @@
 -- Laws of one command and one instruction. In order: what a computed test of all code bytes shows; the instruction by its code byte;
--- an accepted instruction. Assumes nothing.
+-- an accepted instruction; its length. Assumes nothing.
 use mathlib.Core.Path.{_≡_, refl, sym, ap, _∙_, subst}
 use mathlib.Core.Bool.{Bool, true, false}
 use mathlib.Core.List.{List}
@@ -15,7 +15,7 @@ use Rattle.values.specs.Types.{takes}
 use Rattle.code.specs.Commands.{three, layoutOf, lengthOf, Lengths}
 use Rattle.code.specs.Instructions.{typedAt, instructionAt, instructionLength}
 use Rattle.code.specs.Flow.{kind, goesOn, goesTo, kindOf}
-use Rattle.code.specs.Code.{operandsOk, instructionOk, instructionRefusal}
+use Rattle.code.specs.Code.{operandsOk, instructionOk, instructionRefusal, acceptedLength, Sized}
 use Rattle.code.specs.declared.Instruction.{Instruction}
 use Rattle.code.specs.declared.Instruction.the-variants.{Unknown}
 
@@ -173,24 +173,92 @@ pub accepted : (c : List ℕ) (p : ℕ) → instructionRefusal c p ≡ 0 → ins
 unfolding instructionRefusal
 accepted c p z = unless-zero _ 5 z
 
-pub refused-not : (c : List ℕ) (p : ℕ) → 0 < lengthOf (byte c p) → p + instructionLength c p ≤ length c → operandsOk (instructionAt c p) ≡ true
-    → 0 ≡ instructionRefusal c p
-unfolding instructionRefusal instructionOk
-refused-not c p h i e = sym (yes _ 6 (rw (lt-ltb _ _ h, le-leb _ _ i) e))
+-- ---- the length of an accepted instruction
 
-refused : (c : List ℕ) (p : ℕ) → (Whole c p → ⊥) → 6 ≡ instructionRefusal c p
-unfolding instructionRefusal
-refused c p h = go (instructionOk c p) refl
+length-accepted : (c : List ℕ) (p : ℕ) → 0 < lengthOf (byte c p) → p + instructionLength c p ≤ length c → operandsOk (instructionAt c p) ≡ true
+    → instructionLength c p ≡ acceptedLength c p
+unfolding acceptedLength instructionOk pick
+length-accepted c p h i e = rw (lt-ltb _ _ h, le-leb _ _ i, e)
+
+length-none : (c : List ℕ) (p : ℕ) → (Whole c p → ⊥) → 0 ≡ acceptedLength c p
+unfolding acceptedLength pick
+length-none c p h = go (instructionOk c p) refl
+  where
+    go : (b : Bool) → instructionOk c p ≡ b → 0 ≡ acceptedLength c p
+    go true e = absurd (h (whole c p e))
+    go false e = rw e
+
+pub length-whole : (c : List ℕ) (p n : ℕ) → Sized c p n → 0 < n → p + n ≤ length c → operandsOk (instructionAt c p) ≡ true → n ≡ acceptedLength c p
+length-whole c p n s h i e =
+    let o = s .own e in
+    let a = s .all e in
+    sym a ∙ length-accepted c p (omega arith) (omega arith) e
+
+pub length-cut : (c : List ℕ) (p n : ℕ) → Sized c p n → length c < p + n → 0 ≡ acceptedLength c p
+length-cut c p n s h = length-none c p (λ w. let i = w .inside in let e = s .all (w .listed) in let y : ⊥ = omega arith in y)
+
+pub length-unlisted : (c : List ℕ) (p : ℕ) → operandsOk (instructionAt c p) ≡ false → 0 ≡ acceptedLength c p
+length-unlisted c p e = length-none c p (λ w. absurd-bool (sym e ∙ w .listed))
+
+-- MCD: its n bytes follow its own
+module _ (c : List ℕ) (p : ℕ) (mcd : byte c p ≡ 6) where
+  own-four : lengthOf (byte c p) ≡ 4
+  unfolding lengthOf layoutOf pick
+  own-four = rw mcd
+
+  all-constant : instructionLength c p ≡ 4 + byte c (p + 3)
+  unfolding instructionLength lengthOf layoutOf pick
+  all-constant = rw mcd
+
+  listed-constant : operandsOk (instructionAt c p) ≡ within 1 8 (byte c (p + 3))
+  unfolding instructionAt pick
+  listed-constant = rw mcd
+
+  pub constant-short : length c < p + 4 → 0 ≡ acceptedLength c p
+  constant-short h = length-none c p (λ w. let i = w .fixed in let e = own-four in let y : ⊥ = omega arith in y)
+
+  pub constant-cut : length c < p + (4 + byte c (p + 3)) → 0 ≡ acceptedLength c p
+  constant-cut h = length-none c p (λ w. let i = w .inside in let e = all-constant in let y : ⊥ = omega arith in y)
+
+  pub constant-unlisted : within 1 8 (byte c (p + 3)) ≡ false → 0 ≡ acceptedLength c p
+  constant-unlisted e = length-unlisted c p (listed-constant ∙ e)
+
+  pub constant-whole : p + (4 + byte c (p + 3)) ≤ length c → within 1 8 (byte c (p + 3)) ≡ true → 4 + byte c (p + 3) ≡ acceptedLength c p
+  constant-whole h e =
+      let o = own-four in
+      let a = all-constant in
+      sym a ∙ length-accepted c p (omega arith) (omega arith) (listed-constant ∙ e)
+
+-- what is none of the other commands has eight bytes if it takes its type
+pub typed-sized : (c : List ℕ) (p : ℕ) → byte c p < 256 → (byte c p ≡ 6 → ⊥) → (byte c p ≡ 27 → ⊥)
+    → operandsOk (instructionAt c p) ≡ takes (byte c p) (byte c (p + 1)) → Sized c p 8
+unfolding instructionLength pick
+typed-sized c p h n6 n27 o =
+    record { own = eight; all = λ e. rw (ne-eqb (byte c p) 6 n6) (omega (arith, eight e)) }
+  where
+    go : operandsOk (instructionAt c p) ≡ true → (b : Bool) → three (byte c p) ≡ b → lengthOf (byte c p) ≡ 8
+    go e true q = three-length (byte c p) h q
+    go e false q = absurd-bool (sym (takes-not (byte c p) (byte c (p + 1)) h q (ne-eqb (byte c p) 27 n27)) ∙ sym o ∙ e)
+
+    eight : operandsOk (instructionAt c p) ≡ true → lengthOf (byte c p) ≡ 8
+    eight e = go e (three (byte c p)) refl
+
+-- a length is an acceptance, no length a refusal
+pub length-taken : (c : List ℕ) (p n : ℕ) → n ≡ acceptedLength c p → (n ≡ 0 → ⊥) → (instructionRefusal c p ≡ 0) × (n ≡ instructionLength c p)
+unfolding acceptedLength instructionRefusal pick
+length-taken c p n q nz = go (instructionOk c p) refl
+  where
+    go : (b : Bool) → instructionOk c p ≡ b → (instructionRefusal c p ≡ 0) × (n ≡ instructionLength c p)
+    go true e = (yes _ 6 e, q ∙ rw e)
+    go false e = absurd (nz (q ∙ rw e))
+
+pub length-refused : (c : List ℕ) (p n : ℕ) → n ≡ acceptedLength c p → n ≡ 0 → 6 ≡ instructionRefusal c p
+unfolding acceptedLength instructionRefusal pick
+length-refused c p n q z = go (instructionOk c p) refl
   where
     go : (b : Bool) → instructionOk c p ≡ b → 6 ≡ instructionRefusal c p
-    go true e = absurd (h (whole c p e))
+    go true e =
+        let w = whole c p e in
+        let i : n ≡ instructionLength c p = q ∙ rw e in
+        absurd (let y : ⊥ = omega (arith, w .long) in y)
     go false e = sym (no _ 6 e)
-
-pub refused-unknown : (c : List ℕ) (p : ℕ) → lengthOf (byte c p) ≡ 0 → 6 ≡ instructionRefusal c p
-refused-unknown c p z = refused c p (λ w. let k = w .known in let y : ⊥ = omega arith in y)
-
-pub refused-cut : (c : List ℕ) (p : ℕ) → length c < p + instructionLength c p → 6 ≡ instructionRefusal c p
-refused-cut c p h = refused c p (λ w. let i = w .inside in let y : ⊥ = omega arith in y)
-
-pub refused-operands : (c : List ℕ) (p : ℕ) → operandsOk (instructionAt c p) ≡ false → 6 ≡ instructionRefusal c p
-refused-operands c p e = refused c p (λ w. absurd-bool (sym e ∙ w .listed))

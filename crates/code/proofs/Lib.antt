@@ -1,5 +1,6 @@
 pub mod Laws
 pub mod Passes
 pub mod Sound
+pub mod Laying
 pub mod Exact
 pub mod Parts

@@ -1,27 +1,19 @@
--- The passes over a core's code: what one turn of each does to what is left. In order: instructions laid end to end, with the map of starts;
--- a test of each instruction; the way to one place. Assumes nothing.
+-- The passes over a core's code: what one instruction of each does to what is left, and the way to one place. Assumes nothing.
 use mathlib.Core.Path.{_≡_, refl, sym, ap, _∙_, subst}
 use mathlib.Core.Bool.{Bool, true, false}
 use mathlib.Core.List.{List}
 use Prim.Native.Nat.{ℕ, zero, suc, _+_, _≤_, _<_}
 use native.Mathlib.Nat.{add-zero}
 use native.Mathlib.Omega.{arith}
-use borrow.Author.Tests.{lt-ltb, le-ltb, ne-eqb, eq-eqb, ltb-true, eqb-true, eqb-false}
+use borrow.Author.Tests.{lt-ltb, le-ltb, ne-eqb, eq-eqb, ltb-true}
 use lib.Dec.{ltb, eqb}
-use lib.ListN.{length, getD, set, length-set, replicate}
-use lib.Seq.{getD-set-same, getD-set-other}
-use Rattle.verdict.specs.Verdict.{pick, either, next}
-use Rattle.verdict.proofs.Verdict.{stop, next-zero, either-true, either-false}
+use lib.ListN.{length}
+use Rattle.verdict.specs.Verdict.{pick, next}
+use Rattle.verdict.proofs.Verdict.{next-zero}
 use Rattle.memory.specs.Memory.{byte}
 use Rattle.code.specs.Instructions.{instructionLength}
 use Rattle.code.specs.Flow.{after}
-use Rattle.code.specs.Code.{instructionRefusal, laid, startFrom, isStart, allFrom, lastFrom, Pass}
-use Rattle.code.proofs.Laws.{Whole, whole, accepted}
-
-pub zeros : (n t : ℕ) → _≡_ {A = ℕ} (getD (replicate n 0) t 0) 0
-zeros zero t = refl
-zeros (suc n) zero = refl
-zeros (suc n) (suc t) = zeros n t
+use Rattle.code.specs.Code.{instructionRefusal, laid, startFrom, isStart, allFrom, lastFrom}
 
 -- ---- one instruction of a walk
 
@@ -64,137 +56,6 @@ pub last-end : (k : ℕ) (c : List ℕ) (p code : ℕ) → length c ≤ p → la
 unfolding lastFrom pick
 last-end zero c p code h = refl
 last-end (suc k) c p code h = simp (le-ltb _ _ h)
-
--- ---- instructions laid end to end
-
--- a mark at p is one more start
-mark-one : (m : List ℕ) (p t : ℕ) (r : Bool) → p < length m
-    → either (eqb (getD m t 0) 1) (pick (eqb p t) true r) ≡ either (eqb (getD (set m p 1) t 0) 1) r
-unfolding pick
-mark-one m p t r h = go (eqb p t) refl
-  where
-    go : (b : Bool) → eqb p t ≡ b → either (eqb (getD m t 0) 1) (pick (eqb p t) true r) ≡ either (eqb (getD (set m p 1) t 0) 1) r
-    go true e =
-        let q : t ≡ p = sym (eqb-true p t e) in
-        let z : getD (set m p 1) t 0 ≡ 1 = rw q (getD-set-same m p 1 0 h) in
-        rw (e, z) (either-true (eqb (getD m t 0) 1))
-    go false e = rw (e, getD-set-other m p t 1 0 (λ q. eqb-false p t e (sym q)))
-
--- what is left to judge from p on is what was asked, and the map has the starts before p
-pub record Laying (c : List ℕ) (p last : ℕ) (m : List ℕ) : Type 0 where
-  pub left : ℕ
-  pub inside : p ≤ length c
-  pub enough : length c ≤ p + left
-  pub size : length m ≡ 8192
-  pub laid-rest : laid (length c) c 0 ≡ laid left c p
-  pub last-rest : lastFrom (length c) c 0 0 ≡ lastFrom left c p last
-  pub start-rest : (t : ℕ) → isStart c t ≡ either (eqb (getD m t 0) 1) (startFrom left c p t)
-
-pub laying-none : (c m : List ℕ) → length m ≡ 8192 → ((t : ℕ) → getD m t 0 ≡ 0) → Laying c 0 0 m
-unfolding isStart
-laying-none c m e z =
-    record {
-      left = length c;
-      inside = omega arith;
-      enough = omega arith;
-      size = e;
-      laid-rest = refl;
-      last-rest = refl;
-      start-rest = λ t. rw (z t);
-    }
-
-laying-turn : (c : List ℕ) (p last : ℕ) (m : List ℕ) → length c ≤ 8192 → p < length c → instructionRefusal c p ≡ 0 → (k : ℕ)
-    → length c ≤ p + k → length m ≡ 8192 → laid (length c) c 0 ≡ laid k c p → lastFrom (length c) c 0 0 ≡ lastFrom k c p last
-    → ((t : ℕ) → isStart c t ≡ either (eqb (getD m t 0) 1) (startFrom k c p t))
-    → Laying c (after c p) (byte c p) (set m p 1)
-unfolding next
-laying-turn c p last m b h z zero e g l a r = absurd (let y : ⊥ = omega arith in y)
-laying-turn c p last m b h z (suc k) e g l a r =
-    let w = whole c p (accepted c p z) in
-    record {
-      left = k;
-      inside = omega arith;
-      enough = omega arith;
-      size = length-set m p 1 ∙ g;
-      laid-rest = l ∙ laid-one k c p h ∙ ap (λ (x : ℕ). next x (laid k c (after c p))) z;
-      last-rest = a ∙ last-one k c p last h;
-      start-rest = λ t.
-          r t
-          ∙ ap (either (eqb (getD m t 0) 1)) (start-one k c p t h)
-          ∙ mark-one m p t (startFrom k c (after c p) t) (omega arith);
-    }
-
-pub laying-more : (c : List ℕ) (p last : ℕ) (m : List ℕ) → length c ≤ 8192 → Laying c p last m → p < length c → instructionRefusal c p ≡ 0
-    → Laying c (after c p) (byte c p) (set m p 1)
-laying-more c p last m b r h z =
-    laying-turn c p last m b h z (r .left) (r .enough) (r .size) (r .laid-rest) (r .last-rest) (r .start-rest)
-
-pub laying-end : (c : List ℕ) (p last : ℕ) (m : List ℕ) → Laying c p last m → length c ≤ p → Pass c 0 last m
-laying-end c p last m r h =
-    record {
-      right = sym (r .laid-rest ∙ laid-end (r .left) c p h);
-      size = r .size;
-      marked = λ _ t. sym (r .start-rest t ∙ ap (either (eqb (getD m t 0) 1)) (start-end (r .left) c p t h) ∙ either-false _);
-      latest = λ _. sym (r .last-rest ∙ last-end (r .left) c p last h);
-    }
-
-laid-stop : (k : ℕ) (c : List ℕ) (p r : ℕ) → length c ≤ p + k → p < length c → r ≡ instructionRefusal c p → (r ≡ 0 → ⊥) → r ≡ laid k c p
-laid-stop zero c p r e h q nz = absurd (let x : ⊥ = omega arith in x)
-laid-stop (suc k) c p r e h q nz = stop _ q nz ∙ sym (laid-one k c p h)
-
-pub laying-stop : (c : List ℕ) (p last r : ℕ) (m : List ℕ) → Laying c p last m → p < length c → r ≡ instructionRefusal c p → (r ≡ 0 → ⊥)
-    → Pass c r last m
-laying-stop c p last r m w h q nz =
-    record {
-      right = laid-stop (w .left) c p r (w .enough) h q nz ∙ sym (w .laid-rest);
-      size = w .size;
-      marked = λ z. absurd (nz z);
-      latest = λ z. absurd (nz z);
-    }
-
--- ---- a test of each instruction of code that is laid
-
-pub record Passing (test : ℕ → Bool) (c : List ℕ) (p : ℕ) : Type 0 where
-  pub left : ℕ
-  pub inside : p ≤ length c
-  pub enough : length c ≤ p + left
-  pub laid-here : laid left c p ≡ 0
-  pub rest : allFrom test (length c) c 0 ≡ allFrom test left c p
-
-pub passing-none : (test : ℕ → Bool) (c : List ℕ) → laid (length c) c 0 ≡ 0 → Passing test c 0
-passing-none test c l = record { left = length c; inside = omega arith; enough = omega arith; laid-here = l; rest = refl }
-
--- what one place knows: the instruction is whole, and what the turn or the stop makes of the rest
-pub record Turn (test : ℕ → Bool) (c : List ℕ) (p : ℕ) : Type 0 where
-  pub here : Whole c p
-  pub more : test p ≡ true → Passing test c (after c p)
-  pub stopped : test p ≡ false → allFrom test (length c) c 0 ≡ false
-
-turn : (test : ℕ → Bool) (c : List ℕ) (p : ℕ) → p < length c → (k : ℕ) → length c ≤ p + k → laid k c p ≡ 0
-    → allFrom test (length c) c 0 ≡ allFrom test k c p → Turn test c p
-unfolding pick
-turn test c p h zero e l r = absurd (let x : ⊥ = omega arith in x)
-turn test c p h (suc k) e l r =
-    let a = laid-both k c p h l in
-    let w : Whole c p = whole c p (accepted c p (a .0)) in
-    record {
-      here = w;
-      more = λ t.
-          record {
-            left = k;
-            inside = omega arith;
-            enough = omega arith;
-            laid-here = a .1;
-            rest = r ∙ all-one test k c p h ∙ rw t;
-          };
-      stopped = λ t. r ∙ all-one test k c p h ∙ rw t;
-    }
-
-pub turned : (test : ℕ → Bool) (c : List ℕ) (p : ℕ) → p < length c → Passing test c p → Turn test c p
-turned test c p h r = turn test c p h (r .left) (r .enough) (r .laid-here) (r .rest)
-
-pub passing-end : (test : ℕ → Bool) (c : List ℕ) (p : ℕ) → Passing test c p → length c ≤ p → allFrom test (length c) c 0 ≡ true
-passing-end test c p r h = r .rest ∙ all-end test (r .left) c p h
 
 -- ---- the way to one place, of any code
 

@@ -9,7 +9,7 @@ ghost use Rattle.memory.specs.Memory.{byte, readLE};
 ghost use Rattle.values.specs.Types.{takes};
 ghost use Rattle.code.specs.Commands.{three, lengthOf, Lengths};
 ghost use Rattle.code.specs.Instructions.{instructionAt, instructionLength, typedAt};
-ghost use Rattle.code.specs.Code.{isWidth, elementOk, operandsOk, instructionRefusal, laid, isStart, allFrom, targetOk, judgeCode, Marked, Pass};
+ghost use Rattle.code.specs.Code.{isWidth, elementOk, operandsOk, acceptedLength, Sized, isStart, judgeCode, Marked, Asked, TargetAsked, Pass, AllMet};
 
 // The length of an instruction by its code byte, 0 where the byte is unknown; MCD adds n.
 const LENGTHS: [u8; 256] = [
@@ -459,29 +459,6 @@ fn element_ok(size: u8, count: u16) -> bool
     count <= 4096
 }
 
-// The operands of the instruction at p, which is whole.
-fn operands_ok(code: &[u8], p: usize) -> bool
-    requires { ⌜ (p < length (now code)) × (p + lengthOf (byte (now code) p) ≤ length (now code)) ⌝ }
-    ensures { λ r. ⌜ r ≡ operandsOk (instructionAt (now (code .entry)) p) ⌝ }
-{
-    let b = code[p];
-    match b {
-        0 => true,
-        1 => true,
-        2 => true,
-        3 => true,
-        4 => true,
-        5 => true,
-        6 => inside(1, 8, code[p + 3]),
-        7 => true,
-        8 => element_ok(code[p + 7], word(code, p + 8)),
-        9 => element_ok(code[p + 7], word(code, p + 8)),
-        41 => true,
-        42 => true,
-        _ => takes_type(b, memory::byte_at(code, p + 1)),
-    }
-}
-
 // The length of the instruction at p, by the lent table.
 fn instruction_length(code: &[u8], lengths: &[u8; 256], p: usize) -> usize
     requires { ⌜ (p < length (now code)) × Lengths (now lengths) ⌝ }
@@ -495,28 +472,100 @@ fn instruction_length(code: &[u8], lengths: &[u8; 256], p: usize) -> usize
     n
 }
 
-fn instruction_refusal(code: &[u8], lengths: &[u8; 256], p: usize) -> u8
-    requires { ⌜ (p < length (now code)) × Lengths (now lengths) ⌝ }
-    ensures { λ r. ⌜ r ≡ instructionRefusal (now (code .entry)) p ⌝ }
+// ---- the length of the instruction at p where it is accepted, 0 where it is refused
+
+// An instruction of n bytes, whatever its operands.
+fn plain_length(code: &[u8], p: usize, n: usize) -> usize
+    requires { ⌜ (p < length (now code)) × (0 < n) × Sized (now code) p n × (operandsOk (instructionAt (now code) p) ≡ true) ⌝ }
+    ensures { λ r. ⌜ r ≡ acceptedLength (now (code .entry)) p ⌝ }
 {
-    if lengths[code[p] as usize] == 0 {
-        return 6;
-    }
-    if code.len() - p < instruction_length(code, lengths, p) {
-        return 6;
-    }
-    if operands_ok(code, p) {
+    if code.len() - p < n {
         return 0;
     }
-    6
+    n
+}
+
+// MCD.
+fn constant_length(code: &[u8], p: usize) -> usize
+    requires { ⌜ (p < length (now code)) × (byte (now code) p ≡ 6) ⌝ }
+    ensures { λ r. ⌜ r ≡ acceptedLength (now (code .entry)) p ⌝ }
+{
+    let left = code.len() - p;
+    if left < 4 {
+        return 0;
+    }
+    let n = code[p + 3];
+    if !inside(1, 8, n) {
+        return 0;
+    }
+    let all = 4 + n as usize;
+    if left < all {
+        return 0;
+    }
+    all
+}
+
+// AURD and AUWD.
+fn element_length(code: &[u8], p: usize) -> usize
+    requires { ⌜ (p < length (now code)) × Sized (now code) p 10 × (operandsOk (instructionAt (now code) p) ≡ elementOk (byte (now code) (p + 7)) (readLE (now code) (p + 8) 2)) ⌝ }
+    ensures { λ r. ⌜ r ≡ acceptedLength (now (code .entry)) p ⌝ }
+{
+    if code.len() - p < 10 {
+        return 0;
+    }
+    if element_ok(code[p + 7], word(code, p + 8)) {
+        return 10;
+    }
+    0
+}
+
+// A typed command of n bytes, or an unknown code byte.
+fn typed_length(code: &[u8], p: usize, n: usize) -> usize
+    requires { ⌜ (p < length (now code)) × (2 ≤ n) × Sized (now code) p n × (operandsOk (instructionAt (now code) p) ≡ takes (byte (now code) p) (byte (now code) (p + 1))) ⌝ }
+    ensures { λ r. ⌜ r ≡ acceptedLength (now (code .entry)) p ⌝ }
+{
+    if code.len() - p < n {
+        return 0;
+    }
+    if takes_type(code[p], code[p + 1]) {
+        return n;
+    }
+    0
+}
+
+// Each command's length stands in its own arm: a walk that adds a number out of a table waits for two loads at each instruction, and one that adds an
+// arm's number goes ahead on the predicted branch.
+fn accepted_length(code: &[u8], p: usize) -> usize
+    requires { ⌜ p < length (now code) ⌝ }
+    ensures { λ r. ⌜ r ≡ acceptedLength (now (code .entry)) p ⌝ }
+{
+    let b = code[p];
+    match b {
+        0 => plain_length(code, p, 1),
+        1 => plain_length(code, p, 3),
+        2 => plain_length(code, p, 5),
+        3 => plain_length(code, p, 5),
+        4 => plain_length(code, p, 5),
+        5 => plain_length(code, p, 3),
+        6 => constant_length(code, p),
+        7 => plain_length(code, p, 7),
+        8 => element_length(code, p),
+        9 => element_length(code, p),
+        27 => typed_length(code, p, 6),
+        41 => plain_length(code, p, 3),
+        42 => plain_length(code, p, 3),
+        _ => typed_length(code, p, 8),
+    }
 }
 
 // ---- a core's code, judged
 
-// What a pass over the instructions finds: the refusal, the last code byte, and 1 in `marks` where an instruction starts.
+// What one pass over the instructions finds: the refusal, the last code byte, whether a T lies outside the map, and the map: 1 where an instruction
+// starts, 2 where a T asks for one that was not met.
 pub struct Laid {
     pub refusal: u8,
     pub last: u8,
+    pub outside: bool,
     pub marks: [u8; 8192],
 }
 
@@ -526,70 +575,83 @@ fn cleared() -> [u8; 8192]
     [0u8; 8192]
 }
 
-fn lay(code: &[u8], lengths: &[u8; 256]) -> Laid
-    requires { ⌜ (length (now code) ≤ 8192) × Lengths (now lengths) ⌝ }
-    ensures { λ r. ⌜ Pass (now (code .entry)) (r .refusal) (r .last) (r .marks) ⌝ }
+// Asks for an instruction's start at place t; tells whether t lies outside the map.
+fn ask(marks: &mut [u8], t: u16) -> bool
+    ensures { λ r. ⌜ Asked (now (marks .entry)) t r (now (marks .exit)) ⌝ }
+{
+    let at = t as usize;
+    if marks.len() <= at {
+        return true;
+    }
+    if marks[at] != 1 {
+        marks[at] = 2;
+    }
+    false
+}
+
+// Asks for the T of the instruction at p, if it has one.
+fn ask_target(code: &[u8], p: usize, marks: &mut [u8]) -> bool
+    requires { ⌜ (p < length (now code)) × (p + lengthOf (byte (now code) p) ≤ length (now code)) ⌝ }
+    ensures { λ r. ⌜ TargetAsked (now (code .entry)) p (now (marks .entry)) r (now (marks .exit)) ⌝ }
+{
+    let b = code[p];
+    match b {
+        1 => ask(marks, word(code, p + 1)),
+        2 => ask(marks, word(code, p + 3)),
+        3 => ask(marks, word(code, p + 3)),
+        4 => ask(marks, word(code, p + 3)),
+        5 => ask(marks, word(code, p + 1)),
+        _ => false,
+    }
+}
+
+fn lay(code: &[u8]) -> Laid
+    requires { ⌜ length (now code) ≤ 8192 ⌝ }
+    ensures { λ r. ⌜ Pass (now (code .entry)) (r .refusal) (r .last) (r .outside) (r .marks) ⌝ }
 {
     let mut marks = cleared();
     let mut last: u8 = 0;
+    let mut outside = false;
     let mut p: usize = 0;
     while p < code.len() {
-        let r = instruction_refusal(code, lengths, p);
-        if r != 0 {
+        let n = accepted_length(code, p);
+        if n == 0 {
             return Laid {
-                refusal: r,
+                refusal: 6,
                 last,
+                outside,
                 marks,
             };
         }
+        if ask_target(code, p, &mut marks) {
+            outside = true;
+        }
         marks[p] = 1;
         last = code[p];
-        p = p + instruction_length(code, lengths, p);
+        p = p + n;
     }
     Laid {
         refusal: 0,
         last,
+        outside,
         marks,
     }
 }
 
-// Whether the map of starts has the T that stands at place q.
-fn lands(code: &[u8], marks: &[u8], q: usize) -> bool
-    requires { ⌜ (q + 2 ≤ length (now code)) × Marked (now code) (now marks) ⌝ }
-    ensures { λ r. ⌜ r ≡ isStart (now (code .entry)) (readLE (now (code .entry)) q 2) ⌝ }
+// Whether no start is still asked for. The largest byte says it: a loop with no way out before its end is one that the processor's vector instructions
+// can run.
+fn all_met(marks: &[u8]) -> bool
+    ensures { λ r. ⌜ AllMet (now (marks .entry)) r ⌝ }
 {
-    memory::byte_at(marks, word(code, q) as usize) == 1
-}
-
-// Whether the T of the instruction at p, if it has one, is the start of an instruction.
-fn target_ok(code: &[u8], marks: &[u8], p: usize) -> bool
-    requires { ⌜ (p < length (now code)) × (p + lengthOf (byte (now code) p) ≤ length (now code)) × Marked (now code) (now marks) ⌝ }
-    ensures { λ r. ⌜ r ≡ targetOk (now (code .entry)) p ⌝ }
-{
-    let b = code[p];
-    match b {
-        1 => lands(code, marks, p + 1),
-        2 => lands(code, marks, p + 3),
-        3 => lands(code, marks, p + 3),
-        4 => lands(code, marks, p + 3),
-        5 => lands(code, marks, p + 1),
-        _ => true,
-    }
-}
-
-// Whether each T is the start of an instruction.
-fn targets(code: &[u8], lengths: &[u8; 256], marks: &[u8]) -> bool
-    requires { ⌜ (0 ≡ laid (length (now code)) (now code) 0) × Marked (now code) (now marks) × Lengths (now lengths) ⌝ }
-    ensures { λ r. ⌜ r ≡ allFrom (targetOk (now (code .entry))) (length (now (code .entry))) (now (code .entry)) 0 ⌝ }
-{
-    let mut p: usize = 0;
-    while p < code.len() {
-        if !target_ok(code, marks, p) {
-            return false;
+    let mut most: u8 = 0;
+    let mut i = 0;
+    while i < marks.len() {
+        if most < marks[i] {
+            most = marks[i];
         }
-        p = p + instruction_length(code, lengths, p);
+        i += 1;
     }
-    true
+    most < 2
 }
 
 // The refusal of a core's code.
@@ -597,13 +659,15 @@ pub fn judge_code(code: &[u8]) -> u8
     requires { ⌜ length (now code) ≤ 8192 ⌝ }
     ensures { λ r. ⌜ r ≡ judgeCode (now (code .entry)) ⌝ }
 {
-    let table = lengths();
-    let m = lay(code, &table);
+    let m = lay(code);
     if m.refusal != 0 {
         return m.refusal;
     }
+    if m.outside {
+        return 7;
+    }
     let marks = m.marks;
-    if !targets(code, &table, &marks) {
+    if !all_met(&marks) {
         return 7;
     }
     if 2 <= m.last {
@@ -617,8 +681,7 @@ pub fn starts(code: &[u8]) -> [u8; 8192]
     requires { ⌜ (length (now code) ≤ 8192) × (judgeCode (now code) ≡ 0) ⌝ }
     ensures { λ r. ⌜ (length r ≡ 8192) × Marked (now (code .entry)) r ⌝ }
 {
-    let table = lengths();
-    let m = lay(code, &table);
+    let m = lay(code);
     m.marks
 }
 

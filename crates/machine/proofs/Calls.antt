@@ -12,9 +12,10 @@ use lib.Dec.{ltb, eqb}
 use lib.ListN.{length, getD, drop, replicate}
 use lib.Seq.{drop-cons, drop-length}
 use Rattle.verdict.specs.Verdict.{pick, both, next, unless}
-use Rattle.verdict.proofs.Verdict.{skip, stop, halt, yes, no, pick-true, pick-false, next-none, next-zero, unless-zero, both-true}
+use Rattle.verdict.proofs.Verdict.{skip, stop, halt, yes, no, pick-true, pick-false, next-none, next-zero, unless-zero, both-true, absurd-bool}
 use Rattle.memory.specs.Memory.{total}
 use Rattle.records.specs.File.{cores, dataSize}
+use Rattle.records.proofs.Laws.{both-alone}
 use Rattle.taskset.specs.declared.Layout.{Layout}
 use Rattle.taskset.specs.declared.Loaded.{Loaded}
 use Rattle.taskset.specs.Judge.{judge}
@@ -102,14 +103,38 @@ size-small f accepted k = rw (size-of f k) (go (ltb k (cores f)) refl)
 
 -- ---- the order
 
-pub below-stop : (n : ℕ) (order : List ℕ) (i : ℕ) → i < length order → n ≤ getD order i 0 → allBelow n (drop i order) ≡ false
-below-stop n order i h e = rw (drop-cons order i 0 h, le-ltb (getD order i 0) n e)
+-- a bound of the larger of two numbers is a bound of both
+both-below : (a b m n : ℕ) (r : Bool) → (m < n → (a < n) × (b < n)) → (a < n → b < n → m < n) → both (ltb m n) r ≡ both (ltb a n) (both (ltb b n) r)
+both-below a b m n r under over = go (ltb m n) refl
+  where
+    above : (x y : Bool) → ltb a n ≡ x → ltb b n ≡ y → ltb m n ≡ false → false ≡ both (ltb a n) (both (ltb b n) r)
+    above true true p q e = absurd-bool (sym e ∙ lt-ltb m n (over (ltb-true a n p) (ltb-true b n q)))
+    above true false p q e = rw (p, q)
+    above false y p q e = rw p
 
-pub below-more : (n : ℕ) (order : List ℕ) (i : ℕ) → i < length order → getD order i 0 < n → allBelow n (drop i order) ≡ allBelow n (drop (i + 1) order)
-below-more n order i h e = rw (drop-cons order i 0 h, lt-ltb (getD order i 0) n e) (ap (λ (k : ℕ). allBelow n (drop k order)) (sym (add-one i)))
+    go : (t : Bool) → ltb m n ≡ t → both (ltb m n) r ≡ both (ltb a n) (both (ltb b n) r)
+    go true e = let h = under (ltb-true m n e) in rw (e, lt-ltb a n (h .0), lt-ltb b n (h .1))
+    go false e = rw e (above (ltb a n) (ltb b n) refl refl e)
+
+-- of an order that names a core, the largest of no bytes is 0
+pub below-none : (n : ℕ) (order : List ℕ) → 0 < length order → both (ltb 0 n) (allBelow n order) ≡ allBelow n order
+below-none n [] h = absurd (let y : ⊥ = omega arith in y)
+below-none zero (k ∷ ks) h = rw (le-ltb k 0 (omega arith))
+below-none (suc n) (k ∷ ks) h = rw (lt-ltb 0 (suc n) (omega arith))
+
+-- one more byte, b, with a the largest before it and m the largest with it
+pub below-more : (n : ℕ) (order : List ℕ) (i a m : ℕ) → i < length order
+    → (m < n → (a < n) × (getD order i 0 < n)) → (a < n → getD order i 0 < n → m < n)
+    → both (ltb m n) (allBelow n (drop (i + 1) order)) ≡ both (ltb a n) (allBelow n (drop i order))
+below-more n order i a m h under over =
+    both-below a (getD order i 0) m n (allBelow n (drop (i + 1) order)) under over
+    ∙ ap (both (ltb a n)) (rw (drop-cons order i 0 h) (ap (λ (k : ℕ). both (ltb (getD order i 0) n) (allBelow n (drop k order))) (add-one i)))
 
 pub below-done : (n : ℕ) (order : List ℕ) (i : ℕ) → length order ≤ i → i ≤ length order → allBelow n (drop i order) ≡ true
 below-done n order i h k = let e : i ≡ length order = omega arith in rw (e, drop-length)
+
+pub below-all : (n : ℕ) (order : List ℕ) (i most : ℕ) → length order ≤ i → i ≤ length order → both (ltb most n) (allBelow n (drop i order)) ≡ ltb most n
+below-all n order i most h k = ap (both (ltb most n)) (below-done n order i h k) ∙ both-alone (ltb most n)
 
 -- with n from the loaded layout
 pub below-laid : (f order : List ℕ) (l : Layout) → l ≡ layoutOf f → (b : Bool) → b ≡ allBelow (l .cores) order → allBelow (cores f) order ≡ b

@@ -143,18 +143,22 @@ pub fn fresh(file: &[u8], buffer: &mut [u8], shared: &mut [u8]) -> Ran
 
 // ---- a run and a step
 
-// Whether an order names no core from n on.
+// Whether an order names no core from n on: its largest byte says it, found by a loop that never ends early.
 fn all_below(order: &[u8], n: usize) -> bool
     ensures { λ r. ⌜ r ≡ allBelow n (now (order .entry)) ⌝ }
 {
+    let mut most: u8 = 0;
     let mut i = 0;
     while i < order.len() {
-        if n <= order[i] as usize {
-            return false;
+        if most < order[i] {
+            most = order[i];
         }
         i += 1;
     }
-    true
+    if order.len() == 0 {
+        return true;
+    }
+    (most as usize) < n
 }
 
 // The place of the exchange under way in a fit state, if there is one.

@@ -1,5 +1,5 @@
--- Laws of the definitions of `specs/Records`. In order: bits of the attribute byte; places; a pair's refusal. Assumes nothing.
-use mathlib.Core.Path.{_≡_, sym, ap, ap₂, _∙_}
+-- Laws of the definitions of `specs/Records`. In order: bits of the attribute byte; places; two tests; a pair's refusal. Assumes nothing.
+use mathlib.Core.Path.{_≡_, refl, sym, ap, ap₂, _∙_}
 use mathlib.Core.Bool.{Bool, true, false}
 use mathlib.Core.List.{List}
 use Prim.Native.Nat.{ℕ, zero, suc, _+_, _*_, _/_, _^_, _<_}
@@ -7,6 +7,7 @@ use native.Mathlib.Omega.{arith}
 use lib.Dec.{T, eqb, eqb→eq}
 use lib.Bits.{bitAnd, and-mask}
 use lib.Count.{ones, onesIn}
+use Rattle.verdict.specs.Verdict.{both}
 use Rattle.verdict.proofs.Verdict.{below, pick-true, pick-false}
 use Rattle.memory.specs.Memory.{word}
 use Rattle.protocol.specs.Variables.{local}
@@ -33,6 +34,16 @@ local-at f p (suc zero) h = ap (word f) (omega arith)
 local-at f p (suc (suc zero)) h = ap (word f) (omega arith)
 local-at f p (suc (suc (suc zero))) h = ap (word f) (omega arith)
 local-at f p (suc (suc (suc (suc k)))) h = absurd (let y : ⊥ = omega arith in y)
+
+-- ---- two tests, the second decided
+
+pub both-alone : (b : Bool) → both b true ≡ b
+both-alone true = refl
+both-alone false = refl
+
+pub both-none : (b : Bool) → both b false ≡ false
+both-none true = refl
+both-none false = refl
 
 -- ---- a pair's refusal, with the records' places
 

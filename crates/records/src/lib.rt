@@ -219,12 +219,12 @@ pub fn variables_refusal(f: &[u8], m: u8) -> u8
 
 // ---- two variables
 
-// a bytes from x on and b bytes from y on have one in common.
+// a bytes from x on and b bytes from y on have one in common. Where records stand in the order of their places, the first test decides.
 fn meet(x: u16, a: u8, y: u16, b: u8) -> bool
     ensures { λ r. ⌜ r ≡ meets x a y b ⌝ }
 {
-    if (x as usize) < y as usize + b as usize {
-        return (y as usize) < x as usize + a as usize;
+    if (y as usize) < x as usize + a as usize {
+        return (x as usize) < y as usize + b as usize;
     }
     false
 }
@@ -239,22 +239,23 @@ fn is_named(f: &[u8], p: usize, k: usize) -> bool
     writes(f, p, k)
 }
 
+// The places come first: seldom do any two meet.
 fn meet_in(f: &[u8], p: usize, q: usize, k: usize) -> bool
     requires { ⌜ (p + 12 ≤ length (now f)) × (q + 12 ≤ length (now f)) × (k < 4) ⌝ }
     ensures { λ r. ⌜ r ≡ meetsIn k (variableIn (now (f .entry)) p) (variableIn (now (f .entry)) q) ⌝ }
 {
-    if !is_named(f, p, k) {
-        return false;
-    }
-    if !is_named(f, q, k) {
-        return false;
-    }
-    meet(
+    if !meet(
         local_place(f, p, k),
         width(f, p),
         local_place(f, q, k),
         width(f, q),
-    )
+    ) {
+        return false;
+    }
+    if !is_named(f, p, k) {
+        return false;
+    }
+    is_named(f, q, k)
 }
 
 fn meet_shared(f: &[u8], p: usize, q: usize) -> bool

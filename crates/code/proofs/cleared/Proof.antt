@@ -1,7 +1,7 @@
 -- A list of zeros has a zero at every place.
 use Prim.Native.Nat.{ℕ}
 use lib.ListN.{length-replicate}
-use Rattle.code.proofs.Passes.{zeros}
+use Rattle.code.proofs.Laying.{zeros}
 use Rattle.code.proofs.cleared.Statement.{statement}
 use Rattle.code.proofs.cleared.Tie as tie
 

@@ -6,15 +6,12 @@ use borrow.Author.Needs.{needs}
 use Rattle.code.proofs.starts.Statement.{statement}
 use Rattle.code.proofs.starts.Tie as tie
 
-lengths-requires : tie.Need-lengths-requires
-lengths-requires c κs = search needs
-
 lay-requires : tie.Need-lay-requires
 lay-requires c κs = search needs
 
 returns : tie.Need-returns
 unfolding judgeCode
-returns c = (c .before .lay .ensures .size, c .before .lay .ensures .marked (c .before .lay .ensures .right ∙ next-zero _ _ (c .before .before .before .before .before .pre .1) .0))
+returns c = (c .before .lay .ensures .size, c .before .lay .ensures .marked (c .before .lay .ensures .right ∙ next-zero _ _ (c .before .before .before .pre .1) .0))
 
 pub starts-spec : {M : Type 1} → statement M
-starts-spec = tie.close (tie.spec lengths-requires lay-requires returns)
+starts-spec = tie.close (tie.spec lay-requires returns)

@@ -1,0 +1,54 @@
+-- MCD's n lies on its list, and its n bytes lie in the code.
+use Prim.Native.Nat.{_+_}
+use mathlib.Core.Path.{sym, _∙_}
+use native.Mathlib.Omega.{arith}
+use borrow.Author.Needs.{needs}
+use borrow.Author.Tests.{not-true, not-false}
+use Rattle.code.proofs.Laws.{constant-short, constant-cut, constant-unlisted, constant-whole}
+use Rattle.code.proofs.constant_length.Statement.{statement}
+use Rattle.code.proofs.constant_length.Tie as tie
+
+sub-left : tie.Need-sub-left
+sub-left c = search needs
+
+returns : tie.Need-returns
+returns c = constant-short _ _ (c .before .before .pre .1) (omega arith)
+
+add-n : tie.Need-add-n
+add-n c = search needs
+
+shared-slice-read-n : tie.Need-shared-slice-read-n
+shared-slice-read-n c = search needs
+
+inside-requires : tie.Need-inside-requires
+inside-requires c κs = search needs
+
+returns-2 : tie.Need-returns-2
+returns-2 c = constant-unlisted _ _ (c .before .before .before .before .before .pre .1) (sym (c .before .inside .ensures) ∙ not-true _ (c .if2 .taken))
+
+cast-all : tie.Need-cast-all
+cast-all c = omega (arith, c .before .before .shared-slice-known2 .given (c .before .before .before .before .before .args .p + 3))
+
+add-all : tie.Need-add-all
+add-all c = omega (arith, c .before .before .shared-slice-known2 .given (c .before .before .before .before .before .args .p + 3))
+
+returns-3 : tie.Need-returns-3
+returns-3 c = constant-cut _ _ (c .before .before .before .before .before .before .pre .1) (omega arith)
+
+returns-4 : tie.Need-returns-4
+returns-4 c = constant-whole _ _ (c .before .before .before .before .before .before .pre .1) (omega arith) (sym (c .before .before .inside .ensures) ∙ not-false _ (c .before .if2 .left))
+
+pub constant-length-spec : {M : Type 1} → statement M
+constant-length-spec =
+    tie.close
+    (tie.spec
+    sub-left
+    returns
+    add-n
+    shared-slice-read-n
+    inside-requires
+    returns-2
+    cast-all
+    add-all
+    returns-3
+    returns-4)

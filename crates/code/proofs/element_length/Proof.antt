@@ -1,0 +1,51 @@
+-- What is cut short is refused, and an element size or count that is not on its list.
+use Prim.Native.Nat.{_+_}
+use mathlib.Core.Path.{sym, ap, _∙_}
+use native.Mathlib.Omega.{arith}
+use borrow.Author.Needs.{needs}
+use Rattle.memory.specs.Memory.{byte}
+use Rattle.code.specs.Code.{elementOk}
+use Rattle.code.proofs.Laws.{length-whole, length-cut, length-unlisted}
+use Rattle.code.proofs.element_length.Statement.{statement}
+use Rattle.code.proofs.element_length.Tie as tie
+
+sub-if1 : tie.Need-sub-if1
+sub-if1 c = search needs
+
+returns : tie.Need-returns
+returns c = length-cut _ _ _ (c .before .before .pre .1) (omega arith)
+
+add-element-ok : tie.Need-add-element-ok
+add-element-ok c = search needs
+
+shared-slice-read-element-ok : tie.Need-shared-slice-read-element-ok
+shared-slice-read-element-ok c = search needs
+
+add-word : tie.Need-add-word
+add-word c = search needs
+
+word-requires : tie.Need-word-requires
+word-requires c κs = search needs
+
+element-ok-requires : tie.Need-element-ok-requires
+element-ok-requires c κs = search needs
+
+returns-2 : tie.Need-returns-2
+returns-2 c = length-whole _ _ _ (c .before .before .before .before .before .before .pre .1) (omega arith) (omega arith) (c .before .before .before .before .before .before .pre .2 ∙ ap (elementOk (byte (c .before .before .before .before .before .before .args .code .now) (c .before .before .before .before .before .before .args .p + 7))) (sym (c .before .before .word .ensures)) ∙ sym (c .before .element-ok .ensures) ∙ c .if2 .taken)
+
+returns-3 : tie.Need-returns-3
+returns-3 c = length-unlisted _ _ (c .before .before .before .before .before .before .pre .2 ∙ ap (elementOk (byte (c .before .before .before .before .before .before .args .code .now) (c .before .before .before .before .before .before .args .p + 7))) (sym (c .before .before .word .ensures)) ∙ sym (c .before .element-ok .ensures) ∙ c .if2 .left)
+
+pub element-length-spec : {M : Type 1} → statement M
+element-length-spec =
+    tie.close
+    (tie.spec
+    sub-if1
+    returns
+    add-element-ok
+    shared-slice-read-element-ok
+    add-word
+    word-requires
+    element-ok-requires
+    returns-2
+    returns-3)
