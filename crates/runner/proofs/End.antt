@@ -1,7 +1,7 @@
 -- The end of a run: the parts of the state make the state that the run is to leave. In order: lists by their items; the data buffer; the table
 -- and the stacks; the end.
 -- Assumes nothing.
-use mathlib.Core.Path.{_≡_, refl, sym, ap, ap₂, _∙_, subst}
+use mathlib.Core.Path.{_≡_, refl, sym, ap, _∙_, subst}
 use mathlib.Core.Bool.{Bool, true, false}
 use mathlib.Core.List.{List, [], _∷_, map}
 use Prim.Native.Nat.{ℕ, zero, suc, _+_, _-_, _*_, _/_, _%_, _≤_, _<_}
@@ -9,10 +9,9 @@ use native.Mathlib.Nat.{add-zero, mod-lt, div-add-mod'}
 use native.Mathlib.Omega.{arith}
 use borrow.Author.Tests.{ltb-true, ltb-false}
 use lib.Dec.{ltb}
-use lib.ListN.{length, getD, set, take, drop, length-map}
-use lib.Seq.{ext-getD, getD-take, getD-drop, drop-length}
+use lib.ListN.{length, getD, drop, length-map}
+use lib.Seq.{ext-getD, drop-length}
 use Rattle.verdict.specs.Verdict.{pick}
-use Rattle.verdict.proofs.Verdict.{by-pick}
 use Rattle.memory.specs.Memory.{splice, part, split, flat, total}
 use Rattle.memory.proofs.Cores.{length-split, flat-split}
 use Rattle.protocol.specs.declared.Registers.{Registers}
@@ -27,12 +26,11 @@ use Rattle.states.specs.declared.State.{State as Held}
 use Rattle.states.specs.declared.CoreTask.{CoreTask}
 use Rattle.states.specs.Task.{taskOf}
 use Rattle.states.specs.Machine.{none, stackIn, coreIn, stateIn, stateOf, registersBack, entryBack, heldAfter, dataOf}
-use Rattle.states.specs.Fit.{Fit}
-use Rattle.runner.specs.declared.Ran.{Ran}
-use Rattle.runner.specs.Runs.{Left, left, ranCall}
+use Rattle.runner.specs.Runs.{left, ranCall}
 use Rattle.runner.specs.Going.{Going}
+use Rattle.runner.specs.Running.{Running, Looping}
 use Rattle.runner.proofs.Loop.{part-entry}
-use Rattle.runner.proofs.Running.{core-in, cores-in, shared-in, holder-in, Running, Looping}
+use Rattle.runner.proofs.Running.{core-in, shared-in, holder-in}
 
 -- ---- lists by their items
 

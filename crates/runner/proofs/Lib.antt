@@ -1,3 +1,4 @@
 pub mod Running
 pub mod Loop
 pub mod End
+pub mod Carrying

@@ -3,20 +3,20 @@
 use mathlib.Core.Path.{_≡_, refl, sym, ap, ap₂, _∙_, subst}
 use mathlib.Core.Logic.{_≢_, _⊎_, inl, inr}
 use mathlib.Core.List.{List, [], _∷_, map}
-use Prim.Native.Nat.{ℕ, zero, suc, _+_, _-_, _*_, _≤_, _<_}
+use Prim.Native.Nat.{ℕ, suc, _+_, _-_, _*_, _≤_, _<_}
 use native.Mathlib.Nat.{add-zero, zero-add}
 use native.Mathlib.Decide.{ℕ-discrete, decLe}
 use native.Mathlib.Omega.{arith}
 use lib.ListN.{length, getD, set, take, drop, length-set}
-use lib.Seq.{getD-set-same, getD-set-other, set-getD, getD-take, getD-drop, drop-set-add, drop-set-lt, take-set-lt}
-use Rattle.memory.specs.Memory.{splice, part, split, total}
+use lib.Seq.{getD-set-same, getD-set-other, getD-take, getD-drop, drop-set-add, drop-set-lt, take-set-lt}
+use Rattle.memory.specs.Memory.{splice, part, split}
 use Rattle.memory.proofs.Laws.{take-set-part}
-use Rattle.protocol.specs.Registers.{readAcquired, byteCopied, readReleased, writeAcquired, writeReleased, advanced, called, returned, cycleEnded, faulted}
+use Rattle.protocol.specs.Registers.{readAcquired, byteCopied, writeAcquired, advanced, called, returned, cycleEnded, faulted}
 use Rattle.exchange.specs.Exchange.{At}
 use Rattle.protocol.specs.declared.Registers.{Registers}
 use Rattle.protocol.specs.declared.Stack.{Stack}
 use Rattle.protocol.specs.State.{Core, State, core, mode}
-use Rattle.protocol.specs.Step.{run, Taking, takings, encoded, orderList}
+use Rattle.protocol.specs.Step.{Taking, takings, encoded}
 use Rattle.exchange.specs.declared.Cursor.{Cursor}
 use Rattle.records.specs.File.{cores}
 use Rattle.taskset.specs.Task.{sizesOf}
@@ -25,13 +25,16 @@ use Rattle.states.specs.declared.CoreTask.{CoreTask}
 use Rattle.states.specs.Task.{taskOf}
 use Rattle.states.specs.Tasks.{coreTask, noTask}
 use Rattle.states.specs.Machine.{none, stackIn, coreIn, stateIn, stateOf}
-use Rattle.states.specs.Fit.{FitCore, Fit}
+use Rattle.states.specs.Fit.{FitCore}
 use Rattle.states.proofs.Executes.{executes}
-use Rattle.steps.specs.declared.Effect.{Effect}
-use Rattle.steps.specs.Effects.{registersBy, stackBy, holderBy, takenBy, Takes, More, Steps}
+use Rattle.steps.specs.Effects.{Effect, registersBy, stackBy, holderBy, takenBy, Takes, More, Steps}
+use Rattle.steps.specs.declared.Exchange.{Exchange}
+use Rattle.steps.specs.declared.Exchange.the-variants.{ReadOn, WriteOn}
 use Rattle.steps.specs.Moving.{Aimed, Ready, Moving}
 use Rattle.runner.specs.Going.{Going}
-use Rattle.runner.proofs.Running.{core-in, shared-in, holder-in, Put, Running, running-on, Looping}
+use Rattle.runner.specs.Running.{Looping}
+use Rattle.states.specs.Set.{Set}
+use Rattle.runner.proofs.Running.{core-in, shared-in, holder-in, running-on}
 
 -- entry j of sixteen from place p on
 pub part-entry : (l : List ℕ) (p j : ℕ) → j < 16 → getD (part l p 16) j 0 ≡ getD l (p + j) 0
@@ -63,24 +66,30 @@ looping-start {f} {t} {tasks} {first} {end} {order} {s} {cursor} {d} {sh} {list}
 
 -- ---- what a step requires
 
+pub ready : {f t : List ℕ} {order list₀ : List ℕ} {s₀ : State} {cs₀ : List Registers} {places₀ offsets₀ : List ℕ} {i : ℕ} {cs : List Registers} {places offsets : List ℕ} {h taken : ℕ} {d sh list : List ℕ} {cursor : Cursor} {k : ℕ} {c : CoreTask}
+    → Set f t → c ≡ coreTask f t k → Looping f t order list₀ s₀ cs₀ places₀ offsets₀ i cs places offsets h taken d sh list cursor → k < cores f
+    → Ready f t k c (getD cs k none) (getD (split (sizesOf f) d) k [])
+ready {f} {t} {cs = cs} {places = places} {offsets = offsets} {h = h} {d = d} {sh = sh} {k = k} ok e w i = record {
+  accepted = ok;
+  known = i;
+  task = e;
+  stack = stackIn places offsets k;
+  fit = subst (FitCore f t k) (core-in f cs places offsets h d sh k i) (w .running .fit .each k i);
+}
+
 pub moving : {f t : List ℕ} {tasks : List CoreTask} {first end : ℕ} {order : List ℕ} {s : Held} {aim : Cursor} {d₀ sh₀ list₀ : List ℕ}
     {s₀ : State} {cs₀ : List Registers} {places₀ offsets₀ : List ℕ} {i : ℕ} {cs : List Registers} {places offsets : List ℕ} {h taken : ℕ} {d sh list : List ℕ} {cursor : Cursor} {k : ℕ}
     → Going f t tasks first end order s aim d₀ sh₀ list₀ → Looping f t order list₀ s₀ cs₀ places₀ offsets₀ i cs places offsets h taken d sh list cursor → k < cores f
-    → Moving f t k (getD tasks k noTask) (getD cs k none) d sh cursor
+    → Moving f t k (getD tasks k noTask) (getD cs k none) d sh end cursor
 moving {f} {t} {cs = cs} {places = places} {offsets = offsets} {h = h} {d = d} {sh = sh} {cursor = cursor} {k = k} g w i = record {
-  ready = record {
-    accepted = g .accepted;
-    known = i;
-    task = g .tasked k i;
-    stack = stackIn places offsets k;
-    fit = subst (FitCore f t k) here (w .running .fit .each k i);
-  };
+  ready = ready (g .accepted) (g .tasked k i) w i;
   buffer = w .running .buffer;
   shared = sym (ap length (shared-in f cs places offsets h d sh)) ∙ w .running .fit .shared;
   aimed = record {
     reading = λ m. w .aimed k i (mine (inl (ap (λ (c : Core). mode c) here ∙ m))) .reading m;
     writing = λ m. w .aimed k i (mine (inr (ap (λ (c : Core). mode c) here ∙ m))) .writing m;
   };
+  upto = g .upto;
 }
   where
     here : core (stateIn f cs places offsets h d sh .plant) k ≡ coreIn f cs places offsets d k
@@ -93,8 +102,12 @@ moving {f} {t} {cs = cs} {places = places} {offsets = offsets} {h = h} {d = d} {
 pub takes-of : {f t : List ℕ} {k : ℕ} {r : Registers} {d sh : List ℕ} {h : ℕ} {z : Effect} {d′ sh′ : List ℕ} → Steps f t k r d sh h z d′ sh′ → (z₀ : Effect) → z ≡ z₀ → Takes r z₀
 takes-of {r = r} y z₀ e = subst (Takes r) e (y .does .ready)
 
-pub more-of : {f t : List ℕ} {k : ℕ} {r : Registers} {d sh : List ℕ} {h : ℕ} {z : Effect} {d′ sh′ : List ℕ} → Steps f t k r d sh h z d′ sh′ → (z₀ : Effect) → z ≡ z₀ → More f k r z₀
-more-of {f} {t} {k} {r} y z₀ e = subst (More f k r) e (y .more)
+-- where a byte was copied and others are left
+pub read-on : (f : List ℕ) (k : ℕ) (r : Registers) {z : Exchange} {next : Cursor} → z ≡ ReadOn next → More f k r z → (r .mode ≡ 1) × At f (4 + k) (r .exchange + 1) next
+read-on f k r = subst (More f k r)
+
+pub write-on : (f : List ℕ) (k : ℕ) (r : Registers) {z : Exchange} {next : Cursor} → z ≡ WriteOn next → More f k r z → (r .mode ≡ 4) × At f k (r .exchange + 1) next
+write-on f k r = subst (More f k r)
 
 -- ---- the cursor
 
@@ -225,7 +238,7 @@ module _ {f t : List ℕ} {order list₀ : List ℕ} {s₀ : State} {cs₀ : Lis
   after-aimed {k} {h′} {r′} {cursor′} ik il frees = λ j l e. absurd (omega arith)
 
   -- An arm: the effect z, which is z₀, with what the arm has made of the table, the stacks, the holder, the cursor and the list
-  pub arm : {tasks : List CoreTask} {first end : ℕ} {s : Held} {aim : Cursor} {d₀ sh₀ : List ℕ} → Going f t tasks first end order s aim d₀ sh₀ list₀
+  pub arm : Set f t
       → i < length order → {k : ℕ} → k ≡ getD order i 0 → k < cores f
       → {z : Effect} {d′ sh′ : List ℕ} → Steps f t k (getD cs k none) d sh h z d′ sh′ → length d′ ≡ length d
       → (z₀ : Effect) → z ≡ z₀
@@ -238,10 +251,10 @@ module _ {f t : List ℕ} {order list₀ : List ℕ} {s₀ : State} {cs₀ : Lis
   arm g b {k} e ik {z} {d′} {sh′} y dl z₀ ze {cs′} {r′} ce re {places′} {offsets′} se so en {h′} he {cursor′} ae {list′} le {taken′} te one =
       let y₀ : Steps f t k (getD cs k none) d sh h z₀ d′ sh′ = subst (λ (u : Effect). Steps f t k (getD cs k none) d sh h u d′ sh′) ze y in
       record {
-        running = running-on f t (g .accepted) (executes f t (g .accepted)) order list₀ s₀ cs₀ places₀ offsets₀ i cs places offsets h taken d sh list (w .running)
-            b k (sym e) ik (g .accepted .few) z₀ (y₀ .memory) sh′ cs′ places′ offsets′ h′ taken′ d′ list′ (y₀ .does)
+        running = running-on f t g (executes f t g) order list₀ s₀ cs₀ places₀ offsets₀ i cs places offsets h taken d sh list (w .running)
+            b k (sym e) ik (g .few) z₀ (y₀ .memory) sh′ cs′ places′ offsets′ h′ taken′ d′ list′ (y₀ .does)
             record { registers = ce ∙ ap (set cs k) re; stack = se; stacks = so; holder = he; memory = y₀ .kept } le te one en dl;
-        aimed = λ j l q. subst (λ (u : List Registers). Aimed f j (getD u j none) cursor′) (sym ce) (after-aimed ik (rw (w .running .four) (omega (arith, g .accepted .few))) (subst (After f k h (getD cs k none) r′ cursor cursor′) (sym he) ae) j l q);
+        aimed = λ j l q. subst (λ (u : List Registers). Aimed f j (getD u j none) cursor′) (sym ce) (after-aimed ik (rw (w .running .four) (omega (arith, g .few))) (subst (After f k h (getD cs k none) r′ cursor cursor′) (sym he) ae) j l q);
       }
 
   -- a core in an exchange is the holder
@@ -251,8 +264,7 @@ module _ {f t : List ℕ} {order list₀ : List ℕ} {s₀ : State} {cs₀ : Lis
       ∙ w .running .fit .held .held k (subst (λ (c : Core). (mode c ≡ 1) ⊎ (mode c ≡ 4)) (sym (core-in f cs places offsets h d sh k ik)) m)
 
   -- the same for the effects of one kind
-  module _ {tasks : List CoreTask} {first end : ℕ} {s : Held} {aim : Cursor} {d₀ sh₀ : List ℕ} (g : Going f t tasks first end order s aim d₀ sh₀ list₀)
-      (b : i < length order) {k : ℕ} (e : k ≡ getD order i 0) (ik : k < cores f)
+  module _ (g : Set f t) (b : i < length order) {k : ℕ} (e : k ≡ getD order i 0) (ik : k < cores f)
       {z : Effect} {d′ sh′ : List ℕ} (y : Steps f t k (getD cs k none) d sh h z d′ sh′) (dl : length d′ ≡ length d)
       {list′ : List ℕ} {cs′ : List Registers} {places′ offsets′ : List ℕ} {h′ : ℕ} {cursor′ : Cursor} {taken′ : ℕ} {r′ : Registers} where
     -- neither stack nor order list

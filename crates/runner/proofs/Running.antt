@@ -1,22 +1,21 @@
 -- One turn of a run: a step's effect put into the core table, the call stacks, the data buffer and the order list. In order: the state; the
--- order list; the invariant of a run and one turn of it.
+-- order list; one turn of the invariant; the order.
 -- Assumes nothing.
 use mathlib.Core.Path.{_≡_, refl, sym, ap, ap₂, _∙_, subst}
 use mathlib.Core.Logic.{_≢_}
 use mathlib.Core.List.{List, [], _∷_, _++_, map, map-append}
-use Prim.Native.Nat.{ℕ, zero, suc, _+_, _-_, _*_, _≤_, _<_}
+use Prim.Native.Nat.{ℕ, zero, suc, _+_, _-_, _≤_, _<_}
 use native.Mathlib.Omega.{arith}
-use native.Mathlib.Nat.{add-zero, le-of-suc-le-suc, not-suc-le-zero}
+use native.Mathlib.Nat.{le-of-suc-le-suc, not-suc-le-zero}
 use mathlib.Core.Bool.{true}
 use lib.Dec.{ltb}
 use borrow.Author.Tests.{ltb-true}
 use Rattle.verdict.proofs.Verdict.{both-true}
-use Rattle.exchange.specs.declared.Cursor.{Cursor}
 use Rattle.runner.specs.Runs.{allBelow}
 use native.Mathlib.Numerals.{add-one}
-use lib.ListN.{length, getD, set, take, drop, length-set, length-append, length-map}
+use lib.ListN.{length, getD, set, drop, length-set, length-append, length-map}
 use lib.Seq.{getD-set-same, getD-set-other, drop-cons}
-use Rattle.memory.specs.Memory.{splice, part, split, total}
+use Rattle.memory.specs.Memory.{splice, split}
 use Rattle.memory.proofs.Laws.{splice-append, length-splice}
 use Rattle.memory.proofs.Cores.{length-split}
 use Rattle.protocol.specs.declared.Registers.{Registers}
@@ -27,14 +26,12 @@ use Rattle.records.specs.File.{cores, dataSize}
 use Rattle.taskset.specs.Task.{listed, sizesOf}
 use Rattle.taskset.proofs.Accepted.{length-listed, listed-at}
 use Rattle.states.proofs.Tables.{listed-set}
-use Rattle.steps.specs.declared.Effect.{Effect}
 use Rattle.states.specs.Task.{taskOf}
 use Rattle.states.specs.Machine.{none, stackIn, coreIn, stateIn}
-use Rattle.states.specs.Fit.{FitCore, Fit}
+use Rattle.states.specs.Fit.{Fit}
 use Rattle.states.specs.Set.{Set}
-use Rattle.steps.specs.Moving.{Aimed}
-use Rattle.runner.specs.Going.{Going}
-use Rattle.steps.specs.Effects.{registersBy, stackBy, holderBy, takenBy, effected, Does}
+use Rattle.runner.specs.Running.{Running}
+use Rattle.steps.specs.Effects.{Effect, registersBy, stackBy, holderBy, takenBy, effected, Does}
 use Rattle.states.proofs.Kept.{Executes, fit-kept}
 
 -- ---- the state
@@ -125,21 +122,6 @@ counts t k ks s s′ n n′ xs e f g =
 
 -- ---- the invariant
 
--- What holds before step i of a run: what is left of the order makes of the state now what the whole makes of the first one
-pub record Running (f t : List ℕ) (order list₀ : List ℕ) (s₀ : State) (cs₀ : List Registers) (places₀ offsets₀ : List ℕ)
-    (i : ℕ) (cs : List Registers) (places offsets : List ℕ) (h taken : ℕ) (d sh list : List ℕ) : Type 0 where
-  pub within : i ≤ length order
-  pub rest : run (taskOf f t) (drop i order) (stateIn f cs places offsets h d sh) ≡ run (taskOf f t) order s₀
-  pub listed : splice list taken (orderList (taskOf f t) (drop i order) (stateIn f cs places offsets h d sh)) ≡ splice list₀ 0 (orderList (taskOf f t) order s₀)
-  pub counted : taken + length (takings (taskOf f t) (drop i order) (stateIn f cs places offsets h d sh)) ≡ length (takings (taskOf f t) order s₀)
-  pub room : taken ≤ i
-  pub fit : Fit f t (stateIn f cs places offsets h d sh)
-  pub four : length cs ≡ 4
-  pub entries : (length places ≡ 64) × (length offsets ≡ 64)
-  pub buffer : length d ≡ total (sizesOf f)
-  pub list-length : length list ≡ length list₀
-  pub spare : (j : ℕ) → cores f ≤ j → (getD cs j none ≡ getD cs₀ j none) × (stackIn places offsets j ≡ stackIn places₀ offsets₀ j)
-
 -- the rest of the order from step i on: that step, then the rest
 rest-from : (order : List ℕ) (i k : ℕ) → i < length order → getD order i 0 ≡ k → drop i order ≡ k ∷ drop (i + 1) order
 rest-from order i k h e = drop-cons order i 0 h ∙ rw (e, ← add-one i)
@@ -200,12 +182,7 @@ module _ (f t : List ℕ) (ok : Set f t) (ex : Executes f t) (order list₀ : Li
       apart : (j : ℕ) → cores f ≤ j → j ≢ k
       apart j g u = omega arith
 
--- ---- the loop: the invariant with the cursor
-
-pub record Looping (f t : List ℕ) (order list₀ : List ℕ) (s₀ : State) (cs₀ : List Registers) (places₀ offsets₀ : List ℕ)
-    (i : ℕ) (cs : List Registers) (places offsets : List ℕ) (h taken : ℕ) (d sh list : List ℕ) (cursor : Cursor) : Type 0 where
-  pub running : Running f t order list₀ s₀ cs₀ places₀ offsets₀ i cs places offsets h taken d sh list
-  pub aimed : (k : ℕ) → k < cores f → h ≡ suc k → Aimed f k (getD cs k none) cursor
+-- ---- the order
 
 pub below-at : (n : ℕ) (order : List ℕ) (i : ℕ) → allBelow n order ≡ true → i < length order → getD order i 0 < n
 below-at n [] i e h = absurd (not-suc-le-zero h)

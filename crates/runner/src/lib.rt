@@ -1,16 +1,20 @@
 // The steps of an order, one after another.
 use exchange::Cursor;
+use protocol::EXECUTING;
+use protocol::Outcome;
 use protocol::Registers;
 use states::CoreTask;
 use states::State;
-use steps::Effect;
+use steps::Exchange;
 ghost use mathlib.Core.Path.{_≡_};
 ghost use mathlib.Core.Bool.{true};
 ghost use Prim.Native.Nat.{_+_, _*_, _<_, _≤_};
 ghost use lib.ListN.{length, getD, set};
 ghost use Rattle.records.specs.File.{cores};
 ghost use Rattle.runner.specs.Runs.{allBelow, left, ranCall};
+ghost use Rattle.states.specs.Tasks.{coreTask};
 ghost use Rattle.runner.specs.Going.{Going};
+ghost use Rattle.runner.specs.Running.{stepsOn, executingAt, Stands, Carries};
 
 // What a call that moves the machine answers: the refusal number, 0 for none; how many takings it wrote; the state.
 pub struct Ran {
@@ -61,6 +65,106 @@ fn core_at(file: &[u8], order: &[u8], i: usize) -> usize
     order[i] as usize
 }
 
+// The registers of a core with another place of execution. Field by field, so that a run loads only what it needs.
+fn executing_at(r: Registers, counter: u16, offset: u16, depth: u8, count: u16) -> Registers
+    ensures { λ s. ⌜ s ≡ executingAt r counter offset depth count ⌝ }
+{
+    Registers {
+        mode: r.mode,
+        counter,
+        offset,
+        depth,
+        count,
+        exchange: r.exchange,
+        cycles: r.cycles,
+        flags: r.flags,
+        time: r.time,
+    }
+}
+
+// Whether step i of an order is one of core k.
+fn stays(order: &[u8], i: usize, k: usize) -> bool
+    ensures { λ b. ⌜ b ≡ stepsOn (now (order .entry)) i k ⌝ }
+{
+    if order.len() <= i {
+        return false;
+    }
+    order[i] as usize == k
+}
+
+// What a stretch of instructions leaves: the step after them, and the registers.
+struct Reached {
+    step: usize,
+    registers: Registers,
+}
+
+// The instructions of core k with the registers `before`, from step `from` of the order on, for as long as it executes and the order stays
+// with it. What an instruction changes of the registers is kept in locals.
+fn run_core(
+    file: &[u8],
+    trace: &[u8],
+    c: CoreTask,
+    order: &[u8],
+    from: usize,
+    k: usize,
+    before: Registers,
+    places: &mut [u16; 64],
+    offsets: &mut [u16; 64],
+    buffer: &mut [u8],
+) -> Reached
+    requires { ⌜ Stands (now file) (now trace) (now order) from k before (now places) (now offsets) (now buffer) × (c ≡ coreTask (now file) (now trace) k) × (stepsOn (now order) from k ≡ true) × (before .mode ≡ 2) ⌝ }
+    ensures { λ x. ⌜ (from < x .step) × Carries (now (file .entry)) (now (trace .entry)) (now (order .entry)) k from before (now (places .entry)) (now (offsets .entry)) (now (buffer .entry)) (x .step) (x .registers) (now (places .exit)) (now (offsets .exit)) (now (buffer .exit)) ⌝ }
+{
+    let mut counter = before.counter;
+    let mut offset = before.offset;
+    let mut depth = before.depth;
+    let mut count = before.count;
+    let mut step = from;
+    let mut on = true;
+    while on {
+        let r = executing_at(before, counter, offset, depth, count);
+        let o = steps::instruction_of(r, k, c, file, trace, buffer);
+        step += 1;
+        match o {
+            Outcome::Fault(bit) => {
+                return Reached {
+                    step,
+                    registers: protocol::faulted(r, bit),
+                };
+            }
+            Outcome::Next(place) => {
+                counter = place;
+            }
+            Outcome::Call(next, target, instance) => {
+                set_entry(places, k, depth, next);
+                set_entry(offsets, k, depth, offset);
+                counter = target;
+                offset = instance;
+                depth += 1;
+            }
+            Outcome::Return => {
+                if depth == 0 {
+                    return Reached {
+                        step,
+                        registers: protocol::cycle_ended(r),
+                    };
+                }
+                depth -= 1;
+                counter = entry(places, k, depth);
+                offset = entry(offsets, k, depth);
+                set_entry(places, k, depth, 0);
+                set_entry(offsets, k, depth, 0);
+            }
+        }
+        count += 1;
+        on = stays(order, step, k);
+    }
+    Reached {
+        step,
+        registers: executing_at(before, counter, offset, depth, count),
+    }
+}
+
 // The steps of an order, one after another; everything is judged before.
 pub fn run_order(
     file: &[u8],
@@ -88,66 +192,81 @@ pub fn run_order(
     let mut i: usize = 0;
     while i < n {
         let k = core_at(file, order, i);
-        let c = tasks[k];
-        let z = steps::effect_of(cores[k], k, c, file, trace, buffer, shared, holder, cursor);
-        match z {
-            Effect::Idle => {}
-            Effect::ReadAcquired(time) => {
-                cores[k] = protocol::read_acquired(cores[k], time);
-                holder = k as u8 + 1;
-                cursor = exchange::start(file, first, end, 4 + k);
-                list[taken] = k as u8;
-                taken = taken + 1;
+        let mode = cores[k].mode;
+        if mode == EXECUTING {
+            let x = run_core(
+                file,
+                trace,
+                tasks[k],
+                order,
+                i,
+                k,
+                cores[k],
+                &mut places,
+                &mut offsets,
+                buffer,
+            );
+            let registers = x.registers;
+            cores[k] = registers;
+            i = x.step;
+        } else if steps::waits(mode, holder) {
+            // a loop of its own: most steps of waiting cores follow one another
+            let mut waiting = true;
+            while waiting {
+                i += 1;
+                waiting = false;
+                if i < n {
+                    let j = core_at(file, order, i);
+                    waiting = steps::waits(cores[j].mode, holder);
+                }
             }
-            Effect::ByteRead => {
-                cursor = exchange::onward(file, end, 4 + k, cores[k].exchange, cursor);
-                cores[k] = protocol::byte_copied(cores[k]);
+        } else {
+            let z = steps::exchange_of(
+                cores[k],
+                k,
+                tasks[k],
+                file,
+                trace,
+                buffer,
+                shared,
+                end,
+                cursor,
+            );
+            match z {
+                Exchange::Rests => {}
+                Exchange::ReadBegun(time) => {
+                    cores[k] = protocol::read_acquired(cores[k], time);
+                    holder = k as u8 + 1;
+                    cursor = exchange::start(file, first, end, 4 + k);
+                    list[taken] = k as u8;
+                    taken = taken + 1;
+                }
+                Exchange::ReadOn(next) => {
+                    cores[k] = protocol::byte_copied(cores[k]);
+                    cursor = next;
+                }
+                Exchange::ReadEnded => {
+                    cores[k] = protocol::read_released(cores[k]);
+                    holder = 0;
+                }
+                Exchange::WriteBegun => {
+                    cores[k] = protocol::write_acquired(cores[k]);
+                    holder = k as u8 + 1;
+                    cursor = exchange::start(file, first, end, k);
+                    list[taken] = 16 + k as u8;
+                    taken = taken + 1;
+                }
+                Exchange::WriteOn(next) => {
+                    cores[k] = protocol::byte_copied(cores[k]);
+                    cursor = next;
+                }
+                Exchange::WriteEnded => {
+                    cores[k] = protocol::write_released(cores[k]);
+                    holder = 0;
+                }
             }
-            Effect::ReadReleased => {
-                cores[k] = protocol::read_released(cores[k]);
-                holder = 0;
-            }
-            Effect::WriteAcquired => {
-                cores[k] = protocol::write_acquired(cores[k]);
-                holder = k as u8 + 1;
-                cursor = exchange::start(file, first, end, k);
-                list[taken] = 16 + k as u8;
-                taken = taken + 1;
-            }
-            Effect::ByteWritten => {
-                cursor = exchange::onward(file, end, k, cores[k].exchange, cursor);
-                cores[k] = protocol::byte_copied(cores[k]);
-            }
-            Effect::WriteReleased => {
-                cores[k] = protocol::write_released(cores[k]);
-                holder = 0;
-            }
-            Effect::Fault(bit) => {
-                cores[k] = protocol::faulted(cores[k], bit);
-            }
-            Effect::Next(place) => {
-                cores[k] = protocol::advanced(cores[k], place);
-            }
-            Effect::Call(next, target, offset) => {
-                let depth = cores[k].depth;
-                set_entry(&mut places, k, depth, next);
-                set_entry(&mut offsets, k, depth, cores[k].offset);
-                cores[k] = protocol::called(cores[k], target, offset);
-            }
-            Effect::Return(depth) => {
-                cores[k] = protocol::returned(
-                    cores[k],
-                    entry(&places, k, depth),
-                    entry(&offsets, k, depth),
-                );
-                set_entry(&mut places, k, depth, 0);
-                set_entry(&mut offsets, k, depth, 0);
-            }
-            Effect::CycleEnded => {
-                cores[k] = protocol::cycle_ended(cores[k]);
-            }
+            i += 1;
         }
-        i += 1;
     }
     let state = State {
         count: s.count,

@@ -1,24 +1,26 @@
 -- Each case of a step as an effect: what the functions of a step cite. In order: idle steps; readings; instructions; writings.
 -- Assumes nothing.
-use mathlib.Core.Path.{_≡_, refl, sym, ap, ap₂, _∙_, subst}
+use mathlib.Core.Path.{_≡_, refl, sym, ap, ap₂, _∙_, subst, subst⁻¹}
+use mathlib.Core.Bool.{Bool, true, false, not}
+use mathlib.Core.Logic.{_⊎_, inl, inr, ⊎-elim, _≢_}
 use mathlib.Core.List.{List, [], _∷_}
+use lib.Dec.{eqb}
 use Prim.Native.Nat.{ℕ, zero, suc, _+_, _-_, _≤_, _<_}
 use native.Mathlib.Omega.{arith}
 use lib.ListN.{length, take, drop}
 use lib.Seq.{getD-set-same, set-getD}
-use Rattle.verdict.specs.Verdict.{pick}
+use Rattle.verdict.specs.Verdict.{pick, either}
+use Rattle.verdict.proofs.Verdict.{both-true, absurd-bool}
 use Rattle.memory.specs.Memory.{splice}
 use Rattle.protocol.specs.declared.Registers.{Registers}
 use Rattle.protocol.specs.Registers.{readAcquired, byteCopied, readReleased, writeAcquired, writeReleased, faulted}
 use Rattle.protocol.specs.State.{Core, State, Task, Move, Sample, absent, core, mode, put}
-use Rattle.protocol.specs.Step.{copy, left, readTaken, readNext, readDone, writeTaken, writeNext, writeDone, takeRead, readOn, takeWrite, writeOn, stepIn, step, reading, writing, taken, takingOf}
-use borrow.Author.Tests.{ne-eqb}
-use Rattle.steps.specs.declared.Effect.{Effect}
-use Rattle.steps.specs.declared.Effect.the-variants.{Idle, ReadAcquired, ByteRead, ReadReleased, WriteAcquired, ByteWritten, WriteReleased, Fault, Next, Call, Return, CycleEnded}
+use Rattle.protocol.specs.Step.{copy, readTaken, readNext, readDone, writeTaken, writeNext, writeDone, takeRead, readOn, takeWrite, writeOn, stepIn, step, taken, takingOf}
+use borrow.Author.Tests.{ne-eqb, eqb-true, eqb-false}
 use Rattle.protocol.specs.declared.Outcome.{Outcome}
 use Rattle.protocol.specs.declared.Outcome.the-variants.{Fault as Failed, Next as Onward, Call as Calls, Return as Returns}
 use Rattle.protocol.specs.Instruction.{Executed, backFrom, appliedBy, applied}
-use Rattle.steps.specs.Effects.{registersBy, stackBy, holderBy, takenBy, effected, Takes, Does}
+use Rattle.steps.specs.Effects.{Effect, Idle, ReadAcquired, ByteRead, ReadReleased, WriteAcquired, ByteWritten, WriteReleased, backAt, effectOf, waiting, registersBy, stackBy, holderBy, takenBy, effected, Takes, Does}
 
 -- the hypotheses of `Does`: core k of the state
 record Here (k : ℕ) (r : Registers) (d sh : List ℕ) (h : ℕ) (s : State) : Type 0 where
@@ -133,6 +135,41 @@ does-waits t k r d sh h m e = idle t k r d sh h (λ s x. step-3 t k r d sh h s x
     go zero w s = absurd (omega arith)
     go (suc j) w s = refl
 
+-- either of them
+not-true : (b : Bool) → not b ≡ true → b ≡ false
+not-true true e = absurd-bool e
+not-true false e = refl
+
+one-true : (a b : Bool) → either a b ≡ true → (a ≡ true) ⊎ (b ≡ true)
+one-true true b e = inl refl
+one-true false b e = inr e
+
+pub does-wait : (t : Task) (k : ℕ) (r : Registers) (d sh : List ℕ) (h : ℕ) → waiting (r .mode) h ≡ true → Does t k r d sh h Idle d sh
+does-wait t k r d sh h w =
+    let a = both-true (not (eqb h 0)) (either (eqb (r .mode) 0) (eqb (r .mode) 3)) w in
+    let n : h ≢ 0 = eqb-false h 0 (not-true _ (a .0)) in
+    ⊎-elim (λ e. does-held t k r d sh h (eqb-true (r .mode) 0 e) (omega (arith, n))) (λ e. does-waits t k r d sh h (eqb-true (r .mode) 3 e) (omega (arith, n)))
+    (one-true (eqb (r .mode) 0) (eqb (r .mode) 3) (a .1))
+
+-- where a core of mode 0 or 3 does not wait, the semaphore is free
+free : (m h : ℕ) → either (eqb m 0) (eqb m 3) ≡ true → waiting m h ≡ false → h ≡ 0
+free m h e w = go (eqb h 0) refl
+  where
+    go : (b : Bool) → eqb h 0 ≡ b → h ≡ 0
+    go true q = eqb-true h 0 q
+    go false q =
+        let u : waiting m h ≡ true = rw (q, e) in
+        absurd-bool (sym w ∙ u)
+
+pub free-0 : (m h : ℕ) → m ≡ 0 → waiting m h ≡ false → h ≡ 0
+free-0 m h e = free m h (rw e)
+
+pub free-3 : (m h : ℕ) → m ≡ 3 → waiting m h ≡ false → h ≡ 0
+free-3 m h e = free m h (rw e)
+
+pub does-free : (t : Task) (k : ℕ) (r : Registers) (d sh : List ℕ) (h : ℕ) (z : Effect) (d′ sh′ : List ℕ) → h ≡ 0 → Does t k r d sh 0 z d′ sh′ → Does t k r d sh h z d′ sh′
+does-free t k r d sh h z d′ sh′ e = subst⁻¹ (λ (i : ℕ). Does t k r d sh i z d′ sh′) e
+
 -- mode 5, stopped
 pub does-stopped : (t : Task) (k : ℕ) (r : Registers) (d sh : List ℕ) (h : ℕ) → 5 ≤ r .mode → Does t k r d sh h Idle d sh
 unfolding pick
@@ -204,17 +241,6 @@ does-write-acquired t k r d sh m =
 
 -- ---- instructions
 
--- an outcome at a depth as an effect
-abbrev pub backAt : ℕ → Effect
-backAt zero = CycleEnded
-backAt (suc d) = Return d
-
-abbrev pub effectOf : ℕ → Outcome → Effect
-effectOf depth (Failed b) = Fault b
-effectOf depth (Onward p) = Next p
-effectOf depth (Calls next target offset) = Call next target offset
-effectOf depth Returns = backAt depth
-
 -- what an outcome does to a core is what its effect does; a fault leaves the data
 abbrev pub Leaves : Outcome → List ℕ → List ℕ → Type 0
 Leaves (Failed b) m d = m ≡ d
@@ -254,16 +280,16 @@ no-taking n (Calls next target offset) k = refl
 no-taking n Returns k = back-taking n k
 
 -- mode 2: what the instruction answers, with the limit tried first
-pub does-instruction : (t : Task) (k : ℕ) (r : Registers) (d sh : List ℕ) (h : ℕ) (x : Executed) (z : Effect) (d′ : List ℕ) → r .mode ≡ 2
+pub does-instruction : (t : Task) (k : ℕ) (r : Registers) (d sh : List ℕ) (h : ℕ) (x : Executed) (d′ : List ℕ) → r .mode ≡ 2
     → ((c : Core) → c .registers ≡ r → c .memory ≡ d → t .instruction k c ≡ applied x c)
-    → z ≡ effectOf (r .depth) (x .outcome) → d′ ≡ x .memory → Leaves (x .outcome) (x .memory) d → Takes r z → Does t k r d sh h z d′ sh
+    → d′ ≡ x .memory → Leaves (x .outcome) (x .memory) d → Takes r (effectOf (r .depth) (x .outcome)) → Does t k r d sh h (effectOf (r .depth) (x .outcome)) d′ sh
 unfolding pick effected applied
-does-instruction t k r d sh h x z d′ m f e q l y =
-    does t k r d sh h z d′ sh
-    (λ s w. ap (λ (u : Effect). effected u k d′ sh s) (e ∙ ap (λ (u : Registers). effectOf (u .depth) (x .outcome)) (sym (w .registers)))
+does-instruction t k r d sh h x d′ m f q l y =
+    does t k r d sh h (effectOf (r .depth) (x .outcome)) d′ sh
+    (λ s w. ap (λ (u : Registers). effected (effectOf (u .depth) (x .outcome)) k d′ sh s) (sym (w .registers))
     ∙ with-lists (effectOf (core (s .plant) k .registers .depth) (x .outcome)) k s d′ sh (x .memory) (s .plant .shared) q (sym (w .shared))
     ∙ ap₂ (λ (u : Core) (v : ℕ). record { plant = put (s .plant) k u; holder = v })
     (outcome-effect (x .outcome) (x .memory) (core (s .plant) k) (subst (Leaves (x .outcome) (x .memory)) (sym (w .memory)) l) ∙ sym (f (core (s .plant) k) (w .registers) (w .memory)))
     (same-holder (core (s .plant) k .registers .depth) (x .outcome) k (s .holder))
     ∙ sym (step-2 t k r d sh h s w m))
-    (λ c u. rw m (sym (ap (λ (v : Effect). takenBy v k) e ∙ no-taking (r .depth) (x .outcome) k))) y
+    (λ c u. rw m (sym (no-taking (r .depth) (x .outcome) k))) y

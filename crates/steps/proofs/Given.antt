@@ -1,16 +1,15 @@
 -- Each case of a step, from what the functions of a step are given of their core (`Ready`). In order: input records; what an instruction
--- answers; waiting to write; the cases with the core's task: the record of a cycle, the bytes of an exchange, the instruction; the data of
+-- answers; the cases with the core's task: the record of a cycle, the bytes of an exchange, the instruction; the data of
 -- core k in the buffer of all. Assumes nothing.
 use mathlib.Core.Path.{_≡_, refl, sym, ap, ap₂, _∙_, subst, subst⁻¹}
 use mathlib.Core.Logic.{_≢_}
 use mathlib.Core.List.{List, [], _∷_, _++_}
 use Prim.Native.Nat.{ℕ, zero, suc, _+_, _-_, _*_, _≤_, _<_}
 use native.Mathlib.Omega.{arith}
-use borrow.Author.Tests.{eq-eqb, ne-eqb, eqb-true, eqb-false}
+use borrow.Author.Tests.{eq-eqb, ne-eqb}
 use lib.Dec.{eqb}
 use lib.ListN.{length, getD, set, take, drop, drop-of-length-le}
 use lib.Seq.{drop-cons, drop-drop, map-set-same}
-use Rattle.verdict.specs.Verdict.{pick}
 use Rattle.verdict.proofs.Verdict.{pick-true, pick-false, by-pick}
 use Rattle.memory.specs.Memory.{splice, part, readLE, start, total, split}
 use Rattle.memory.proofs.Cores.{split-at, flat-set, split-flat-of, lengths-split, start-end}
@@ -26,7 +25,6 @@ use Rattle.taskset.specs.Judge.{codeOf}
 use Rattle.taskset.specs.Trace.{recordCount, samplePlace}
 use Rattle.taskset.specs.Task.{sizesOf, variablesOf, sampleAt, samplesOf}
 use Rattle.taskset.proofs.Accepted.{length-listed, listed-at, core-facts}
-use Rattle.exchange.specs.declared.Cursor.{Cursor}
 use Rattle.exchange.specs.Laid.{exchangeBytes}
 use Rattle.exchange.proofs.Moves.{left-more, left-last, left-none}
 use Rattle.exchange.proofs.Cursors.{length-reads, length-writes}
@@ -40,11 +38,9 @@ use Rattle.processor.proofs.Kept.{executed-leads}
 use Rattle.states.specs.declared.CoreTask.{CoreTask}
 use Rattle.states.specs.Task.{taskOf}
 use Rattle.states.specs.Tasks.{coreTask}
-use Rattle.steps.specs.declared.Effect.{Effect}
-use Rattle.steps.specs.declared.Effect.the-variants.{Idle, ReadAcquired, ByteRead, ReadReleased, WriteAcquired, ByteWritten, WriteReleased, Fault, Return}
-use Rattle.steps.specs.Effects.{Takes, Does, Alone, More, Steps}
-use Rattle.steps.specs.Moving.{Ready, Moving}
-use Rattle.steps.proofs.Does.{does-spent, does-waits, does-write-acquired, does-read-acquired, does-byte-read, does-read-released, does-byte-written, does-write-released, effectOf, backAt, Leaves, does-instruction}
+use Rattle.steps.specs.Effects.{Effect, Idle, ReadAcquired, ByteRead, ReadReleased, ByteWritten, WriteReleased, backAt, effectOf, Takes, Does, Alone, Steps}
+use Rattle.steps.specs.Moving.{Ready}
+use Rattle.steps.proofs.Does.{does-spent, does-read-acquired, does-byte-read, does-read-released, does-byte-written, does-write-released, Leaves, does-instruction}
 
 -- ---- input records
 
@@ -89,31 +85,6 @@ takes-outcome r c size (Onward p) a h l = h
 takes-outcome r c size (Calls next target offset) a h l = (h, a .3)
 takes-outcome r c size Returns a h l = back-takes r (r .depth) refl h l
 
-back-more : (f : List ℕ) (k : ℕ) (r : Registers) (n : ℕ) → More f k r (backAt n)
-back-more f k r zero = tt
-back-more f k r (suc n) = tt
-
-more-outcome : (f : List ℕ) (k : ℕ) (r : Registers) (n : ℕ) (o : Outcome) → More f k r (effectOf n o)
-more-outcome f k r n (Failed b) = tt
-more-outcome f k r n (Onward p) = tt
-more-outcome f k r n (Calls next target offset) = tt
-more-outcome f k r n Returns = back-more f k r n
-
--- RETURN below the first call
-pub back-below : (n : ℕ) → 0 < n → Return (n - 1) ≡ backAt n
-back-below zero h = absurd (omega arith)
-back-below (suc n) h = ap Return (let e : suc n - 1 ≡ n = omega arith in e)
-
--- ---- mode 3: waiting to write
-
-pub waiting : (f t : List ℕ) (k : ℕ) (r : Registers) (d sh : List ℕ) (h : ℕ) (z : Effect) → r .mode ≡ 3 → z ≡ pick (eqb h 0) WriteAcquired Idle
-    → Does (taskOf f t) k r d sh h z d sh × More f k r z
-waiting f t k r d sh h z m e =
-    subst⁻¹ (λ (u : Effect). Does (taskOf f t) k r d sh h u d sh × More f k r u) e
-    (by-pick (λ (u : Effect). Does (taskOf f t) k r d sh h u d sh × More f k r u) (eqb h 0) WriteAcquired Idle
-    (λ q. (subst⁻¹ (λ (i : ℕ). Does (taskOf f t) k r d sh i WriteAcquired d sh) (eqb-true h 0 q) (does-write-acquired (taskOf f t) k r d sh m), tt))
-    (λ q. (does-waits (taskOf f t) k r d sh h m (let n : (h ≡ 0 → ⊥) = eqb-false h 0 q in omega arith), tt)))
-
 -- ---- the cases with the core's task
 
 module _ {f t : List ℕ} {k : ℕ} {c : CoreTask} {r : Registers} {d : List ℕ} (w : Ready f t k c r d) where
@@ -142,20 +113,19 @@ module _ {f t : List ℕ} {k : ℕ} {c : CoreTask} {r : Registers} {d : List ℕ
   unfolding taskOf
   spent h m l sh = does-spent (taskOf f t) k r d sh h m (samples-spent f t k (r .cycles) (omega (arith, count-is)))
 
-  pub read-acquired : (h time place : ℕ) (d′ : List ℕ) → h ≡ 0 → r .mode ≡ 0 → r .cycles < c .count → place ≡ c .records + r .cycles * (4 + c .inputs)
-      → time ≡ readLE t place 4 → d′ ≡ splice d 0 (part t (place + 4) (c .inputs)) → Alone f t k r d h (ReadAcquired time) d′
+  pub read-acquired : (time place : ℕ) (d′ : List ℕ) → r .mode ≡ 0 → r .cycles < c .count → place ≡ c .records + r .cycles * (4 + c .inputs)
+      → time ≡ readLE t place 4 → d′ ≡ splice d 0 (part t (place + 4) (c .inputs)) → Alone f t k r d 0 (ReadAcquired time) d′
   unfolding taskOf sampleAt
-  read-acquired h time place d′ z m l p e g sh =
-      subst⁻¹ (λ (i : ℕ). Does (taskOf f t) k r d sh i (ReadAcquired time) d′ sh) z
-      (does-read-acquired (taskOf f t) k r d sh (sampleAt f t k (r .cycles)) (drop (suc (r .cycles)) (samplesOf f t k)) time d′ m
+  read-acquired time place d′ m l p e g sh =
+      does-read-acquired (taskOf f t) k r d sh (sampleAt f t k (r .cycles)) (drop (suc (r .cycles)) (samplesOf f t k)) time d′ m
       (samples-left f t k (r .cycles) (omega (arith, count-is)))
       (e ∙ ap (λ (q : ℕ). readLE t q 4) (p ∙ record-is))
-      (g ∙ ap₂ (λ (q n : ℕ). splice d 0 (part t (q + 4) n)) (p ∙ record-is) inputs-are))
+      (g ∙ ap₂ (λ (q n : ℕ). splice d 0 (part t (q + 4) n)) (p ∙ record-is) inputs-are)
 
   -- ---- modes 1 and 4: the bytes of an exchange
 
-  four : k < 4
-  four = omega (arith, w .known, w .accepted .few)
+  pub core-few : k < 4
+  core-few = omega (arith, w .known, w .accepted .few)
 
   reads-are : c .reads ≡ length (readsOf (variablesOf f) k)
   unfolding coreTask
@@ -166,10 +136,10 @@ module _ {f t : List ℕ} {k : ℕ} {c : CoreTask} {r : Registers} {d : List ℕ
   writes-are = ap (λ (x : CoreTask). x .writes) (w .task)
 
   pub reads-left : r .exchange < c .reads → r .exchange < exchangeBytes f (4 + k)
-  reads-left h = omega (arith, reads-are, length-reads f k four)
+  reads-left h = omega (arith, reads-are, length-reads f k core-few)
 
   pub writes-left : r .exchange < c .writes → r .exchange < exchangeBytes f k
-  writes-left h = omega (arith, writes-are, length-writes f k four)
+  writes-left h = omega (arith, writes-are, length-writes f k core-few)
 
   cycles-few : r .mode ≡ 4 → r .cycles < 65535
   cycles-few m = omega (arith, w .fit .under-way (omega arith) (omega arith), w .accepted .counts k)
@@ -256,23 +226,21 @@ module _ {f t : List ℕ} {k : ℕ} {c : CoreTask} {r : Registers} {d : List ℕ
         (pick-false _ _ _ (ne-eqb (x .registers .count) (limit f k) (λ z. n (sym (ap (λ (u : Registers). u .count) p) ∙ z ∙ sym limit-is)))
         ∙ ap₂ (executed (codeOf f k)) p q)
 
-  pub limit-reached : (h : ℕ) → r .mode ≡ 2 → r .count ≡ c .limit → Alone f t k r d h (Fault 1) d
+  pub limit-reached : (h : ℕ) → r .mode ≡ 2 → r .count ≡ c .limit → Alone f t k r d h (effectOf (r .depth) (Failed 1)) d
   limit-reached h m e sh =
-      does-instruction (taskOf f t) k r d sh h (halted 1 d) (Fault 1) d m (λ x p q. at-limit x p q e) refl refl refl (omega arith)
+      does-instruction (taskOf f t) k r d sh h (halted 1 d) d m (λ x p q. at-limit x p q e) refl refl (omega arith)
 
-  pub instruction-done : (h e : ℕ) (o : Outcome) (z : Effect) (d′ : List ℕ) → r .mode ≡ 2 → r .count ≢ c .limit → e ≡ c .code + c .length
-      → answer o d′ ≡ executed (take (e - c .code) (drop (c .code) f)) r d → z ≡ effectOf (r .depth) o → Alone f t k r d h z d′ × More f k r z
-  instruction-done h e o z d′ m n p a g =
+  pub instruction-done : (h e : ℕ) (o : Outcome) (d′ : List ℕ) → r .mode ≡ 2 → r .count ≢ c .limit → e ≡ c .code + c .length
+      → answer o d′ ≡ executed (take (e - c .code) (drop (c .code) f)) r d → Alone f t k r d h (effectOf (r .depth) o) d′
+  instruction-done h e o d′ m n p a sh =
       let b : answer o d′ ≡ executed (codeOf f k) r d = a ∙ ap (λ (u : List ℕ). executed u r d) (code-is e p) in
       let offset : r .offset < length d = omega (arith, w .fit .placed .offset, w .fit .size) in
       let leads : Leads (codeOf f k) (length d) (r .depth) o = subst⁻¹ (λ (y : Executed). Leads (codeOf f k) (length d) (r .depth) (y .outcome)) b
       (executed-leads (codeOf f k) r d offset (w .fit .placed .depth) (w .accepted .code k (w .known)) (w .fit .placed .counter)) in
-      let count : r .count < 65535 = omega (arith, w .fit .counts, w .accepted .limits k (w .known), limit-is) in (
-        (λ sh. does-instruction (taskOf f t) k r d sh h (answer o d′) z d′ m (λ x u v. below-limit x u v n ∙ ap (λ (y : Executed). applied y x) (sym b)) g refl
-            (subst⁻¹ (λ (y : Executed). Leaves (y .outcome) (y .memory) d) b (executed-leaves (codeOf f k) r d))
-            (subst⁻¹ (Takes r) g (takes-outcome r (codeOf f k) (length d) o leads count (w .fit .placed .depth)))),
-        subst⁻¹ (More f k r) g (more-outcome f k r (r .depth) o),
-      )
+      let count : r .count < 65535 = omega (arith, w .fit .counts, w .accepted .limits k (w .known), limit-is) in
+      does-instruction (taskOf f t) k r d sh h (answer o d′) d′ m (λ x u v. below-limit x u v n ∙ ap (λ (y : Executed). applied y x) (sym b)) refl
+      (subst⁻¹ (λ (y : Executed). Leaves (y .outcome) (y .memory) d) b (executed-leaves (codeOf f k) r d))
+      (takes-outcome r (codeOf f k) (length d) o leads count (w .fit .placed .depth))
 
 -- ---- the data of core k in the buffer of all
 
@@ -284,44 +252,43 @@ stretch-set ns s m k a e h n p q l =
     ap (split ns) (ap₂ (λ (i : ℕ) (u : List ℕ). take i s ++ (m ++ u)) p (drop-drop (e - a) a s ∙ ap (λ (i : ℕ). drop i s) z) ∙ sym (flat-set ns s k m h (sym n)))
     ∙ split-flat-of ns (set (split ns s) k m) (map-set-same length (split ns s) k m [] l ∙ lengths-split ns s (omega arith))
 
-module _ {f t : List ℕ} {k : ℕ} {c : CoreTask} {r : Registers} {d sh : List ℕ} {cursor : Cursor} (w : Moving f t k c r d sh cursor) where
+module _ {f t : List ℕ} {k : ℕ} {c : CoreTask} {r : Registers} (d : List ℕ) (w : Ready f t k c r (getD (split (sizesOf f) d) k [])) (n : length d ≡ total (sizesOf f)) where
   size-at : getD (sizesOf f) k 0 ≡ dataSize f k
   unfolding sizesOf
-  size-at = listed-at (dataSize f) (cores f) k 0 (w .ready .known)
+  size-at = listed-at (dataSize f) (cores f) k 0 (w .known)
 
   core-at : k < length (sizesOf f)
   unfolding sizesOf
-  core-at = omega (arith, length-listed (dataSize f) (cores f) 0, w .ready .known)
+  core-at = omega (arith, length-listed (dataSize f) (cores f) 0, w .known)
 
   base-is : c .base ≡ start (sizesOf f) k
   unfolding coreTask
-  base-is = ap (λ (x : CoreTask). x .base) (w .ready .task)
+  base-is = ap (λ (x : CoreTask). x .base) (w .task)
 
   size-is : c .size ≡ getD (sizesOf f) k 0
   unfolding coreTask
-  size-is = ap (λ (x : CoreTask). x .size) (w .ready .task) ∙ sym size-at
+  size-is = ap (λ (x : CoreTask). x .size) (w .task) ∙ sym size-at
 
   pub stretch-inside : c .base + c .size ≤ length d
-  stretch-inside = omega (arith, base-is, size-is, start-end (sizesOf f) k core-at, w .buffer)
+  stretch-inside = omega (arith, base-is, size-is, start-end (sizesOf f) k core-at, n)
 
   module _ (e : ℕ) (p : e ≡ c .base + c .size) where
     pub stretch-is : take (e - c .base) (drop (c .base) d) ≡ getD (split (sizesOf f) d) k []
     stretch-is =
-        let n : e - c .base ≡ getD (sizesOf f) k 0 = omega (arith, size-is) in
-        ap₂ (λ (i j : ℕ). take i (drop j d)) n base-is ∙ sym (split-at (sizesOf f) d k core-at)
+        let l : e - c .base ≡ getD (sizesOf f) k 0 = omega (arith, size-is) in
+        ap₂ (λ (i j : ℕ). take i (drop j d)) l base-is ∙ sym (split-at (sizesOf f) d k core-at)
 
     pub stretch-kept : (m : List ℕ) → length m ≡ length (take (e - c .base) (drop (c .base) d))
         → split (sizesOf f) (take (c .base) d ++ (m ++ drop (e - c .base) (drop (c .base) d))) ≡ set (split (sizesOf f) d) k m
     stretch-kept m l =
-        stretch-set (sizesOf f) d m k (c .base) e core-at (w .buffer) base-is (omega (arith, size-is)) (l ∙ ap length stretch-is)
+        stretch-set (sizesOf f) d m k (c .base) e core-at (n) base-is (omega (arith, size-is)) (l ∙ ap length stretch-is)
 
     -- the step in the stretch is the step in the buffer
-    pub steps-in : (h : ℕ) (z : Effect) (m sh′ : List ℕ) → Does (taskOf f t) k r (take (e - c .base) (drop (c .base) d)) sh h z m sh′ × More f k r z
+    pub steps-in : (h : ℕ) (z : Effect) (m sh sh′ : List ℕ) → Does (taskOf f t) k r (take (e - c .base) (drop (c .base) d)) sh h z m sh′
         → length m ≡ length (take (e - c .base) (drop (c .base) d))
         → Steps f t k r d sh h z (take (c .base) d ++ (m ++ drop (e - c .base) (drop (c .base) d))) sh′
-    steps-in h z m sh′ q l = record {
+    steps-in h z m sh sh′ q l = record {
       memory = m;
-      does = subst (λ (u : List ℕ). Does (taskOf f t) k r u sh h z m sh′) stretch-is (q .0);
-      more = q .1;
+      does = subst (λ (u : List ℕ). Does (taskOf f t) k r u sh h z m sh′) stretch-is q;
       kept = stretch-kept m l;
     }

@@ -1,20 +1,71 @@
 -- One step as an effect: what it does to a core's registers and call stack, to the semaphore and to the order list. Its memory is written at
--- once, so an effect comes with the data and the shared memory afterwards. In order: the parts; the whole; what a step's function promises.
+-- once, so an effect comes with the data and the shared memory afterwards. In order: the effects, and what answers them; the parts; the whole;
+-- what a step's function promises.
 use mathlib.Core.Path.{_≡_}
 use mathlib.Core.List.{List, [], _∷_}
-use Prim.Native.Nat.{ℕ, suc, _+_, _<_}
+use mathlib.Core.Bool.{Bool, false, not}
+use Prim.Native.Nat.{ℕ, zero, suc, _+_, _<_}
+use lib.Dec.{eqb}
 use lib.ListN.{length, set, getD}
 use Rattle.protocol.specs.declared.Registers.{Registers}
 use Rattle.protocol.specs.declared.Stack.{Stack}
+use Rattle.protocol.specs.declared.Outcome.{Outcome}
+use Rattle.protocol.specs.declared.Outcome.the-variants.{Fault as Failed, Next as Onward, Call as Calls, Return as Returns}
 use Rattle.protocol.specs.Registers.{readAcquired, byteCopied, readReleased, writeAcquired, writeReleased, advanced, called, returned, cycleEnded, faulted, pushed, popped}
 use Rattle.protocol.specs.State.{Core, State, Task, core}
 use Rattle.protocol.specs.Step.{step, Taking, reading, writing, takingOf}
 use Rattle.memory.specs.Memory.{split}
 use Rattle.taskset.specs.Task.{sizesOf}
-use Rattle.exchange.specs.Laid.{exchangeBytes}
+use Rattle.verdict.specs.Verdict.{both, either}
+use Rattle.exchange.specs.Exchange.{At}
 use Rattle.states.specs.Task.{taskOf}
-use Rattle.steps.specs.declared.Effect.{Effect}
-use Rattle.steps.specs.declared.Effect.the-variants.{Idle, ReadAcquired, ByteRead, ReadReleased, WriteAcquired, ByteWritten, WriteReleased, Fault, Next, Call, Return, CycleEnded}
+use Rattle.steps.specs.declared.Exchange.{Exchange}
+use Rattle.steps.specs.declared.Exchange.the-variants.{Rests, ReadBegun, ReadOn, ReadEnded, WriteBegun, WriteOn, WriteEnded}
+
+-- ---- the effects
+
+pub data Effect : Type 0 where
+  Idle : Effect
+  -- a reading takes the semaphore, with the time of its record; one byte of it; its release
+  ReadAcquired : ℕ → Effect
+  ByteRead : Effect
+  ReadReleased : Effect
+  -- the same of a writing
+  WriteAcquired : Effect
+  ByteWritten : Effect
+  WriteReleased : Effect
+  -- the outcomes of an instruction; RETURN goes to the entry of the call stack with this number, or ends the cycle
+  Fault : ℕ → Effect
+  Next : ℕ → Effect
+  Call : ℕ → ℕ → ℕ → Effect
+  Return : ℕ → Effect
+  CycleEnded : Effect
+
+-- RETURN at a depth
+abbrev pub backAt : ℕ → Effect
+backAt zero = CycleEnded
+backAt (suc d) = Return d
+
+-- what an instruction answers at a depth, as an effect
+abbrev pub effectOf : ℕ → Outcome → Effect
+effectOf depth (Failed b) = Fault b
+effectOf depth (Onward p) = Next p
+effectOf depth (Calls next target offset) = Call next target offset
+effectOf depth Returns = backAt depth
+
+-- what a step between two instructions answers
+abbrev pub exchanged : Exchange → Effect
+exchanged Rests = Idle
+exchanged (ReadBegun time) = ReadAcquired time
+exchanged (ReadOn cursor) = ByteRead
+exchanged ReadEnded = ReadReleased
+exchanged WriteBegun = WriteAcquired
+exchanged (WriteOn cursor) = ByteWritten
+exchanged WriteEnded = WriteReleased
+
+-- a core that waits for the semaphore while another holds it: modes 0 and 3
+abbrev pub waiting : ℕ → ℕ → Bool
+waiting mode holder = both (not (eqb holder 0)) (either (eqb mode 0) (eqb mode 3))
 
 -- ---- the parts
 
@@ -117,24 +168,32 @@ pub record Does (t : Task) (k : ℕ) (r : Registers) (d sh : List ℕ) (holder :
 abbrev pub Alone : List ℕ → List ℕ → ℕ → Registers → List ℕ → ℕ → Effect → List ℕ → Type 0
 Alone f t k r d holder z d′ = (sh : List ℕ) → Does (taskOf f t) k r d sh holder z d′ sh
 
--- where a byte was copied and others are left, the core is in that exchange, which has more bytes
-abbrev pub More : List ℕ → ℕ → Registers → Effect → Type 0
-More f k r Idle = Unit {0}
-More f k r (ReadAcquired time) = Unit {0}
-More f k r ByteRead = (r .mode ≡ 1) × (r .exchange < exchangeBytes f (4 + k))
-More f k r ReadReleased = Unit {0}
-More f k r WriteAcquired = Unit {0}
-More f k r ByteWritten = (r .mode ≡ 4) × (r .exchange < exchangeBytes f k)
-More f k r WriteReleased = Unit {0}
-More f k r (Fault b) = Unit {0}
-More f k r (Next p) = Unit {0}
-More f k r (Call next target offset) = Unit {0}
-More f k r (Return d) = Unit {0}
-More f k r CycleEnded = Unit {0}
+-- where a byte was copied and others are left, the core is in that exchange, and the cursor stands at the next byte
+abbrev pub More : List ℕ → ℕ → Registers → Exchange → Type 0
+More f k r Rests = Unit {0}
+More f k r (ReadBegun time) = Unit {0}
+More f k r (ReadOn cursor) = (r .mode ≡ 1) × At f (4 + k) (r .exchange + 1) cursor
+More f k r ReadEnded = Unit {0}
+More f k r WriteBegun = Unit {0}
+More f k r (WriteOn cursor) = (r .mode ≡ 4) × At f k (r .exchange + 1) cursor
+More f k r WriteEnded = Unit {0}
+
+-- an instruction that answers o, whoever holds the semaphore
+abbrev pub Instructs : List ℕ → List ℕ → ℕ → Registers → List ℕ → Outcome → List ℕ → Type 0
+Instructs f t k r d o d′ = (h : ℕ) → Alone f t k r d h (effectOf (r .depth) o) d′
+
+-- another step that answers z, of a core that does not wait
+abbrev pub Exchanges : List ℕ → List ℕ → ℕ → Registers → List ℕ → List ℕ → Exchange → List ℕ → List ℕ → Type 0
+Exchanges f t k r d sh z d′ sh′ = ((h : ℕ) → waiting (r .mode) h ≡ false → Does (taskOf f t) k r d sh h (exchanged z) d′ sh′) × More f k r z
 
 -- The same in the data buffer of all cores: the data of core k change, those of the others stay
 pub record Steps (f t : List ℕ) (k : ℕ) (r : Registers) (d sh : List ℕ) (holder : ℕ) (z : Effect) (d′ sh′ : List ℕ) : Type 0 where
   pub memory : List ℕ
   pub does : Does (taskOf f t) k r (getD (split (sizesOf f) d) k []) sh holder z memory sh′
-  pub more : More f k r z
   pub kept : split (sizesOf f) d′ ≡ set (split (sizesOf f) d) k memory
+
+abbrev pub InstructsIn : List ℕ → List ℕ → ℕ → Registers → List ℕ → Outcome → List ℕ → Type 0
+InstructsIn f t k r d o d′ = (h : ℕ) (sh : List ℕ) → Steps f t k r d sh h (effectOf (r .depth) o) d′ sh
+
+abbrev pub ExchangesIn : List ℕ → List ℕ → ℕ → Registers → List ℕ → List ℕ → Exchange → List ℕ → List ℕ → Type 0
+ExchangesIn f t k r d sh z d′ sh′ = ((h : ℕ) → waiting (r .mode) h ≡ false → Steps f t k r d sh h (exchanged z) d′ sh′) × More f k r z

@@ -6,10 +6,9 @@ use lib.ListN.{length, getD}
 use Rattle.memory.specs.Memory.{total, split}
 use Rattle.protocol.specs.declared.Registers.{Registers}
 use Rattle.protocol.specs.declared.Stack.{Stack}
-use Rattle.protocol.specs.State.{core}
 use Rattle.exchange.specs.declared.Cursor.{Cursor}
 use Rattle.exchange.specs.Exchange.{At}
-use Rattle.records.specs.File.{cores}
+use Rattle.records.specs.File.{cores, variables, recordPlace}
 use Rattle.taskset.specs.Task.{sizesOf}
 use Rattle.states.specs.declared.CoreTask.{CoreTask}
 use Rattle.states.specs.Tasks.{coreTask}
@@ -32,8 +31,9 @@ pub record Aimed (f : List ℕ) (k : ℕ) (r : Registers) (cursor : Cursor) : Ty
   pub writing : r .mode ≡ 4 → At f k (r .exchange) cursor
 
 -- the same with the data buffer d of all cores
-pub record Moving (f t : List ℕ) (k : ℕ) (c : CoreTask) (r : Registers) (d sh : List ℕ) (cursor : Cursor) : Type 0 where
+pub record Moving (f t : List ℕ) (k : ℕ) (c : CoreTask) (r : Registers) (d sh : List ℕ) (end : ℕ) (cursor : Cursor) : Type 0 where
   pub ready : Ready f t k c r (getD (split (sizesOf f) d) k [])
   pub buffer : length d ≡ total (sizesOf f)
   pub shared : length sh ≡ 1024
   pub aimed : Aimed f k r cursor
+  pub upto : end ≡ recordPlace f (variables f)

@@ -6,38 +6,47 @@ use protocol::Outcome;
 use protocol::Registers;
 use states::CoreTask;
 ghost use mathlib.Core.Path.{_≡_};
+ghost use mathlib.Core.List.{[]};
+ghost use mathlib.Core.Logic.{_≢_};
 ghost use Prim.Native.Nat.{_+_};
-ghost use lib.Dec.{eqb};
-ghost use lib.ListN.{length};
-ghost use Rattle.verdict.specs.Verdict.{pick};
+ghost use lib.ListN.{length, getD};
+ghost use Rattle.memory.specs.Memory.{total, split};
 ghost use Rattle.exchange.specs.Exchange.{At};
-ghost use Rattle.states.specs.Task.{taskOf};
-ghost use Rattle.steps.specs.Effects.{Does, Alone, More, Steps};
+ghost use Rattle.records.specs.File.{variables, recordPlace};
+ghost use Rattle.taskset.specs.Task.{sizesOf};
+ghost use Rattle.steps.specs.Effects.{exchanged, waiting, Alone, More, Instructs, Exchanges, InstructsIn, ExchangesIn};
 ghost use Rattle.steps.specs.Moving.{Ready, Aimed, Moving};
 
-// What one step of a core changes besides memory; `run` applies it to the core in its table.
-pub enum Effect {
-    Idle,
-    // a reading takes the semaphore, with the time of its record; one byte of it; its release
-    ReadAcquired(u32),
-    ByteRead,
-    ReadReleased,
+// What one step besides the instructions changes, apart from memory; the run applies it to the core in its table.
+pub enum Exchange {
+    // nothing: the input records are spent, or the core is stopped
+    Rests,
+    // a reading takes the semaphore, with the time of its record; one byte of it, and where the next one stands; its release
+    ReadBegun(u32),
+    ReadOn(Cursor),
+    ReadEnded,
     // the same of a writing
-    WriteAcquired,
-    ByteWritten,
-    WriteReleased,
-    // the outcomes of an instruction
-    Fault(u8),
-    Next(u16),
-    Call(u16, u16, u16),
-    // to the entry of the call stack with this number
-    Return(u8),
-    CycleEnded,
+    WriteBegun,
+    WriteOn(Cursor),
+    WriteEnded,
 }
 
 // ---- one step of core k, by its mode: c is its task, r its registers, d its data
 
-// Mode 0: nothing, if the semaphore is held or the input records are spent; else time and inputs of the record of this cycle.
+// Modes 0 and 3: nothing, if the semaphore is held. Told from two bytes, since most steps of waiting cores are such.
+pub fn waits(mode: u8, holder: u8) -> bool
+    ensures { λ w. ⌜ w ≡ waiting mode holder ⌝ }
+{
+    if holder == 0 {
+        return false;
+    }
+    if mode == 0 {
+        return true;
+    }
+    mode == 3
+}
+
+// Mode 0, the semaphore free: nothing, if the input records are spent; else time and inputs of the record of this cycle.
 fn begin_reading(
     r: Registers,
     k: usize,
@@ -45,21 +54,17 @@ fn begin_reading(
     file: &[u8],
     trace: &[u8],
     d: &mut [u8],
-    holder: u8,
-) -> Effect
+) -> Exchange
     requires { ⌜ Ready (now file) (now trace) k c r (now d) × (r .mode ≡ 0) ⌝ }
-    ensures { λ z. ⌜ Alone (now (file .entry)) (now (trace .entry)) k r (now (d .entry)) holder z (now (d .exit)) × More (now (file .entry)) k r z ⌝ }
+    ensures { λ z. ⌜ Alone (now (file .entry)) (now (trace .entry)) k r (now (d .entry)) 0 (exchanged z) (now (d .exit)) × More (now (file .entry)) k r z ⌝ }
 {
-    if holder != 0 {
-        return Effect::Idle;
-    }
     let cycles = r.cycles as usize;
     if c.count <= cycles {
-        return Effect::Idle;
+        return Exchange::Rests;
     }
     let place = c.records + cycles * (4 + c.inputs);
     memory::copy(d, 0, trace, place + 4, c.inputs);
-    Effect::ReadAcquired(memory::load(trace, place, 4) as u32)
+    Exchange::ReadBegun(memory::load(trace, place, 4) as u32)
 }
 
 // Mode 1: the next byte of the read variables, if any is left; if then none is left, release.
@@ -71,63 +76,34 @@ fn read_byte(
     trace: &[u8],
     d: &mut [u8],
     shared: &[u8],
-    holder: u8,
+    end: usize,
     cursor: Cursor,
-) -> Effect
-    requires { ⌜ Ready (now file) (now trace) k c r (now d) × (r .mode ≡ 1) × (length (now shared) ≡ 1024) × At (now file) (4 + k) (r .exchange) cursor ⌝ }
-    ensures { λ z. ⌜ Does (taskOf (now (file .entry)) (now (trace .entry))) k r (now (d .entry)) (now (shared .entry)) holder z (now (d .exit)) (now (shared .entry)) × More (now (file .entry)) k r z ⌝ }
+) -> Exchange
+    requires { ⌜ Ready (now file) (now trace) k c r (now d) × (r .mode ≡ 1) × (length (now shared) ≡ 1024) × At (now file) (4 + k) (r .exchange) cursor × (end ≡ recordPlace (now file) (variables (now file))) ⌝ }
+    ensures { λ z. ⌜ Exchanges (now (file .entry)) (now (trace .entry)) k r (now (d .entry)) (now (shared .entry)) z (now (d .exit)) (now (shared .entry)) ⌝ }
 {
     let x = r.exchange as usize;
     if c.reads <= x {
-        return Effect::ReadReleased;
+        return Exchange::ReadEnded;
     }
     exchange::bring(file, k, r.exchange, cursor, d, shared);
     if c.reads <= x + 1 {
-        return Effect::ReadReleased;
+        return Exchange::ReadEnded;
     }
-    Effect::ByteRead
+    Exchange::ReadOn(exchange::onward(file, end, 4 + k, r.exchange, cursor))
 }
 
 // Mode 2: one instruction; the limit is tried first.
-fn execute(
-    r: Registers,
-    k: usize,
-    c: CoreTask,
-    file: &[u8],
-    trace: &[u8],
-    d: &mut [u8],
-    holder: u8,
-) -> Effect
+fn execute(r: Registers, k: usize, c: CoreTask, file: &[u8], trace: &[u8], d: &mut [u8]) -> Outcome
     requires { ⌜ Ready (now file) (now trace) k c r (now d) × (r .mode ≡ 2) ⌝ }
-    ensures { λ z. ⌜ Alone (now (file .entry)) (now (trace .entry)) k r (now (d .entry)) holder z (now (d .exit)) × More (now (file .entry)) k r z ⌝ }
+    ensures { λ o. ⌜ Instructs (now (file .entry)) (now (trace .entry)) k r (now (d .entry)) o (now (d .exit)) ⌝ }
 {
     if (r.count as usize) == c.limit {
-        return Effect::Fault(LIMIT);
+        return Outcome::Fault(LIMIT);
     }
     let a = c.code;
     let e = a + c.length;
-    let o = processor::execute(r, &file[a..e], d);
-    match o {
-        Outcome::Fault(bit) => Effect::Fault(bit),
-        Outcome::Next(place) => Effect::Next(place),
-        Outcome::Call(next, target, offset) => Effect::Call(next, target, offset),
-        Outcome::Return => {
-            if r.depth == 0 {
-                return Effect::CycleEnded;
-            }
-            Effect::Return(r.depth - 1)
-        }
-    }
-}
-
-// Mode 3: nothing, if the semaphore is held.
-fn begin_writing(holder: u8) -> Effect
-    ensures { λ z. ⌜ z ≡ pick (eqb holder 0) Effect.WriteAcquired Effect.Idle ⌝ }
-{
-    if holder == 0 {
-        return Effect::WriteAcquired;
-    }
-    Effect::Idle
+    processor::execute(r, &file[a..e], d)
 }
 
 // Mode 4: the next byte of the written variables, if any is left; if then none is left, release.
@@ -139,25 +115,25 @@ fn write_byte(
     trace: &[u8],
     d: &[u8],
     shared: &mut [u8],
-    holder: u8,
+    end: usize,
     cursor: Cursor,
-) -> Effect
-    requires { ⌜ Ready (now file) (now trace) k c r (now d) × (r .mode ≡ 4) × (length (now shared) ≡ 1024) × At (now file) k (r .exchange) cursor ⌝ }
-    ensures { λ z. ⌜ Does (taskOf (now (file .entry)) (now (trace .entry))) k r (now (d .entry)) (now (shared .entry)) holder z (now (d .entry)) (now (shared .exit)) × More (now (file .entry)) k r z ⌝ }
+) -> Exchange
+    requires { ⌜ Ready (now file) (now trace) k c r (now d) × (r .mode ≡ 4) × (length (now shared) ≡ 1024) × At (now file) k (r .exchange) cursor × (end ≡ recordPlace (now file) (variables (now file))) ⌝ }
+    ensures { λ z. ⌜ Exchanges (now (file .entry)) (now (trace .entry)) k r (now (d .entry)) (now (shared .entry)) z (now (d .entry)) (now (shared .exit)) ⌝ }
 {
     let x = r.exchange as usize;
     if c.writes <= x {
-        return Effect::WriteReleased;
+        return Exchange::WriteEnded;
     }
     exchange::publish(file, k, r.exchange, cursor, d, shared);
     if c.writes <= x + 1 {
-        return Effect::WriteReleased;
+        return Exchange::WriteEnded;
     }
-    Effect::ByteWritten
+    Exchange::WriteOn(exchange::onward(file, end, k, r.exchange, cursor))
 }
 
-// The step by the mode, in the data of core k.
-fn effect_in(
+// A step of a core that neither executes nor waits, by the mode.
+fn exchange_in(
     r: Registers,
     k: usize,
     c: CoreTask,
@@ -165,25 +141,43 @@ fn effect_in(
     trace: &[u8],
     d: &mut [u8],
     shared: &mut [u8],
-    holder: u8,
+    end: usize,
     cursor: Cursor,
-) -> Effect
-    requires { ⌜ Ready (now file) (now trace) k c r (now d) × (length (now shared) ≡ 1024) × Aimed (now file) k r cursor ⌝ }
-    ensures { λ z. ⌜ Does (taskOf (now (file .entry)) (now (trace .entry))) k r (now (d .entry)) (now (shared .entry)) holder z (now (d .exit)) (now (shared .exit)) × More (now (file .entry)) k r z ⌝ }
+) -> Exchange
+    requires { ⌜ Ready (now file) (now trace) k c r (now d) × (r .mode ≢ 2) × (length (now shared) ≡ 1024) × Aimed (now file) k r cursor × (end ≡ recordPlace (now file) (variables (now file))) ⌝ }
+    ensures { λ z. ⌜ Exchanges (now (file .entry)) (now (trace .entry)) k r (now (d .entry)) (now (shared .entry)) z (now (d .exit)) (now (shared .exit)) ⌝ }
 {
     let mode = r.mode;
     match mode {
-        0 => begin_reading(r, k, c, file, trace, d, holder),
-        1 => read_byte(r, k, c, file, trace, d, shared, holder, cursor),
-        2 => execute(r, k, c, file, trace, d, holder),
-        3 => begin_writing(holder),
-        4 => write_byte(r, k, c, file, trace, d, shared, holder, cursor),
-        _ => Effect::Idle,
+        0 => begin_reading(r, k, c, file, trace, d),
+        1 => read_byte(r, k, c, file, trace, d, shared, end, cursor),
+        3 => Exchange::WriteBegun,
+        4 => write_byte(r, k, c, file, trace, d, shared, end, cursor),
+        _ => Exchange::Rests,
     }
 }
 
-// The step in the data buffer of all cores, of which it is lent the stretch of core k.
-pub fn effect_of(
+// ---- the same in the data buffer of all cores, of which the step is lent the stretch of core k
+
+// An instruction.
+pub fn instruction_of(
+    r: Registers,
+    k: usize,
+    c: CoreTask,
+    file: &[u8],
+    trace: &[u8],
+    buffer: &mut [u8],
+) -> Outcome
+    requires { ⌜ Ready (now file) (now trace) k c r (getD (split (sizesOf (now file)) (now buffer)) k []) × (length (now buffer) ≡ total (sizesOf (now file))) × (r .mode ≡ 2) ⌝ }
+    ensures { λ o. ⌜ InstructsIn (now (file .entry)) (now (trace .entry)) k r (now (buffer .entry)) o (now (buffer .exit)) ⌝ }
+{
+    let a = c.base;
+    let e = a + c.size;
+    execute(r, k, c, file, trace, &mut buffer[a..e])
+}
+
+// Any other step, of a core that does not wait.
+pub fn exchange_of(
     r: Registers,
     k: usize,
     c: CoreTask,
@@ -191,23 +185,13 @@ pub fn effect_of(
     trace: &[u8],
     buffer: &mut [u8],
     shared: &mut [u8],
-    holder: u8,
+    end: usize,
     cursor: Cursor,
-) -> Effect
-    requires { ⌜ Moving (now file) (now trace) k c r (now buffer) (now shared) cursor ⌝ }
-    ensures { λ z. ⌜ Steps (now (file .entry)) (now (trace .entry)) k r (now (buffer .entry)) (now (shared .entry)) holder z (now (buffer .exit)) (now (shared .exit)) ⌝ }
+) -> Exchange
+    requires { ⌜ Moving (now file) (now trace) k c r (now buffer) (now shared) end cursor × (r .mode ≢ 2) ⌝ }
+    ensures { λ z. ⌜ ExchangesIn (now (file .entry)) (now (trace .entry)) k r (now (buffer .entry)) (now (shared .entry)) z (now (buffer .exit)) (now (shared .exit)) ⌝ }
 {
     let a = c.base;
     let e = a + c.size;
-    effect_in(
-        r,
-        k,
-        c,
-        file,
-        trace,
-        &mut buffer[a..e],
-        shared,
-        holder,
-        cursor,
-    )
+    exchange_in(r, k, c, file, trace, &mut buffer[a..e], shared, end, cursor)
 }

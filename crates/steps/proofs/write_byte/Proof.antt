@@ -1,5 +1,6 @@
 -- Each answer is a case of mode 4: no byte is left, the last one, or one of several. Assumes nothing.
-use Rattle.steps.proofs.Given.{writes-left, write-none, write-last, write-more}
+use native.Mathlib.Omega.{arith}
+use Rattle.steps.proofs.Given.{core-few, writes-left, write-none, write-last, write-more}
 use borrow.Author.Needs.{needs}
 use Rattle.steps.proofs.write_byte.Statement.{statement}
 use Rattle.steps.proofs.write_byte.Tie as tie
@@ -8,14 +9,10 @@ cast-x : tie.Need-cast-x
 cast-x c = search needs
 
 returns : tie.Need-returns
-returns c =
-    let p = c .before .before .before .before .before .before .before .pre in
-    (write-none (p .0) _ _ (p .1) (c .if1 .taken), tt)
+returns c = ((λ h z. write-none (c .before .before .before .before .before .before .before .pre .0) _ h (c .before .before .before .before .before .before .before .pre .1) (c .if1 .taken)), tt)
 
 publish-requires : tie.Need-publish-requires
-publish-requires c κs =
-    let p = c .before .before .before .before .before .before .before .before .pre in
-    (p .0 .accepted .laid, p .0 .known, p .3, writes-left (p .0) (c .before .if1 .left), p .0 .fit .size, p .2)
+publish-requires c κs = (c .before .before .before .before .before .before .before .before .pre .0 .accepted .laid, c .before .before .before .before .before .before .before .before .pre .0 .known, c .before .before .before .before .before .before .before .before .pre .3, writes-left (c .before .before .before .before .before .before .before .before .pre .0) (c .before .if1 .left), c .before .before .before .before .before .before .before .before .pre .0 .fit .size, c .before .before .before .before .before .before .before .before .pre .2)
 
 add-if2 : tie.Need-add-if2
 add-if2 c = search needs
@@ -24,17 +21,16 @@ same-length : tie.Need-same-length
 same-length c = search needs
 
 returns-2 : tie.Need-returns-2
-returns-2 c =
-    let p = c .before .before .before .before .before .before .before .before .before .before .before .before .before .pre in
-    (write-last (p .0) _ _ _ (p .1) (c .if2 .taken) (c .before .before .before .before .publish .ensures), tt)
+returns-2 c = ((λ h z. write-last (c .before .before .before .before .before .before .before .before .before .before .before .before .before .pre .0) _ h _ (c .before .before .before .before .before .before .before .before .before .before .before .before .before .pre .1) (c .if2 .taken) (c .before .before .before .before .publish .ensures)), tt)
+
+onward-requires : tie.Need-onward-requires
+onward-requires c κs = (c .before .before .before .before .before .before .before .before .before .before .before .before .before .pre .0 .accepted .laid, c .before .before .before .before .before .before .before .before .before .before .before .before .before .pre .4, omega (arith, core-few (c .before .before .before .before .before .before .before .before .before .before .before .before .before .pre .0)), c .before .before .before .before .before .before .before .before .before .before .before .before .before .pre .3, writes-left (c .before .before .before .before .before .before .before .before .before .before .before .before .before .pre .0) (c .before .before .before .before .before .before .if1 .left))
 
 same-length-2 : tie.Need-same-length-2
 same-length-2 c = search needs
 
 returns-3 : tie.Need-returns-3
-returns-3 c =
-    let p = c .before .before .before .before .before .before .before .before .before .before .before .before .before .pre in
-    (write-more (p .0) _ _ _ (p .1) (c .if2 .left) (c .before .before .before .before .publish .ensures), (p .1, writes-left (p .0) (c .before .before .before .before .before .before .if1 .left)))
+returns-3 c = ((λ h z. write-more (c .before .before .before .before .before .before .before .before .before .before .before .before .before .before .pre .0) _ h _ (c .before .before .before .before .before .before .before .before .before .before .before .before .before .before .pre .1) (c .before .if2 .left) (c .before .before .before .before .before .publish .ensures)), (c .before .before .before .before .before .before .before .before .before .before .before .before .before .before .pre .1, c .onward .ensures))
 
 pub write-byte-spec : {M : Type 1} → statement M
 write-byte-spec =
@@ -46,5 +42,6 @@ write-byte-spec =
     add-if2
     same-length
     returns-2
+    onward-requires
     same-length-2
     returns-3)

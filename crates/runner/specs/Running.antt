@@ -1,0 +1,95 @@
+-- Where a run stands between two of its steps, and what its parts promise of it. In order: the order; a place of execution; the invariant;
+-- steps that carry a run on.
+use mathlib.Core.Path.{_≡_}
+use mathlib.Core.Bool.{Bool}
+use mathlib.Core.List.{List}
+use Prim.Native.Nat.{ℕ, suc, _+_, _≤_, _<_}
+use lib.Dec.{ltb, eqb}
+use lib.ListN.{length, getD, set, drop}
+use Rattle.verdict.specs.Verdict.{both}
+use Rattle.memory.specs.Memory.{splice, total}
+use Rattle.protocol.specs.declared.Registers.{Registers}
+use Rattle.protocol.specs.State.{State}
+use Rattle.protocol.specs.Step.{run, takings, orderList}
+use Rattle.exchange.specs.declared.Cursor.{Cursor}
+use Rattle.records.specs.File.{cores}
+use Rattle.taskset.specs.Task.{sizesOf}
+use Rattle.states.specs.Task.{taskOf}
+use Rattle.states.specs.Machine.{none, stackIn, stateIn}
+use Rattle.states.specs.Fit.{Fit}
+use Rattle.states.specs.Set.{Set}
+use Rattle.steps.specs.Moving.{Aimed}
+
+-- ---- the order
+
+-- step i is one of core k
+abbrev pub stepsOn : List ℕ → ℕ → ℕ → Bool
+stepsOn order i k = both (ltb i (length order)) (eqb (getD order i 0) k)
+
+-- ---- a place of execution
+
+-- the registers r with another one
+abbrev pub executingAt : Registers → ℕ → ℕ → ℕ → ℕ → Registers
+executingAt r counter offset depth count = record {
+  mode = r .mode;
+  counter = counter;
+  offset = offset;
+  depth = depth;
+  count = count;
+  exchange = r .exchange;
+  cycles = r .cycles;
+  flags = r .flags;
+  time = r .time;
+}
+
+-- ---- the invariant
+
+-- What holds before step i of a run: what is left of the order makes of the state now what the whole makes of the first one
+pub record Running (f t : List ℕ) (order list₀ : List ℕ) (s₀ : State) (cs₀ : List Registers) (places₀ offsets₀ : List ℕ)
+    (i : ℕ) (cs : List Registers) (places offsets : List ℕ) (h taken : ℕ) (d sh list : List ℕ) : Type 0 where
+  pub within : i ≤ length order
+  pub rest : run (taskOf f t) (drop i order) (stateIn f cs places offsets h d sh) ≡ run (taskOf f t) order s₀
+  pub listed : splice list taken (orderList (taskOf f t) (drop i order) (stateIn f cs places offsets h d sh)) ≡ splice list₀ 0 (orderList (taskOf f t) order s₀)
+  pub counted : taken + length (takings (taskOf f t) (drop i order) (stateIn f cs places offsets h d sh)) ≡ length (takings (taskOf f t) order s₀)
+  pub room : taken ≤ i
+  pub fit : Fit f t (stateIn f cs places offsets h d sh)
+  pub four : length cs ≡ 4
+  pub entries : (length places ≡ 64) × (length offsets ≡ 64)
+  pub buffer : length d ≡ total (sizesOf f)
+  pub list-length : length list ≡ length list₀
+  pub spare : (j : ℕ) → cores f ≤ j → (getD cs j none ≡ getD cs₀ j none) × (stackIn places offsets j ≡ stackIn places₀ offsets₀ j)
+
+-- the same with the cursor
+pub record Looping (f t : List ℕ) (order list₀ : List ℕ) (s₀ : State) (cs₀ : List Registers) (places₀ offsets₀ : List ℕ)
+    (i : ℕ) (cs : List Registers) (places offsets : List ℕ) (h taken : ℕ) (d sh list : List ℕ) (cursor : Cursor) : Type 0 where
+  pub running : Running f t order list₀ s₀ cs₀ places₀ offsets₀ i cs places offsets h taken d sh list
+  pub aimed : (k : ℕ) → k < cores f → h ≡ suc k → Aimed f k (getD cs k none) cursor
+
+-- ---- steps that carry a run on
+
+-- some run stands before step i, and core k has the registers r
+pub record Stands (f t order : List ℕ) (i k : ℕ) (r : Registers) (places offsets d : List ℕ) : Type 0 where
+  pub accepted : Set f t
+  pub known : k < cores f
+  pub list₀ : List ℕ
+  pub s₀ : State
+  pub cs₀ : List Registers
+  pub places₀ : List ℕ
+  pub offsets₀ : List ℕ
+  pub cs : List Registers
+  pub h : ℕ
+  pub taken : ℕ
+  pub sh : List ℕ
+  pub list : List ℕ
+  pub cursor : Cursor
+  pub here : getD cs k none ≡ r
+  pub loops : Looping f t order list₀ s₀ cs₀ places₀ offsets₀ i cs places offsets h taken d sh list cursor
+
+-- every run that stands before step i, where core k has the registers r and the stacks and data are those, stands before step i′ with the
+-- registers r′ of core k and these stacks and data; nothing else has changed
+abbrev pub Carries : List ℕ → List ℕ → List ℕ → ℕ → ℕ → Registers → List ℕ → List ℕ → List ℕ → ℕ → Registers → List ℕ → List ℕ → List ℕ → Type 0
+Carries f t order k i r places offsets d i′ r′ places′ offsets′ d′ =
+    (list₀ : List ℕ) (s₀ : State) (cs₀ : List Registers) (places₀ offsets₀ : List ℕ) (cs : List Registers) (h taken : ℕ) (sh list : List ℕ) (cursor : Cursor)
+    → getD cs k none ≡ r
+    → Looping f t order list₀ s₀ cs₀ places₀ offsets₀ i cs places offsets h taken d sh list cursor
+    → Looping f t order list₀ s₀ cs₀ places₀ offsets₀ i′ (set cs k r′) places′ offsets′ h taken d′ sh list cursor

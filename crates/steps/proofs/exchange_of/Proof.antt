@@ -1,0 +1,45 @@
+-- The stretch that is lent is the data of core k, and the others stay. Assumes nothing.
+use mathlib.Core.Path.{refl, subst⁻¹}
+use native.Mathlib.Omega.{arith}
+use Rattle.steps.specs.Moving.{Ready}
+use Rattle.steps.proofs.Given.{stretch-inside, stretch-is, steps-in}
+use borrow.Author.Needs.{needs}
+use Rattle.steps.proofs.exchange_of.Statement.{statement}
+use Rattle.steps.proofs.exchange_of.Tie as tie
+
+add-e : tie.Need-add-e
+add-e c = record { fits = omega (arith, stretch-inside _ (c .before .before .before .before .before .pre .0 .ready) (c .before .before .before .before .before .pre .0 .buffer)) }
+
+sub-exchange-in : tie.Need-sub-exchange-in
+sub-exchange-in c = search needs
+
+part-exchange-in-start : tie.Need-part-exchange-in-start
+part-exchange-in-start c = search needs
+
+part-exchange-in-end : tie.Need-part-exchange-in-end
+part-exchange-in-end c = omega (arith, stretch-inside _ (c .before .before .before .before .before .pre .0 .ready) (c .before .before .before .before .before .pre .0 .buffer))
+
+exchange-in-requires : tie.Need-exchange-in-requires
+exchange-in-requires c κs = (subst⁻¹ (Ready _ _ _ _ _) (stretch-is _ (c .before .before .before .before .before .before .before .pre .0 .ready) (c .before .before .before .before .before .before .before .pre .0 .buffer) _ refl) (c .before .before .before .before .before .before .before .pre .0 .ready), c .before .before .before .before .before .before .before .pre .1, c .before .before .before .before .before .before .before .pre .0 .shared, c .before .before .before .before .before .before .before .pre .0 .aimed, c .before .before .before .before .before .before .before .pre .0 .upto)
+
+same-length : tie.Need-same-length
+same-length c = search needs
+
+same-length-2 : tie.Need-same-length-2
+same-length-2 c = search needs
+
+returns : tie.Need-returns
+returns c = ((λ h z. steps-in _ (c .before .before .before .before .before .before .before .before .before .before .before .before .pre .0 .ready) (c .before .before .before .before .before .before .before .before .before .before .before .before .pre .0 .buffer) _ refl h _ _ _ _ (c .before .before .before .before .exchange-in .ensures .0 h z) (c .before .before .before .before .exchange-in .kept .1 .1 .1 .1 .1 .0)), c .before .before .before .before .exchange-in .ensures .1)
+
+pub exchange-of-spec : {M : Type 1} → statement M
+exchange-of-spec =
+    tie.close
+    (tie.spec
+    add-e
+    sub-exchange-in
+    part-exchange-in-start
+    part-exchange-in-end
+    exchange-in-requires
+    same-length
+    same-length-2
+    returns)
