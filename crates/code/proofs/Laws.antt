@@ -1,18 +1,18 @@
 -- Laws of one command and one instruction. In order: what a computed test of all code bytes shows; the instruction by its code byte;
 -- an accepted instruction; its length. Assumes nothing.
 use mathlib.Core.Path.{_≡_, refl, sym, ap, _∙_, subst}
-use mathlib.Core.Bool.{Bool, true, false}
+use mathlib.Core.Bool.{Bool, true, false, not}
 use mathlib.Core.List.{List}
 use Prim.Native.Nat.{ℕ, zero, suc, _+_, _≤_, _<_}
 use native.Mathlib.Omega.{arith}
 use borrow.Author.Tests.{ltb-true, leb-true, eqb-true, ne-eqb, lt-ltb, le-leb}
 use lib.Dec.{T, ltb, leb, eqb, eqb→eq, leb→le}
 use lib.ListN.{length, getD}
-use Rattle.verdict.specs.Verdict.{pick, either, within, upto}
+use Rattle.verdict.specs.Verdict.{pick, both, either, within, upto}
 use Rattle.verdict.proofs.Verdict.{absurd-bool, by-pick, yes, no, below, both-true, unless-zero}
 use Rattle.memory.specs.Memory.{byte}
 use Rattle.values.specs.Types.{takes}
-use Rattle.code.specs.Commands.{three, layoutOf, lengthOf, Lengths}
+use Rattle.code.specs.Commands.{three, layoutOf, lengthOf, known, Lengths}
 use Rattle.code.specs.Instructions.{typedAt, instructionAt, instructionLength}
 use Rattle.code.specs.Flow.{kind, goesOn, goesTo, kindOf}
 use Rattle.code.specs.Code.{operandsOk, instructionOk, instructionRefusal, acceptedLength, Sized}
@@ -21,22 +21,45 @@ use Rattle.code.specs.declared.Instruction.the-variants.{Unknown}
 
 -- ---- all code bytes
 
+both-T : (a b : Bool) → T (both a b) → T a × T b
+both-T true b t = (tt, t)
+both-T false b t = absurd t
+
+abbrev same : Bool → Bool → Bool
+same true b = b
+same false b = not b
+
+same-is : (a b : Bool) → T (same a b) → a ≡ b
+same-is true true t = refl
+same-is true false t = absurd t
+same-is false true t = absurd t
+same-is false false t = refl
+
+-- the rule of a table of lengths at one code byte
+abbrev fits : List ℕ → ℕ → Bool
+fits table k = eqb (getD table k 0) (lengthOf k)
+
+abbrev none : List ℕ → ℕ → Bool
+none table k = same (eqb (getD table k 0) 0) (not (known k))
+
 -- a table that the computed test finds right is right
-pub table-right : (table : List ℕ) → T (upto (λ k. eqb (getD table k 0) (lengthOf k)) 256) → Lengths table
+pub table-right : (table : List ℕ) → T (upto (λ k. both (fits table k) (none table k)) 256) → Lengths table
 table-right table t =
-    record { right = λ code h. eqb→eq _ _ (below (λ k. eqb (getD table k 0) (lengthOf k)) 256 t code h) }
+    record {
+      right = λ code h. eqb→eq _ _ (rule code h .0);
+      unknown = λ code h. same-is (eqb (getD table code 0) 0) (not (known code)) (rule code h .1);
+    }
+  where
+    rule : (code : ℕ) → code < 256 → T (fits table code) × T (none table code)
+    rule code h = both-T (fits table code) (none table code) (below (λ k. both (fits table k) (none table k)) 256 t code h)
 
 either-T : (a b : Bool) → T (either a b) → a ≡ false → T b
 either-T true b t e = absurd (subst T e tt)
 either-T false b t e = t
 
-not : Bool → Bool
-not true = false
-not false = true
-
 -- the commands with three addresses have eight bytes
 pub three-length : (code : ℕ) → code < 256 → three code ≡ true → lengthOf code ≡ 8
-unfolding lengthOf layoutOf pick not
+unfolding lengthOf layoutOf pick
 three-length code h e =
     eqb→eq _ _ (either-T _ _ (below (λ k. either (not (three k)) (eqb (lengthOf k) 8)) 256 tt code h) (ap not e))
 
@@ -49,17 +72,15 @@ untaken : ℕ → Bool
 untaken k = not (either (within 16 17 k) (either (within 18 19 k) (either (eqb k 20) (either (within 24 27 k) (either (within 28 31 k) (within 32 37 k))))))
 
 none-taken : (a b : Bool) → T (not (either a b)) → (a ≡ false) × T (not b)
-unfolding not
 none-taken true b t = absurd t
 none-taken false b t = (refl, t)
 
 last-taken : (a : Bool) → T (not a) → a ≡ false
-unfolding not
 last-taken true t = absurd t
 last-taken false t = refl
 
 pub takes-not : (code t : ℕ) → code < 256 → three code ≡ false → eqb code 27 ≡ false → takes code t ≡ false
-unfolding takes pick untaken not
+unfolding takes pick untaken
 takes-not code t h e f =
     let u : T (untaken code) = either-T _ _ (either-T _ _ (below (λ k. either (three k) (either (eqb k 27) (untaken k))) 256 tt code h) e) f in
     let a = none-taken (within 16 17 code) _ u in

@@ -1,7 +1,7 @@
 -- Document 01, "Types and commands": the operands of each command, in the document's order, and the length that follows from them.
 use Prim.Native.Nat.{ℕ, _+_, _<_}
 use mathlib.Core.Path.{_≡_}
-use mathlib.Core.Bool.{Bool}
+use mathlib.Core.Bool.{Bool, not}
 use mathlib.Core.List.{List, [], _∷_}
 use lib.Dec.{eqb}
 use lib.ListN.{getD}
@@ -66,6 +66,11 @@ lengthWith (operands ws) = 1 + sum ws
 unfoldable pub lengthOf : ℕ → ℕ
 lengthOf code = lengthWith (layoutOf code)
 
--- what the table of 256 lengths has to say
+-- the code bytes of the table of commands
+abbrev pub known : ℕ → Bool
+known code = either (within 0 9 code) (either (within 16 20 code) (either (within 24 37 code) (within 41 42 code)))
+
+-- what the table of 256 lengths has to say: each length fits the operands, and it is 0 exactly for the unknown codes
 pub record Lengths (table : List ℕ) : Type 0 where
   pub right : (code : ℕ) → code < 256 → getD table code 0 ≡ lengthOf code
+  pub unknown : (code : ℕ) → code < 256 → eqb (getD table code 0) 0 ≡ not (known code)

@@ -11,51 +11,55 @@ ghost use Rattle.code.specs.Commands.{three, lengthOf, Lengths};
 ghost use Rattle.code.specs.Instructions.{instructionAt, instructionLength, typedAt};
 ghost use Rattle.code.specs.Code.{isWidth, elementOk, operandsOk, acceptedLength, Sized, isStart, judgeCode, Marked, Asked, TargetAsked, Pass, AllMet};
 
-// The length of an instruction by its code byte, 0 where the byte is unknown; MCD adds n.
-const LENGTHS: [u8; 256] = [
-    1,
-    3,
-    5,
-    5,
-    5,
-    3,
-    4,
-    7,
-    10,
-    10,
+// "Each of the 256 code bytes has its instruction length in one table, 0 where unknown; MCD adds n."
+pub const LENGTHS: [u8; 256] = [
+    1, // 0 RETURN
+    3, // 1 JMP
+    5, // 2 JZ
+    5, // 3 JNZ
+    5, // 4 CALB
+    3, // 5 CALF
+    4, // 6 MCD
+    7, // 7 MEMCP
+    10, // 8 AURD
+    10, // 9 AUWD
+    0, // 10 to 15: unknown
     0,
     0,
     0,
     0,
     0,
+    8, // 16 ADD
+    8, // 17 SUB
+    8, // 18 MUL
+    8, // 19 DIV
+    8, // 20 MOD
+    0, // 21 to 23: unknown
     0,
-    8,
-    8,
-    8,
-    8,
-    8,
     0,
+    8, // 24 AND
+    8, // 25 OR
+    8, // 26 XOR
+    6, // 27 NOT
+    8, // 28 SHL
+    8, // 29 SHR
+    8, // 30 ROL
+    8, // 31 ROR
+    8, // 32 GT
+    8, // 33 GE
+    8, // 34 EQ
+    8, // 35 LE
+    8, // 36 LT
+    8, // 37 NE
+    0, // 38 to 40: unknown
     0,
     0,
-    8,
-    8,
-    8,
-    6,
-    8,
-    8,
-    8,
-    8,
-    8,
-    8,
-    8,
-    8,
-    8,
-    8,
+    3, // 41 cycle time
+    3, // 42 flag byte
+    0, // 43 to 255: unknown
     0,
     0,
     0,
-    3,
-    3,
     0,
     0,
     0,
@@ -108,11 +112,7 @@ const LENGTHS: [u8; 256] = [
     0,
     0,
     0,
-    0,
-    0,
-    0,
-    0,
-    0,
+    0, // 99, document 01's sample of refusal 6 (63 hex)
     0,
     0,
     0,
@@ -271,7 +271,35 @@ const LENGTHS: [u8; 256] = [
     0,
 ];
 
-// The table as a value: a `const` is rebuilt at each use, so a pass over code makes it once and lends it.
+// The entries that the arms of a judging pass use. An arm that adds a constant goes ahead on the predicted branch; a pass that adds a number read
+// from the table waits for two loads at each instruction.
+const RETURN: usize = LENGTHS[0] as usize;
+
+const JMP: usize = LENGTHS[1] as usize;
+
+const JZ: usize = LENGTHS[2] as usize;
+
+const JNZ: usize = LENGTHS[3] as usize;
+
+const CALB: usize = LENGTHS[4] as usize;
+
+const CALF: usize = LENGTHS[5] as usize;
+
+const MCD: usize = LENGTHS[6] as usize;
+
+const MEMCP: usize = LENGTHS[7] as usize;
+
+const ELEMENT: usize = LENGTHS[8] as usize;
+
+const TYPED: usize = LENGTHS[16] as usize;
+
+const NOT: usize = LENGTHS[27] as usize;
+
+const CYCLE_TIME: usize = LENGTHS[41] as usize;
+
+const FLAG_BYTE: usize = LENGTHS[42] as usize;
+
+// The table as a value: a `const` is rebuilt at each use, so a walk that looks for a place makes it once and lends it.
 fn lengths() -> [u8; 256]
     ensures { λ r. ⌜ Lengths r ⌝ }
 {
@@ -491,14 +519,14 @@ fn constant_length(code: &[u8], p: usize) -> usize
     ensures { λ r. ⌜ r ≡ acceptedLength (now (code .entry)) p ⌝ }
 {
     let left = code.len() - p;
-    if left < 4 {
+    if left < MCD {
         return 0;
     }
     let n = code[p + 3];
     if !inside(1, 8, n) {
         return 0;
     }
-    let all = 4 + n as usize;
+    let all = MCD + n as usize;
     if left < all {
         return 0;
     }
@@ -510,11 +538,11 @@ fn element_length(code: &[u8], p: usize) -> usize
     requires { ⌜ (p < length (now code)) × Sized (now code) p 10 × (operandsOk (instructionAt (now code) p) ≡ elementOk (byte (now code) (p + 7)) (readLE (now code) (p + 8) 2)) ⌝ }
     ensures { λ r. ⌜ r ≡ acceptedLength (now (code .entry)) p ⌝ }
 {
-    if code.len() - p < 10 {
+    if code.len() - p < ELEMENT {
         return 0;
     }
     if element_ok(code[p + 7], word(code, p + 8)) {
-        return 10;
+        return ELEMENT;
     }
     0
 }
@@ -533,28 +561,27 @@ fn typed_length(code: &[u8], p: usize, n: usize) -> usize
     0
 }
 
-// Each command's length stands in its own arm: a walk that adds a number out of a table waits for two loads at each instruction, and one that adds an
-// arm's number goes ahead on the predicted branch.
+// By the code byte; what is none of the others is a typed command with three addresses, or unknown.
 fn accepted_length(code: &[u8], p: usize) -> usize
     requires { ⌜ p < length (now code) ⌝ }
     ensures { λ r. ⌜ r ≡ acceptedLength (now (code .entry)) p ⌝ }
 {
     let b = code[p];
     match b {
-        0 => plain_length(code, p, 1),
-        1 => plain_length(code, p, 3),
-        2 => plain_length(code, p, 5),
-        3 => plain_length(code, p, 5),
-        4 => plain_length(code, p, 5),
-        5 => plain_length(code, p, 3),
+        0 => plain_length(code, p, RETURN),
+        1 => plain_length(code, p, JMP),
+        2 => plain_length(code, p, JZ),
+        3 => plain_length(code, p, JNZ),
+        4 => plain_length(code, p, CALB),
+        5 => plain_length(code, p, CALF),
         6 => constant_length(code, p),
-        7 => plain_length(code, p, 7),
+        7 => plain_length(code, p, MEMCP),
         8 => element_length(code, p),
         9 => element_length(code, p),
-        27 => typed_length(code, p, 6),
-        41 => plain_length(code, p, 3),
-        42 => plain_length(code, p, 3),
-        _ => typed_length(code, p, 8),
+        27 => typed_length(code, p, NOT),
+        41 => plain_length(code, p, CYCLE_TIME),
+        42 => plain_length(code, p, FLAG_BYTE),
+        _ => typed_length(code, p, TYPED),
     }
 }
 

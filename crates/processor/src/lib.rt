@@ -16,6 +16,25 @@ ghost use Rattle.processor.specs.Processor.{placeOf, answer, executed};
 ghost use Rattle.processor.specs.Typed.{operandsAt, Low, outcomeOf};
 ghost use Rattle.processor.specs.Executable.{Executable, Stands, Reports};
 
+// The entries of the table of lengths that lead to the next instruction.
+const BRANCH: u16 = code::LENGTHS[2] as u16;
+
+const CALB: u16 = code::LENGTHS[4] as u16;
+
+const CALF: u16 = code::LENGTHS[5] as u16;
+
+const MCD: usize = code::LENGTHS[6] as usize;
+
+const MEMCP: u16 = code::LENGTHS[7] as u16;
+
+const ELEMENT: u16 = code::LENGTHS[8] as u16;
+
+const TYPED: u16 = code::LENGTHS[16] as u16;
+
+const NOT: u16 = code::LENGTHS[27] as u16;
+
+const REPORT: u16 = code::LENGTHS[41] as u16;
+
 // ---- addresses
 
 // From here on an address is absolute.
@@ -75,7 +94,7 @@ fn branch(op: u8, r: Registers, code: &[u8], d: &[u8]) -> Outcome
     if zero == on_zero {
         return Outcome::Next(code::word(code, p + 3));
     }
-    Outcome::Next(r.counter + 5)
+    Outcome::Next(r.counter + BRANCH)
 }
 
 // The open calls that a core can have.
@@ -94,7 +113,7 @@ fn call_instance(r: Registers, code: &[u8], d: &[u8]) -> Outcome
     if d.len() <= instance {
         return Outcome::Fault(protocol::ADDRESS);
     }
-    Outcome::Call(r.counter + 5, code::word(code, p + 3), instance as u16)
+    Outcome::Call(r.counter + CALB, code::word(code, p + 3), instance as u16)
 }
 
 // CALF
@@ -106,7 +125,7 @@ fn call_function(r: Registers, code: &[u8], d: &[u8]) -> Outcome
         return Outcome::Fault(protocol::CALL);
     }
     let p = r.counter as usize;
-    Outcome::Call(r.counter + 3, code::word(code, p + 1), r.offset)
+    Outcome::Call(r.counter + CALF, code::word(code, p + 1), r.offset)
 }
 
 // ---- moves
@@ -122,8 +141,8 @@ fn move_constant(r: Registers, code: &[u8], d: &mut [u8]) -> Outcome
     if is_beyond(d.len(), to, n) {
         return Outcome::Fault(protocol::ADDRESS);
     }
-    memory::copy(d, to, code, p + 4, n);
-    Outcome::Next((p + 4 + n) as u16)
+    memory::copy(d, to, code, p + MCD, n);
+    Outcome::Next((p + MCD + n) as u16)
 }
 
 // MEMCP
@@ -139,7 +158,7 @@ fn copy_memory(r: Registers, code: &[u8], d: &mut [u8]) -> Outcome
         return Outcome::Fault(protocol::ADDRESS);
     }
     memory::copy_within(d, to, from, n);
-    Outcome::Next(r.counter + 7)
+    Outcome::Next(r.counter + MEMCP)
 }
 
 // ---- array elements
@@ -202,7 +221,7 @@ fn access_element(op: u8, r: Registers, code: &[u8], d: &mut [u8]) -> Outcome
         select(read, element, variable),
         size,
     );
-    Outcome::Next(r.counter + 10)
+    Outcome::Next(r.counter + ELEMENT)
 }
 
 // ---- typed commands
@@ -267,7 +286,7 @@ fn store_number(
         return Outcome::Fault(protocol::ADDRESS);
     }
     memory::store(d, to, width, value);
-    Outcome::Next(r.counter + 3)
+    Outcome::Next(r.counter + REPORT)
 }
 
 // ---- one instruction
@@ -290,24 +309,24 @@ pub fn execute(r: Registers, code: &[u8], d: &mut [u8]) -> Outcome
         8 | 9 => access_element(op, r, code, d),
         41 => store_number(op, r, code, d, 4, r.time as u64),
         42 => store_number(op, r, code, d, 1, r.flags as u64),
-        16 => outcome(commands::add_at(d, operands(r, code)), r.counter + 8),
-        17 => outcome(commands::sub_at(d, operands(r, code)), r.counter + 8),
-        18 => outcome(commands::mul_at(d, operands(r, code)), r.counter + 8),
-        19 => outcome(commands::div_at(d, operands(r, code)), r.counter + 8),
-        20 => outcome(commands::modulo_at(d, operands(r, code)), r.counter + 8),
-        24 => outcome(commands::and_at(d, operands(r, code)), r.counter + 8),
-        25 => outcome(commands::or_at(d, operands(r, code)), r.counter + 8),
-        26 => outcome(commands::xor_at(d, operands(r, code)), r.counter + 8),
-        28 => outcome(commands::shl_at(d, operands(r, code)), r.counter + 8),
-        29 => outcome(commands::shr_at(d, operands(r, code)), r.counter + 8),
-        30 => outcome(commands::rol_at(d, operands(r, code)), r.counter + 8),
-        31 => outcome(commands::ror_at(d, operands(r, code)), r.counter + 8),
-        32 => outcome(commands::gt_at(d, operands(r, code)), r.counter + 8),
-        33 => outcome(commands::ge_at(d, operands(r, code)), r.counter + 8),
-        34 => outcome(commands::eq_at(d, operands(r, code)), r.counter + 8),
-        35 => outcome(commands::le_at(d, operands(r, code)), r.counter + 8),
-        36 => outcome(commands::lt_at(d, operands(r, code)), r.counter + 8),
-        37 => outcome(commands::ne_at(d, operands(r, code)), r.counter + 8),
-        _ => outcome(commands::not_at(d, single(r, code)), r.counter + 6),
+        16 => outcome(commands::add_at(d, operands(r, code)), r.counter + TYPED),
+        17 => outcome(commands::sub_at(d, operands(r, code)), r.counter + TYPED),
+        18 => outcome(commands::mul_at(d, operands(r, code)), r.counter + TYPED),
+        19 => outcome(commands::div_at(d, operands(r, code)), r.counter + TYPED),
+        20 => outcome(commands::modulo_at(d, operands(r, code)), r.counter + TYPED),
+        24 => outcome(commands::and_at(d, operands(r, code)), r.counter + TYPED),
+        25 => outcome(commands::or_at(d, operands(r, code)), r.counter + TYPED),
+        26 => outcome(commands::xor_at(d, operands(r, code)), r.counter + TYPED),
+        28 => outcome(commands::shl_at(d, operands(r, code)), r.counter + TYPED),
+        29 => outcome(commands::shr_at(d, operands(r, code)), r.counter + TYPED),
+        30 => outcome(commands::rol_at(d, operands(r, code)), r.counter + TYPED),
+        31 => outcome(commands::ror_at(d, operands(r, code)), r.counter + TYPED),
+        32 => outcome(commands::gt_at(d, operands(r, code)), r.counter + TYPED),
+        33 => outcome(commands::ge_at(d, operands(r, code)), r.counter + TYPED),
+        34 => outcome(commands::eq_at(d, operands(r, code)), r.counter + TYPED),
+        35 => outcome(commands::le_at(d, operands(r, code)), r.counter + TYPED),
+        36 => outcome(commands::lt_at(d, operands(r, code)), r.counter + TYPED),
+        37 => outcome(commands::ne_at(d, operands(r, code)), r.counter + TYPED),
+        _ => outcome(commands::not_at(d, single(r, code)), r.counter + NOT),
     }
 }
