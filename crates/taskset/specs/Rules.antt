@@ -1,14 +1,16 @@
--- Document 01's rules of a task set file as rules, whatever order a file is judged in. `ends` says that every section is there and that
--- nothing follows: the places of the sections, by their counts, are those of `specs/Judge`.
-use Prim.Native.Nat.{ℕ, _≤_, _<_}
+-- Document 01's rules of a task set file and of a trace as rules, whatever order they are judged in. In order: the file; the trace.
+-- Not here: the rules of a core's, a variable's record and of two variables (crate `records`), of a core's code (crate `code`); the numbers.
+use Prim.Native.Nat.{ℕ, zero, suc, _+_, _*_, _≤_, _<_}
 use mathlib.Core.Path.{_≡_}
-use mathlib.Core.List.{List, [], _∷_}
+use mathlib.Core.List.{List, [], _∷_, _++_}
 use lib.ListN.{length, take}
 use Rattle.memory.specs.Memory.{word}
 use Rattle.code.specs.Rules.{WellFormedCode}
-use Rattle.records.specs.File.{cores, variables, variableAt}
+use Rattle.records.specs.File.{cores, inputSize, variables, variableAt}
 use Rattle.records.specs.Rules.{CoreRules, VariableRules, Apart}
 use Rattle.taskset.specs.Judge.{codePlace, codeOf}
+
+-- ---- the file. `ends` says that every section is there and that nothing follows: the places of the sections, by their counts, are those of `specs/Judge`.
 
 pub record WellFormed (f : List ℕ) : Type 0 where
   -- 4D 43 53 31 hex
@@ -23,3 +25,20 @@ pub record WellFormed (f : List ℕ) : Type 0 where
   pub most-code : (k : ℕ) → k < cores f → word f (codePlace f k) ≤ 8192
   pub code-rules : (k : ℕ) → k < cores f → WellFormedCode (codeOf f k)
   pub ends : codePlace f (cores f) ≡ length f
+
+-- ---- the trace of a file
+
+-- so many "records of 4 time bytes and the input bytes", end to end
+pub data Records (inputs : ℕ) : ℕ → List ℕ → Type 0 where
+  none : Records inputs 0 []
+  one : {n : ℕ} (time input : List ℕ) {rest : List ℕ} → length time ≡ 4 → length input ≡ inputs → Records inputs n rest
+      → Records inputs (suc n) (time ++ (input ++ rest))
+
+-- "for each core a 16-bit count, then records": of n cores, the first of them core k, and nothing after the last
+pub data Parts (f : List ℕ) : ℕ → ℕ → List ℕ → Type 0 where
+  end : {k : ℕ} → Parts f k 0 []
+  core : {k n : ℕ} (low high : ℕ) (records : List ℕ) {rest : List ℕ} → Records (inputSize f k) (low + 256 * high) records → Parts f (suc k) n rest
+      → Parts f k (suc n) (low ∷ high ∷ (records ++ rest))
+
+abbrev pub Traced : List ℕ → List ℕ → Type 0
+Traced f t = Parts f 0 (cores f) t
