@@ -1,21 +1,26 @@
--- Code is accepted exactly if it keeps the rules of `specs/Rules`: both ways. Assumes nothing.
-use mathlib.Core.Path.{_≡_, refl, ap, _∙_}
+-- The number of a core's code is that of the first of its rules that is broken (`code-in-order`), in the order of `specs/Rules`; so it is 0
+-- exactly if all are kept. In order: starts; the instructions; the targets; the last instruction; all of it. Assumes nothing.
+use mathlib.Core.Path.{_≡_, refl, ap, _∙_, subst}
 use mathlib.Core.Bool.{Bool, true, false}
-use mathlib.Core.List.{List}
+use mathlib.Core.Logic.{inl, inr}
+use mathlib.Core.List.{List, [], _∷_}
 use Prim.Native.Nat.{ℕ, zero, suc, _+_, _≤_, _<_}
 use native.Mathlib.Omega.{arith}
 use borrow.Author.Tests.{lt-ltb, ltb-true, ltb-false}
 use lib.Dec.{ltb}
 use lib.ListN.{length}
 use Rattle.verdict.specs.Verdict.{pick}
+use Rattle.verdict.specs.Items.{OneOf, item, forEach, First}
 use Rattle.verdict.proofs.Verdict.{next-none, yes}
+use Rattle.verdict.proofs.Items.{Judges, judges-none, judges-one, judges-both, judged}
 use Rattle.memory.specs.Memory.{byte}
 use Rattle.code.specs.Flow.{kind, goesTo, target, after}
-use Rattle.code.specs.Code.{instructionRefusal, laid, isStart, allFrom, targetOk, lastFrom, ends, judgeCode}
-use Rattle.code.specs.Rules.{Start, first, then, WellFormedCode}
-use Rattle.code.proofs.Laws.{whole}
+use Rattle.code.specs.Code.{instructionOk, instructionRefusal, laid, isStart, allFrom, targetOk, lastFrom, ends, judgeCode}
+use Rattle.code.specs.Rules.{InstructionRules, Start, first, then, startsFrom, Targets, Last, WellFormedCode, codeItems}
+use Rattle.code.proofs.Laws.{is, whole}
 use Rattle.code.proofs.Passes.{laid-one, laid-end, all-one, all-end, last-one, last-end}
-use Rattle.code.proofs.Sound.{each, each-ok, next-starts, end-is-last, start-zero, Judged, judged, sound}
+use Rattle.code.proofs.Sound.{each, each-ok, each-passes, inside-code, next-starts, end-is-last, start-zero, target-starts, judged as found}
+use Rattle.code.proofs.Rules.{keeps-instruction, accepts-instruction, target-is, has-target}
 
 -- ---- the two ways of saying where an instruction starts
 
@@ -28,86 +33,124 @@ pub is-start : (c : List ℕ) (p : ℕ) → 0 < length c → isStart c p ≡ tru
 unfolding isStart
 is-start c p h w = each c (Start c) (λ k q. q < length c → Start c q) (λ k q i s. (s i, λ g. then (s i) g)) (length c) 0 p (λ i. first h) w
 
--- ---- from acceptance to the rules
+-- ---- the instructions
 
-pub well-formed : (c : List ℕ) → judgeCode c ≡ 0 → WellFormedCode c
-well-formed c z =
-    record {
-      instructions = λ p s. each-ok c p (j .all-laid) (start-is c (j .all-laid) s);
-      targets = λ p s o. let v = sound c p z (start-is c (j .all-laid) s) in is-start c (target c p) (omega (arith, v .inside)) (v .there o);
-      last = λ p s e.
-          let l = end-is-last c p (j .all-laid) (start-is c (j .all-laid) s) (omega arith) in
-          lt-ltb (byte c p) 2 (omega (arith, j .last));
-    }
+instructions-judged : (k : ℕ) (c : List ℕ) (p : ℕ) → Judges (forEach (startsFrom k c p) (λ q. item 6 (InstructionRules c q) ∷ [])) (laid k c p)
+unfolding startsFrom laid instructionRefusal pick
+instructions-judged zero c p = judges-none
+instructions-judged (suc k) c p = go (instructions-judged k c (after c p)) (ltb p (length c)) refl
   where
-    j : Judged c
-    j = judged c z
+    go : Judges (forEach (startsFrom k c (after c p)) (λ q. item 6 (InstructionRules c q) ∷ [])) (laid k c (after c p)) → (b : Bool) → ltb p (length c) ≡ b
+        → Judges (forEach (startsFrom (suc k) c p) (λ q. item 6 (InstructionRules c q) ∷ [])) (laid (suc k) c p)
+    go ih true e = rw e (judges-both (judges-one 5 (instructionOk c p) (keeps-instruction c p) (accepts-instruction c p)) (λ z. ih))
+    go ih false e = rw e judges-none
 
--- ---- from the rules to acceptance
-
-module _ (c : List ℕ) (w : WellFormedCode c) where
-  refusal-none : (p : ℕ) → Start c p → instructionRefusal c p ≡ 0
-  unfolding instructionRefusal
-  refusal-none p s = yes _ 6 (w .instructions p s)
-
+module _ (c : List ℕ) (r : (p : ℕ) → Start c p → InstructionRules c p) where
   -- the walk from a start, or from the end
   laid-none : (k p : ℕ) → (p < length c → Start c p) → laid k c p ≡ 0
-  unfolding laid
+  unfolding laid instructionRefusal
   laid-none zero p s = refl
   laid-none (suc k) p s = go (laid-none k (after c p)) (ltb p (length c)) refl
     where
       go : ((after c p < length c → Start c (after c p)) → laid k c (after c p) ≡ 0) → (b : Bool) → ltb p (length c) ≡ b → laid (suc k) c p ≡ 0
       go ih true e =
           let h : p < length c = ltb-true _ _ e in
-          laid-one k c p h ∙ next-none _ _ (refusal-none p (s h)) (ih (λ g. then (s h) g))
+          laid-one k c p h ∙ next-none _ _ (yes _ 6 (accepts-instruction c p (r p (s h)))) (ih (λ g. then (s h) g))
       go ih false e = laid-end (suc k) c p (ltb-false _ _ e)
 
-  begun : 0 < length c → Start c 0
-  begun h = first h
-
   laid-all : laid (length c) c 0 ≡ 0
-  laid-all = laid-none (length c) 0 begun
+  laid-all = laid-none (length c) 0 first
 
-  target-right : (p : ℕ) → Start c p → targetOk c p ≡ true
+-- ---- the targets and the last instruction, of code whose instructions are laid
+
+module _ (c : List ℕ) (l : laid (length c) c 0 ≡ 0) where
+  instructions : (p : ℕ) → Start c p → InstructionRules c p
+  instructions p s = keeps-instruction c p (each-ok c p l (start-is c l s))
+
+  targets : allFrom (targetOk c) (length c) c 0 ≡ true → Targets c
+  targets a p t s g =
+      let w = start-is c l s in
+      let i = target-is c p g in
+      subst (Start c) (i .1)
+      (is-start c (target c p) (omega (arith, inside-code c p w)) (target-starts c p (each-passes (targetOk c) c p a w) (i .0)))
+
+  target-right : Targets c → (p : ℕ) → Start c p → targetOk c p ≡ true
   unfolding targetOk pick
-  target-right p s = go (goesTo (kind c p)) refl
+  target-right r p s = go (goesTo (kind c p)) refl
     where
       go : (b : Bool) → goesTo (kind c p) ≡ b → targetOk c p ≡ true
-      go true e = rw e (start-is c laid-all (w .targets p s e))
+      go true e = rw e (start-is c l (r p (target c p) s (has-target c p e)))
       go false e = rw e
 
-  targets-from : (k p : ℕ) → (p < length c → Start c p) → allFrom (targetOk c) k c p ≡ true
+  targets-from : Targets c → (k p : ℕ) → (p < length c → Start c p) → allFrom (targetOk c) k c p ≡ true
   unfolding allFrom pick
-  targets-from zero p s = refl
-  targets-from (suc k) p s = go (targets-from k (after c p)) (ltb p (length c)) refl
+  targets-from r zero p s = refl
+  targets-from r (suc k) p s = go (targets-from r k (after c p)) (ltb p (length c)) refl
     where
       go : ((after c p < length c → Start c (after c p)) → allFrom (targetOk c) k c (after c p) ≡ true) → (b : Bool) → ltb p (length c) ≡ b
           → allFrom (targetOk c) (suc k) c p ≡ true
       go ih true e =
           let h : p < length c = ltb-true _ _ e in
-          all-one (targetOk c) k c p h ∙ rw (target-right p (s h)) (ih (λ g. then (s h) g))
+          all-one (targetOk c) k c p h ∙ rw (target-right r p (s h)) (ih (λ g. then (s h) g))
       go ih false e = all-end (targetOk c) (suc k) c p (ltb-false _ _ e)
 
+  targets-all : Targets c → allFrom (targetOk c) (length c) c 0 ≡ true
+  targets-all r = targets-from r (length c) 0 first
+
+  last : ends (lastFrom (length c) c 0 0) ≡ true → Last c
+  last a p s e =
+      let i = end-is-last c p l (start-is c l s) (omega arith) in
+      let h = ltb-true (lastFrom (length c) c 0 0) 2 a in
+      is _ (byte c p) 0 inl (λ n. inr (inl (omega arith)))
+
+  ending : {code : ℕ} → OneOf (0 ∷ 1 ∷ []) code → ends code ≡ true
+  ending (inl e) = rw e
+  ending (inr (inl e)) = rw e
+
   -- `code` ends the code where nothing is left
-  last-right : (k p code : ℕ) → length c ≤ p + k → p ≤ length c → (p < length c → Start c p) → (p ≡ length c → ends code ≡ true)
+  last-right : Last c → (k p code : ℕ) → length c ≤ p + k → p ≤ length c → (p < length c → Start c p) → (p ≡ length c → ends code ≡ true)
       → ends (lastFrom k c p code) ≡ true
-  last-right zero p code m i s e = ap ends (last-end 0 c p code (omega arith)) ∙ e (omega arith)
-  last-right (suc k) p code m i s e = go (last-right k (after c p) (byte c p)) (ltb p (length c)) refl
+  last-right r zero p code m i s e = ap ends (last-end 0 c p code (omega arith)) ∙ e (omega arith)
+  last-right r (suc k) p code m i s e = go (last-right r k (after c p) (byte c p)) (ltb p (length c)) refl
     where
       go : (length c ≤ after c p + k → after c p ≤ length c → (after c p < length c → Start c (after c p)) → (after c p ≡ length c → ends (byte c p) ≡ true)
           → ends (lastFrom k c (after c p) (byte c p)) ≡ true)
           → (b : Bool) → ltb p (length c) ≡ b → ends (lastFrom (suc k) c p code) ≡ true
       go ih true f =
           let h : p < length c = ltb-true _ _ f in
-          let v = whole c p (w .instructions p (s h)) in
+          let v = whole c p (each-ok c p l (start-is c l (s h))) in
           ap ends (last-one k c p code h)
-          ∙ ih (omega (arith, v .long)) (omega (arith, v .inside)) (λ g. then (s h) g) (λ g. w .last p (s h) g)
+          ∙ ih (omega (arith, v .long)) (omega (arith, v .inside)) (λ g. then (s h) g) (λ g. ending (r p (s h) g))
       go ih false f =
           let h : length c ≤ p = ltb-false _ _ f in
           ap ends (last-end (suc k) c p code h) ∙ e (omega arith)
 
-  pub accepted-code : judgeCode c ≡ 0
-  unfolding judgeCode
-  accepted-code =
-      next-none _ _ laid-all
-      (next-none _ _ (yes _ 7 (targets-from (length c) 0 begun)) (yes _ 7 (last-right (length c) 0 0 (omega arith) (omega arith) begun (λ e. refl))))
+  last-all : Last c → ends (lastFrom (length c) c 0 0) ≡ true
+  last-all r = last-right r (length c) 0 0 (omega arith) (omega arith) first (λ e. refl)
+
+-- ---- all of it
+
+pub code-judged : (c : List ℕ) → Judges (codeItems c) (judgeCode c)
+unfolding codeItems judgeCode
+code-judged c =
+    judges-both (instructions-judged (length c) c 0)
+    (λ l. judges-both (judges-one 6 _ (targets c l) (targets-all c l)) (λ t. judges-one 6 _ (last c l) (last-all c l)))
+
+pub code-in-order : (c : List ℕ) → First (codeItems c) (judgeCode c)
+code-in-order c = judged (code-judged c)
+
+-- accepted exactly if all rules are kept
+pub well-formed : (c : List ℕ) → judgeCode c ≡ 0 → WellFormedCode c
+well-formed c z =
+    let j = found c z in
+    record {
+      instructions = instructions c (j .all-laid);
+      targets = targets c (j .all-laid) (j .targets);
+      last = last c (j .all-laid) (lt-ltb _ _ (j .last));
+    }
+
+pub accepted-code : (c : List ℕ) → WellFormedCode c → judgeCode c ≡ 0
+unfolding judgeCode
+accepted-code c w =
+    let l = laid-all c (w .instructions) in
+    next-none _ _ l (next-none _ _ (yes _ 7 (targets-all c l (w .targets))) (yes _ 7 (last-all c l (w .last))))

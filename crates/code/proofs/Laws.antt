@@ -5,7 +5,7 @@ use mathlib.Core.Bool.{Bool, true, false, not}
 use mathlib.Core.List.{List}
 use Prim.Native.Nat.{ℕ, zero, suc, _+_, _≤_, _<_}
 use native.Mathlib.Omega.{arith}
-use borrow.Author.Tests.{ltb-true, leb-true, eqb-true, ne-eqb, lt-ltb, le-leb}
+use borrow.Author.Tests.{ltb-true, leb-true, eqb-true, eqb-false, ne-eqb, lt-ltb, le-leb}
 use lib.Dec.{T, ltb, leb, eqb, eqb→eq, leb→le}
 use lib.ListN.{length, getD}
 use Rattle.verdict.specs.Verdict.{pick, both, either, within, upto}
@@ -19,17 +19,25 @@ use Rattle.code.specs.Code.{operandsOk, instructionOk, instructionRefusa
 use Rattle.code.specs.declared.Instruction.{Instruction}
 use Rattle.code.specs.declared.Instruction.the-variants.{Unknown}
 
+-- b is k, or it is not
+pub is : (P : Type 0) (b k : ℕ) → (b ≡ k → P) → ((b ≡ k → ⊥) → P) → P
+is P b k f g = go (eqb b k) refl
+  where
+    go : (t : Bool) → eqb b k ≡ t → P
+    go true e = f (eqb-true b k e)
+    go false e = g (eqb-false b k e)
+
 -- ---- all code bytes
 
 both-T : (a b : Bool) → T (both a b) → T a × T b
 both-T true b t = (tt, t)
 both-T false b t = absurd t
 
-abbrev same : Bool → Bool → Bool
+abbrev pub same : Bool → Bool → Bool
 same true b = b
 same false b = not b
 
-same-is : (a b : Bool) → T (same a b) → a ≡ b
+pub same-is : (a b : Bool) → T (same a b) → a ≡ b
 same-is true true t = refl
 same-is true false t = absurd t
 same-is false true t = absurd t

@@ -2,5 +2,6 @@ pub mod Laws
 pub mod Passes
 pub mod Sound
 pub mod Laying
+pub mod Rules
 pub mod Exact
 pub mod Parts

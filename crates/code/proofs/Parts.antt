@@ -4,7 +4,7 @@ use mathlib.Core.Bool.{Bool, true, false}
 use mathlib.Core.List.{List}
 use Prim.Native.Nat.{ℕ, _+_, _*_, _≤_, _<_}
 use native.Mathlib.Omega.{arith}
-use borrow.Author.Tests.{eqb-true, eqb-false, ne-eqb}
+use borrow.Author.Tests.{eqb-true, ne-eqb}
 use lib.Dec.{eqb}
 use lib.Seq.{getD-take, getD-drop}
 use Rattle.verdict.specs.Verdict.{pick}
@@ -13,15 +13,7 @@ use Rattle.memory.proofs.Number.{read-word}
 use Rattle.code.specs.Commands.{three, layoutOf, lengthOf}
 use Rattle.code.specs.Instructions.{typedAt, instructionAt, instructionLength}
 use Rattle.code.specs.declared.Instruction.the-variants.{Typed, Unknown}
-use Rattle.code.proofs.Laws.{three-length, length-at, typed-left}
-
--- b is k, or it is not
-is : (P : Type 0) (b k : ℕ) → (b ≡ k → P) → ((b ≡ k → ⊥) → P) → P
-is P b k f g = go (eqb b k) refl
-  where
-    go : (t : Bool) → eqb b k ≡ t → P
-    go true e = f (eqb-true b k e)
-    go false e = g (eqb-false b k e)
+use Rattle.code.proofs.Laws.{is, three-length, length-at, typed-left}
 
 module _ (s : List ℕ) (a n : ℕ) where
   pub byte-part : (p : ℕ) → p < n → byte (part s a n) p ≡ byte s (a + p)

@@ -169,7 +169,7 @@ pub start-zero : (c : List ℕ) → 0 < length c → isStart c 0 ≡ true
 unfolding isStart
 start-zero c h = start-here (length c) c 0 (omega arith) h
 
-target-starts : (c : List ℕ) (p : ℕ) → targetOk c p ≡ true → goesTo (kind c p) ≡ true → isStart c (target c p) ≡ true
+pub target-starts : (c : List ℕ) (p : ℕ) → targetOk c p ≡ true → goesTo (kind c p) ≡ true → isStart c (target c p) ≡ true
 unfolding targetOk pick
 target-starts c p t o = rw o at t
 

@@ -1,15 +1,13 @@
 -- An accepted file is laid as the functions ask. Assumes nothing.
-use mathlib.Core.Path.{_≡_, refl, sym, subst, _∙_}
+use mathlib.Core.Path.{_≡_, sym, subst, _∙_}
 use mathlib.Core.Logic.{_⊎_, inl, inr}
-use mathlib.Core.Bool.{Bool, true, false}
-use mathlib.Core.List.{List}
+use mathlib.Core.Bool.{true}
+use mathlib.Core.List.{List, [], _∷_}
 use Prim.Native.Nat.{ℕ, _+_, _≤_, _<_}
 use native.Mathlib.Omega.{arith}
-use borrow.Author.Tests.{eqb-true}
-use lib.Dec.{T, eqb}
-use Rattle.verdict.specs.Verdict.{either}
+use lib.Dec.{T}
+use Rattle.verdict.specs.Items.{OneOf}
 use Rattle.protocol.specs.Variables.{Variable, readsIt, writesIt}
-use Rattle.code.specs.Code.{isWidth}
 use Rattle.records.specs.File.{variableAt}
 use Rattle.records.specs.Records.{named}
 use Rattle.records.proofs.Exact.{either-left, either-right}
@@ -19,24 +17,11 @@ use Rattle.exchange.specs.Exchange.{namedBy}
 use Rattle.exchange.specs.Laid.{Laid}
 use Rattle.exchange.proofs.Cursors.{reads-named, writes-named}
 
-either-cases : (a b : Bool) → either a b ≡ true → (a ≡ true) ⊎ (b ≡ true)
-either-cases true b e = inl refl
-either-cases false b e = inr e
-
-width-few : (n : ℕ) → isWidth n ≡ true → (1 ≤ n) × (n ≤ 8)
-width-few n e = one (either-cases (eqb n 1) _ e)
-  where
-    four : (eqb n 4 ≡ true) ⊎ (eqb n 8 ≡ true) → (1 ≤ n) × (n ≤ 8)
-    four (inl e) = omega (arith, eqb-true n 4 e)
-    four (inr e) = omega (arith, eqb-true n 8 e)
-
-    two : (eqb n 2 ≡ true) ⊎ (either (eqb n 4) (eqb n 8) ≡ true) → (1 ≤ n) × (n ≤ 8)
-    two (inl e) = omega (arith, eqb-true n 2 e)
-    two (inr e) = four (either-cases (eqb n 4) _ e)
-
-    one : (eqb n 1 ≡ true) ⊎ (either (eqb n 2) (either (eqb n 4) (eqb n 8)) ≡ true) → (1 ≤ n) × (n ≤ 8)
-    one (inl e) = omega (arith, eqb-true n 1 e)
-    one (inr e) = two (either-cases (eqb n 2) _ e)
+width-few : (n : ℕ) → OneOf (1 ∷ 2 ∷ 4 ∷ 8 ∷ []) n → (1 ≤ n) × (n ≤ 8)
+width-few n (inl e) = omega arith
+width-few n (inr (inl e)) = omega arith
+width-few n (inr (inr (inl e))) = omega arith
+width-few n (inr (inr (inr (inl e)))) = omega arith
 
 -- bit k or bit 4 + k names core k
 names : (k : ℕ) (v : Variable) → k < 4 → (namedBy k v ≡ true) ⊎ (namedBy (4 + k) v ≡ true) → T (named k v)

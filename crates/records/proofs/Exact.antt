@@ -13,6 +13,7 @@ use Rattle.verdict.specs.Verdict.{pick, both, either, within}
 use Rattle.verdict.proofs.Verdict.{absurd-bool, both-true, both-not, inside, inside-true}
 use Rattle.protocol.specs.Variables.{Variable, local, readsIt, writesIt, Clear}
 use Rattle.code.specs.Code.{isWidth}
+use Rattle.code.proofs.Rules.{keeps-width, accepts-width}
 use Rattle.records.specs.File.{cores, dataSize, inputSize}
 use Rattle.records.specs.Records.{coreOk, bit, oneWriter, named, placeOk, partOk, partsOk, variableOk, meets, meetsShared, meetsIn, overlap}
 use Rattle.records.specs.Rules.{CoreRules, Writer, VariableRules, Apart}
@@ -241,7 +242,7 @@ pub variable-rules : (f : List ℕ) (v : Variable) → variableOk f v ≡ true �
 unfolding variableOk
 variable-rules f v z =
     record {
-      width = a .0;
+      width = keeps-width (v .width) (a .0);
       writer = writer v (b .0);
       one-way = λ k r w. part-both f v k (part k (reads-low k v r)) r w;
       known = λ k t. at k t .known;
@@ -269,7 +270,7 @@ variable-rules f v z =
 pub variable-ok : (f : List ℕ) (v : Variable) → VariableRules f v → variableOk f v ≡ true
 unfolding variableOk partsOk
 variable-ok f v r =
-    rw (r .width, one-writer v (r .writer), le-leb _ _ (r .in-shared), part 0 (omega arith), part 1 (omega arith), part 2 (omega arith)) (part 3 (omega arith))
+    rw (accepts-width (v .width) (r .width), one-writer v (r .writer), le-leb _ _ (r .in-shared), part 0 (omega arith), part 1 (omega arith), part 2 (omega arith)) (part 3 (omega arith))
   where
     part : (k : ℕ) → k < 4 → partOk f v k ≡ true
     part k h =

@@ -1,11 +1,10 @@
 -- Document 01's rules of the records of a task set file as rules, whatever order they are judged in.
 use Prim.Native.Nat.{ℕ, _+_, _≤_, _<_}
 use mathlib.Core.Path.{_≡_}
-use mathlib.Core.Bool.{true}
-use mathlib.Core.List.{List}
+use mathlib.Core.List.{List, [], _∷_}
 use lib.Dec.{T}
+use Rattle.verdict.specs.Items.{OneOf}
 use Rattle.protocol.specs.Variables.{Variable, local, readsIt, writesIt, Clear}
-use Rattle.code.specs.Code.{isWidth}
 use Rattle.records.specs.File.{cores, dataSize, inputSize, limit}
 use Rattle.records.specs.Records.{named}
 
@@ -24,7 +23,7 @@ pub record Writer (v : Variable) : Type 0 where
 
 pub record VariableRules (f : List ℕ) (v : Variable) : Type 0 where
   -- "width byte 1, 2, 4 or 8"
-  pub width : isWidth (v .width) ≡ true
+  pub width : OneOf (1 ∷ 2 ∷ 4 ∷ 8 ∷ []) (v .width)
   pub writer : Writer v
   -- "No core both reads and writes a variable."
   pub one-way : (k : ℕ) → T (readsIt k v) → T (writesIt k v) → ⊥

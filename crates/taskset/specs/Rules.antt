@@ -1,6 +1,6 @@
 -- Document 01's rules of a task set file and of a trace as rules, whatever order they are judged in. In order: the file; the trace.
 -- Not here: the rules of a core's, a variable's record and of two variables (crate `records`), of a core's code (crate `code`); the numbers.
-use Prim.Native.Nat.{ℕ, zero, suc, _+_, _*_, _≤_, _<_}
+use Prim.Native.Nat.{ℕ, suc, _+_, _*_, _≤_, _<_}
 use mathlib.Core.Path.{_≡_}
 use mathlib.Core.List.{List, [], _∷_, _++_}
 use lib.ListN.{length, take}
