@@ -22,7 +22,7 @@ use Rattle.taskset.specs.Rules.{WellFormed}
 
 -- ---- the mark
 
-mark-is : (f : List ℕ) → 4 ≤ length f → isMark f ≡ true → take 4 f ≡ 77 ∷ 67 ∷ 83 ∷ 49 ∷ []
+pub mark-is : (f : List ℕ) → 4 ≤ length f → isMark f ≡ true → take 4 f ≡ 77 ∷ 67 ∷ 83 ∷ 49 ∷ []
 unfolding isMark
 mark-is [] h z = absurd (let y : ⊥ = omega arith in y)
 mark-is (a ∷ []) h z = absurd (let y : ⊥ = omega arith in y)
@@ -34,7 +34,7 @@ mark-is (a ∷ b ∷ c ∷ d ∷ f) h z =
     let r = both-true (eqb c 83) _ (q .1) in
     rw (eqb-true a 77 (p .0), eqb-true b 67 (q .0), eqb-true c 83 (r .0), eqb-true d 49 (r .1))
 
-is-mark : (f : List ℕ) → take 4 f ≡ 77 ∷ 67 ∷ 83 ∷ 49 ∷ [] → isMark f ≡ true
+pub is-mark : (f : List ℕ) → take 4 f ≡ 77 ∷ 67 ∷ 83 ∷ 49 ∷ [] → isMark f ≡ true
 unfolding isMark
 is-mark [] e = absurd (let y : _≡_ {A = ℕ} 0 1 = cc in let z : ⊥ = omega arith in z)
 is-mark (a ∷ []) e = absurd (let y : _≡_ {A = ℕ} 0 1 = cc in let z : ⊥ = omega arith in z)
@@ -105,7 +105,7 @@ variable-at : (f : List ℕ) (i : ℕ) → variableRefusal f i ≡ 0 → Variabl
 unfolding variableRefusal
 variable-at f i z = variable-rules f (variableAt f i) (unless-zero _ 3 (next-zero (present f (recordPlace f i + 12)) _ z .1))
 
-pair-at : (f : List ℕ) → first (overlapRefusal f) (variables f - 0) 0 ≡ 0 → (i j : ℕ) → i < j → j < variables f → Apart (variableAt f i) (variableAt f j)
+pub pair-at : (f : List ℕ) → first (overlapRefusal f) (variables f - 0) 0 ≡ 0 → (i j : ℕ) → i < j → j < variables f → Apart (variableAt f i) (variableAt f j)
 unfolding overlapRefusal pairRefusal
 pair-at f z i j h l =
     apart _ _
@@ -201,7 +201,7 @@ module _ (f : List ℕ) (e : codePlace f (cores f) ≡ length f) where
 here : (f : List ℕ) (n : ℕ) → n ≤ length f → present f n ≡ 0
 here f n h = yes _ 1 (le-leb _ _ h)
 
-none : (g : ℕ → ℕ) (n : ℕ) → ((i : ℕ) → i < n → g i ≡ 0) → first g (n - 0) 0 ≡ 0
+pub none : (g : ℕ → ℕ) (n : ℕ) → ((i : ℕ) → i < n → g i ≡ 0) → first g (n - 0) 0 ≡ 0
 none g n h = zero-first g (n - 0) 0 (λ j a b. h j (omega arith))
 
 module _ (f : List ℕ) (w : WellFormed f) where

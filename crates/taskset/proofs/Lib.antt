@@ -1,5 +1,6 @@
 pub mod Laws
 pub mod Exact
+pub mod Ordered
 pub mod Accepted
 pub mod Records
 pub mod Traced

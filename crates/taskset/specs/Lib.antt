@@ -2,4 +2,5 @@ pub mod Judge
 pub mod Layout
 pub mod Trace
 pub mod Rules
+pub mod Items
 pub mod Task

@@ -12,15 +12,22 @@ use Rattle.taskset.specs.Judge.{codePlace, codeOf}
 
 -- ---- the file. `ends` says that every section is there and that nothing follows: the places of the sections, by their counts, are those of `specs/Judge`.
 
+-- 4D 43 53 31 hex
+abbrev pub Mark : List ℕ → Type 0
+Mark f = take 4 f ≡ 77 ∷ 67 ∷ 83 ∷ 49 ∷ []
+
+-- "Two variables share no byte": each against each after it
+abbrev pub NoOverlap : List ℕ → Type 0
+NoOverlap f = (i j : ℕ) → i < j → j < variables f → Apart (variableAt f i) (variableAt f j)
+
 pub record WellFormed (f : List ℕ) : Type 0 where
-  -- 4D 43 53 31 hex
-  pub mark : take 4 f ≡ 77 ∷ 67 ∷ 83 ∷ 49 ∷ []
+  pub mark : Mark f
   pub some-core : 1 ≤ cores f
   pub most-cores : cores f ≤ 4
   pub core-rules : (k : ℕ) → k < cores f → CoreRules f k
   pub most-variables : variables f ≤ 64
   pub variable-rules : (i : ℕ) → i < variables f → VariableRules f (variableAt f i)
-  pub no-overlap : (i j : ℕ) → i < j → j < variables f → Apart (variableAt f i) (variableAt f j)
+  pub no-overlap : NoOverlap f
   pub some-code : (k : ℕ) → k < cores f → 1 ≤ word f (codePlace f k)
   pub most-code : (k : ℕ) → k < cores f → word f (codePlace f k) ≤ 8192
   pub code-rules : (k : ℕ) → k < cores f → WellFormedCode (codeOf f k)

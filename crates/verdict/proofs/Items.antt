@@ -1,6 +1,6 @@
 -- Laws of `specs/Items`: how a computed judgement is shown to be the number of the first rule that is broken. In order: numbers on a list;
 -- a judgement of items, whatever follows; the items of each thing on a list; all items. Assumes nothing.
-use mathlib.Core.Path.{_≡_, refl, sym, subst}
+use mathlib.Core.Path.{_≡_, refl, sym, subst, _∙_}
 use mathlib.Core.Bool.{Bool, true, false}
 use mathlib.Core.Logic.{_⊎_, inl, inr}
 use mathlib.Core.List.{List, [], _∷_, _++_, append-assoc, append-nil}
@@ -47,7 +47,7 @@ unfolding next unless
 judges-one r true to from = record { before = λ js x f. kept (to refl) (f refl) }
 judges-one r false to from = record { before = λ js x f. broken (λ p. absurd-bool (from p)) }
 
-next-both : (a b x : ℕ) → next (next a b) x ≡ next a (next b x)
+pub next-both : (a b x : ℕ) → next (next a b) x ≡ next a (next b x)
 unfolding next
 next-both zero b x = refl
 next-both (suc a) b x = refl
@@ -70,6 +70,17 @@ judges-number r a (inr e) to from = record { before = λ js x f. rw e (broken (�
 
 -- ---- the items of each thing
 
+-- a judgement that is 0 or r of each thing is 0 or r of all
+pub first-number : (r : ℕ) (g : ℕ → ℕ) → ((j : ℕ) → (g j ≡ 0) ⊎ (g j ≡ r)) → (n i : ℕ) → (first g n i ≡ 0) ⊎ (first g n i ≡ r)
+unfolding first next
+first-number r g h zero i = inl refl
+first-number r g h (suc n) i = go (first-number r g h n (i + 1)) (g i) refl (h i)
+  where
+    go : (first g n (i + 1) ≡ 0) ⊎ (first g n (i + 1) ≡ r) → (x : ℕ) → g i ≡ x → (g i ≡ 0) ⊎ (g i ≡ r) → (first g (suc n) i ≡ 0) ⊎ (first g (suc n) i ≡ r)
+    go ih zero e c = rw e ih
+    go ih (suc x) e (inl z) = absurd (let y : ⊥ = omega arith in y)
+    go ih (suc x) e (inr z) = inr (rw e (sym e ∙ z))
+
 pub judges-each : (items : ℕ → List Item) (g : ℕ → ℕ) (n i : ℕ) → ((j : ℕ) → i ≤ j → j < i + n → Judges (items j) (g j)) → Judges (forEach (numbers n i) items) (first g n i)
 unfolding first
 judges-each items g zero i h = judges-none
@@ -82,6 +93,10 @@ next-last : (a : ℕ) → next a 0 ≡ a
 unfolding next
 next-last zero = refl
 next-last (suc a) = refl
+
+-- the last items of a section
+pub judges-end : {is : List Item} {a : ℕ} → Judges is a → Judges (is ++ []) a
+judges-end {is} {a} p = rw (append-nil is) p
 
 pub judged : {is : List Item} {a : ℕ} → Judges is a → First is a
 judged {is} {a} p = rw (append-nil is, next-last a) at (p .before [] 0 (λ z. none))

@@ -36,6 +36,11 @@ abbrev pub forEach : List ℕ → (ℕ → List Item) → List Item
 forEach [] items = []
 forEach (x ∷ xs) items = items x ++ forEach xs items
 
+-- sections of items, one after another
+abbrev pub inTurn : List (List Item) → List Item
+inTurn [] = []
+inTurn (is ∷ sections) = is ++ inTurn sections
+
 -- ---- the first that is broken
 
 -- r is the number of the first item whose rule is broken, 0 where none is

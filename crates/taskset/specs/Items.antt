@@ -1,0 +1,42 @@
+-- Document 01: "The file is judged front to back: presence of each item (1), then the item; an item is the mark, a count or length, a core's
+-- three numbers, a variable's record or a core's code. Overlap follows the last variable; targets follow that core's instructions; leftover
+-- bytes come last." A line below is an item with its rules and their numbers, in that order; the rules are those of `Rules`, and of the same
+-- files of the crates `records` and `code`. Not here: how a loader computes the number (`Judge`).
+use Prim.Native.Nat.{ℕ, _+_, _≤_}
+use mathlib.Core.Path.{_≡_}
+use mathlib.Core.List.{List, [], _∷_}
+use lib.ListN.{length}
+use Rattle.verdict.specs.Items.{From, numbers, Item, item, forEach, inTurn}
+use Rattle.memory.specs.Memory.{word}
+use Rattle.code.specs.Rules.{codeItems}
+use Rattle.records.specs.File.{cores, corePlace, countPlace, variables, recordPlace, variableAt}
+use Rattle.records.specs.Rules.{CoreRules, VariableRules}
+use Rattle.taskset.specs.Judge.{codePlace, codeOf}
+use Rattle.taskset.specs.Rules.{Mark, NoOverlap}
+
+-- the file has n bytes at least
+abbrev pub Present : List ℕ → ℕ → Type 0
+Present f n = n ≤ length f
+
+-- a core's three numbers; a variable's record; the length of a core's code, and the code
+abbrev pub coreItems : List ℕ → ℕ → List Item
+coreItems f k = item 1 (Present f (corePlace k + 6)) ∷ item 3 (CoreRules f k) ∷ []
+
+abbrev pub variableItems : List ℕ → ℕ → List Item
+variableItems f i = item 1 (Present f (recordPlace f i + 12)) ∷ item 4 (VariableRules f (variableAt f i)) ∷ []
+
+abbrev pub lengthItems : List ℕ → ℕ → List Item
+lengthItems f p = item 1 (Present f (p + 2)) ∷ item 6 (From 1 8192 (word f p)) ∷ item 1 (Present f (p + 2 + word f p)) ∷ []
+
+unfoldable pub fileItems : List ℕ → List Item
+fileItems f =
+    inTurn
+    ((item 1 (Present f 4) ∷ item 2 (Mark f) ∷ [])  -- the mark
+    ∷ (item 1 (Present f 5) ∷ item 3 (From 1 4 (cores f)) ∷ [])  -- the number of cores
+    ∷ forEach (numbers (cores f) 0) (coreItems f)
+    ∷ (item 1 (Present f (countPlace f + 1)) ∷ item 4 (variables f ≤ 64) ∷ [])  -- the number of variables
+    ∷ forEach (numbers (variables f) 0) (variableItems f)
+    ∷ (item 5 (NoOverlap f) ∷ [])  -- overlap follows the last variable
+    ∷ forEach (numbers (cores f) 0) (λ k. inTurn (lengthItems f (codePlace f k) ∷ codeItems (codeOf f k) ∷ []))
+    ∷ (item 1 (codePlace f (cores f) ≡ length f) ∷ [])  -- leftover bytes come last
+    ∷ [])
