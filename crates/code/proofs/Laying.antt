@@ -11,10 +11,10 @@ use lib.Dec.{ltb, eqb}
 use lib.ListN.{length, getD, set, length-set, replicate, List·getD-eq-default}
 use lib.Seq.{getD-set-same, getD-set-other}
 use Rattle.verdict.specs.Verdict.{pick, either, next}
-use Rattle.verdict.proofs.Verdict.{absurd-bool, stop, either-true, either-false}
+use Rattle.verdict.proofs.Verdict.{absurd-bool, skip, stop, halt, no, next-zero, either-true, either-false}
 use Rattle.memory.specs.Memory.{byte}
 use Rattle.code.specs.Flow.{kind, goesTo, target, after}
-use Rattle.code.specs.Code.{instructionRefusal, laid, startFrom, isStart, allFrom, targetOk, lastFrom, acceptedLength, Asked, TargetAsked, Pass, AllMet}
+use Rattle.code.specs.Code.{instructionRefusal, laid, startFrom, isStart, allFrom, targetOk, lastFrom, acceptedLength, judgeCode, Asked, TargetAsked, Pass, AllMet}
 use Rattle.code.proofs.Laws.{whole, accepted, length-taken}
 use Rattle.code.proofs.Passes.{laid-one, start-one, all-one, last-one, laid-end, start-end, all-end, last-end, start-here, start-beyond}
 use Rattle.code.proofs.Sound.{each-passes}
@@ -299,6 +299,25 @@ targets-wanted c r l o m x p z a e = never _ true (λ t. sym (a .high (p .closed
 pub targets-right : (c : List ℕ) (r l : ℕ) (o : Bool) (m : List ℕ) (x : Bool) → Pass c r l o m → r ≡ 0 → o ≡ false → AllMet m x → x ≡ true
     → allFrom (targetOk c) (length c) c 0 ≡ true
 targets-right c r l o m x p z f a e = p .met z f (a .low e)
+
+-- the instructions come before the targets outside the map
+module _ (c : List ℕ) (r l : ℕ) (o : Bool) (m : List ℕ) (p : Pass c r l o m) (x y : ℕ) (e : x ≡ pick o 7 0) (d : y ≡ next r x) where
+  pub first-refused : (y ≡ 0 → ⊥) → y ≡ judgeCode c
+  unfolding judgeCode pick next
+  first-refused nz = go r refl o refl
+    where
+      go : (n : ℕ) → r ≡ n → (b : Bool) → o ≡ b → y ≡ judgeCode c
+      go zero z true f = d ∙ rw (z, e, f) (skip (sym (p .right) ∙ z) (halt 6 _ (no _ _ (targets-outside c r l o m p z f))))
+      go zero z false f = absurd (nz (d ∙ rw (z, e, f)))
+      go (suc n) z b f = d ∙ rw z (halt n _ (sym (p .right) ∙ z))
+
+  pub first-none : y ≡ 0 → (r ≡ 0) × (o ≡ false)
+  unfolding pick next
+  first-none q = go o refl (next-zero r x (sym d ∙ q))
+    where
+      go : (b : Bool) → o ≡ b → (r ≡ 0) × (x ≡ 0) → (r ≡ 0) × (o ≡ false)
+      go true f z = absurd (let a : x ≡ 7 = e ∙ rw f in let w = z .1 in let y : ⊥ = omega arith in y)
+      go false f z = (z .0, f)
 
 -- ---- the largest byte of a map
 

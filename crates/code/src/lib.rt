@@ -4,7 +4,7 @@ ghost use mathlib.Core.Path.{_≡_};
 ghost use mathlib.Core.Bool.{true};
 ghost use Prim.Native.Nat.{ℕ, _+_, _<_, _≤_};
 ghost use lib.ListN.{length, getD};
-ghost use Rattle.verdict.specs.Verdict.{within};
+ghost use Rattle.verdict.specs.Verdict.{pick, within, next};
 ghost use Rattle.memory.specs.Memory.{byte, readLE};
 ghost use Rattle.values.specs.Types.{takes};
 ghost use Rattle.code.specs.Commands.{three, lengthOf, Lengths};
@@ -681,17 +681,35 @@ fn all_met(marks: &[u8]) -> bool
     most < 2
 }
 
-// The refusal of a core's code.
+// The first refusal of two: b only where a is none.
+fn first_refusal(a: u8, b: u8) -> u8
+    ensures { λ r. ⌜ r ≡ next a b ⌝ }
+{
+    if a != 0 {
+        return a;
+    }
+    b
+}
+
+// The refusal of a T outside the map.
+fn outside_refusal(outside: bool) -> u8
+    ensures { λ r. ⌜ r ≡ pick outside 7 0 ⌝ }
+{
+    if outside {
+        return 7;
+    }
+    0
+}
+
+// The refusal of a core's code: all instructions before any target.
 pub fn judge_code(code: &[u8]) -> u8
     requires { ⌜ length (now code) ≤ 8192 ⌝ }
     ensures { λ r. ⌜ r ≡ judgeCode (now (code .entry)) ⌝ }
 {
     let m = lay(code);
-    if m.refusal != 0 {
-        return m.refusal;
-    }
-    if m.outside {
-        return 7;
+    let r = first_refusal(m.refusal, outside_refusal(m.outside));
+    if r != 0 {
+        return r;
     }
     let marks = m.marks;
     if !all_met(&marks) {

@@ -1,4 +1,4 @@
-// Files and traces with known results: the samples of refusals 1..7 and 22; the bounds of counts, sizes and lengths; each byte of a file of
+// Files and traces with known results: the samples of refusals 1..7 and 22; files with two of them; the bounds of counts, sizes and lengths; each byte of a file of
 // four cores damaged in five ways; each cut of it; the largest file. A file is lent for reading, so a refusal writes nothing.
 ghost use Prim.Native.Nat.{_≤_};
 
@@ -97,6 +97,19 @@ fn samples() {
         b"MCS1\x01\x01\x00\x00\x00\x01\x00\x00\x01\x20",
     );
     file(b"cut code", b"MCS1\x01\x01\x00\x00\x00\x01\x00\x00\x00\x20");
+    // all records before any overlap; all instructions before any target; leftover bytes last
+    file(
+        b"overlap and width 3",
+        b"MCS1\x01\x10\x00\x00\x00\x01\x00\x03\x00\x00\x02\x01\x00\x00\x00\x00\x00\x00\x00\x00\x01\x00\x02\x01\x04\x00\x00\x00\x00\x00\x00\x00\x08\x00\x03\x01\x08\x00\x00\x00\x00\x00\x00\x00\x01\x00\x00",
+    );
+    file(
+        b"target and code 63",
+        b"MCS1\x01\x01\x00\x00\x00\x01\x00\x00\x04\x00\x01\xFF\xFF\x63",
+    );
+    file(
+        b"code 63 and goes on",
+        b"MCS1\x01\x01\x00\x00\x00\x01\x00\x00\x01\x00\x63\x00",
+    );
 }
 
 // ---- bounds: one core with this data size, and code of this length that is all RETURN

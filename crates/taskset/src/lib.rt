@@ -62,9 +62,9 @@ fn variables_refusal(f: &[u8]) -> u8
     if 64 < m {
         return 4;
     }
-    let r = records::variables_refusal(f, m);
-    if r != 0 {
-        return r;
+    let each = records::variables_refusal(f, m);
+    if each != 0 {
+        return each;
     }
     records::overlaps_refusal(f, m)
 }
