@@ -1,22 +1,22 @@
 -- The number of a core's code is that of the first of its rules that is broken (`code-in-order`), in the order of `specs/Rules`; so it is 0
--- exactly if all are kept. In order: starts; the instructions; the targets; the last instruction; all of it. Assumes nothing.
+-- exactly if all are kept. In order: starts; the instructions; the targets; the last instruction; all of it; number by number. Assumes nothing.
 use mathlib.Core.Path.{_≡_, refl, ap, _∙_, subst}
 use mathlib.Core.Bool.{Bool, true, false}
-use mathlib.Core.Logic.{inl, inr}
+use mathlib.Core.Logic.{_⊎_, inl, inr}
 use mathlib.Core.List.{List, [], _∷_}
 use Prim.Native.Nat.{ℕ, zero, suc, _+_, _≤_, _<_}
 use native.Mathlib.Omega.{arith}
 use borrow.Author.Tests.{lt-ltb, ltb-true, ltb-false}
 use lib.Dec.{ltb}
 use lib.ListN.{length}
-use Rattle.verdict.specs.Verdict.{pick}
+use Rattle.verdict.specs.Verdict.{pick, next, unless}
 use Rattle.verdict.specs.Items.{OneOf, item, forEach, First}
 use Rattle.verdict.proofs.Verdict.{next-none, yes}
 use Rattle.verdict.proofs.Items.{Judges, judges-none, judges-one, judges-both, judged}
 use Rattle.memory.specs.Memory.{byte}
 use Rattle.code.specs.Flow.{kind, goesTo, target, after}
 use Rattle.code.specs.Code.{instructionOk, instructionRefusal, laid, isStart, allFrom, targetOk, lastFrom, ends, judgeCode}
-use Rattle.code.specs.Rules.{InstructionRules, Start, first, then, startsFrom, Targets, Last, WellFormedCode, codeItems}
+use Rattle.code.specs.Rules.{InstructionRules, Start, first, then, startsFrom, Instructions, Targets, Last, WellFormedCode, codeItems}
 use Rattle.code.proofs.Laws.{is, whole}
 use Rattle.code.proofs.Passes.{laid-one, laid-end, all-one, all-end, last-one, last-end}
 use Rattle.code.proofs.Sound.{each, each-ok, each-passes, inside-code, next-starts, end-is-last, start-zero, target-starts, judged as found}
@@ -45,7 +45,7 @@ instructions-judged (suc k) c p = go (instructions-judged k c (after c p)) (ltb 
     go ih true e = rw e (judges-both (judges-one 5 (instructionOk c p) (keeps-instruction c p) (accepts-instruction c p)) (λ z. ih))
     go ih false e = rw e judges-none
 
-module _ (c : List ℕ) (r : (p : ℕ) → Start c p → InstructionRules c p) where
+module _ (c : List ℕ) (r : Instructions c) where
   -- the walk from a start, or from the end
   laid-none : (k p : ℕ) → (p < length c → Start c p) → laid k c p ≡ 0
   unfolding laid instructionRefusal
@@ -64,7 +64,7 @@ module _ (c : List ℕ) (r : (p : ℕ) → Start c p → InstructionRules c p) w
 -- ---- the targets and the last instruction, of code whose instructions are laid
 
 module _ (c : List ℕ) (l : laid (length c) c 0 ≡ 0) where
-  instructions : (p : ℕ) → Start c p → InstructionRules c p
+  instructions : Instructions c
   instructions p s = keeps-instruction c p (each-ok c p l (start-is c l s))
 
   targets : allFrom (targetOk c) (length c) c 0 ≡ true → Targets c
@@ -154,3 +154,41 @@ unfolding judgeCode
 accepted-code c w =
     let l = laid-all c (w .instructions) in
     next-none _ _ l (next-none _ _ (yes _ 7 (targets-all c l (w .targets))) (yes _ 7 (last-all c l (w .last))))
+
+-- ---- number by number
+
+pub record CodeExactly (c : List ℕ) : Type 0 where
+  pub six : (Instructions c → ⊥) → judgeCode c ≡ 6
+  pub seven : Instructions c → (Targets c → Last c → ⊥) → judgeCode c ≡ 7
+  pub none : WellFormedCode c → judgeCode c ≡ 0
+  pub kept : judgeCode c ≡ 0 → WellFormedCode c
+
+laid-number : (k : ℕ) (c : List ℕ) (p : ℕ) → (laid k c p ≡ 0) ⊎ (laid k c p ≡ 6)
+unfolding laid instructionRefusal unless next pick
+laid-number zero c p = inl refl
+laid-number (suc k) c p = go (laid-number k c (after c p)) (ltb p (length c)) refl (instructionOk c p) refl
+  where
+    go : (laid k c (after c p) ≡ 0) ⊎ (laid k c (after c p) ≡ 6) → (b : Bool) → ltb p (length c) ≡ b → (o : Bool) → instructionOk c p ≡ o
+        → (laid (suc k) c p ≡ 0) ⊎ (laid (suc k) c p ≡ 6)
+    go ih true e true f = rw (e, f) ih
+    go ih true e false f = inr (rw (e, f))
+    go ih false e o f = inl (rw e)
+
+pub code-exactly : (c : List ℕ) → CodeExactly c
+unfolding judgeCode unless next
+code-exactly c = record { six = six; seven = seven; none = accepted-code c; kept = well-formed c }
+  where
+    six : (Instructions c → ⊥) → judgeCode c ≡ 6
+    six n = go (laid-number (length c) c 0)
+      where
+        go : (laid (length c) c 0 ≡ 0) ⊎ (laid (length c) c 0 ≡ 6) → judgeCode c ≡ 6
+        go (inl e) = absurd (n (instructions c e))
+        go (inr e) = rw e
+
+    seven : Instructions c → (Targets c → Last c → ⊥) → judgeCode c ≡ 7
+    seven i n = go (laid-all c i) (allFrom (targetOk c) (length c) c 0) refl (ends (lastFrom (length c) c 0 0)) refl
+      where
+        go : laid (length c) c 0 ≡ 0 → (b : Bool) → allFrom (targetOk c) (length c) c 0 ≡ b → (o : Bool) → ends (lastFrom (length c) c 0 0) ≡ o → judgeCode c ≡ 7
+        go l true e true f = absurd (n (targets c l e) (last c l f))
+        go l true e false f = rw (l, e, f)
+        go l false e o f = rw (l, e)

@@ -56,15 +56,15 @@ known-low code e =
     (λ d. either-way (within 16 20 code) _ d (λ a. omega (arith, inside-true 16 20 code a))
     (λ g. either-way (within 24 37 code) _ g (λ a. omega (arith, inside-true 24 37 code a)) (λ a. omega (arith, inside-true 41 42 code a))))
 
-never : (b : Bool) → (b ≡ true → ⊥) → b ≡ false
-never true h = absurd (h refl)
-never false h = refl
+refuted : (b : Bool) → (b ≡ true → ⊥) → b ≡ false
+refuted true h = absurd (h refl)
+refuted false h = refl
 
 none-known : (code : ℕ) → ltb code 43 ≡ false → ltb 0 (lengthOf code) ≡ known code
 none-known code e =
     let h : 43 ≤ code = ltb-false _ _ e in
-    never (ltb 0 (lengthOf code)) (λ z. let l = low code (ltb-true _ _ z) in let y : ⊥ = omega arith in y)
-    ∙ sym (never (known code) (λ z. let l = known-low code z in let y : ⊥ = omega arith in y))
+    refuted (ltb 0 (lengthOf code)) (λ z. let l = low code (ltb-true _ _ z) in let y : ⊥ = omega arith in y)
+    ∙ sym (refuted (known code) (λ z. let l = known-low code z in let y : ⊥ = omega arith in y))
 
 -- the code bytes with a length are those of the table of commands
 pub known-is : (code : ℕ) → ltb 0 (lengthOf code) ≡ known code

@@ -54,6 +54,10 @@ startsFrom (suc k) c p = pick (ltb p (length c)) (p ∷ startsFrom k c (after c 
 
 -- ---- the code
 
+-- "The code is instructions laid end to end."
+abbrev pub Instructions : List ℕ → Type 0
+Instructions c = (p : ℕ) → Start c p → InstructionRules c p
+
 -- "Each T is the start of one."
 abbrev pub Targets : List ℕ → Type 0
 Targets c = (p t : ℕ) → Start c p → Target c p t → Start c t
@@ -63,7 +67,7 @@ abbrev pub Last : List ℕ → Type 0
 Last c = (p : ℕ) → Start c p → after c p ≡ length c → OneOf (0 ∷ 1 ∷ []) (byte c p)
 
 pub record WellFormedCode (c : List ℕ) : Type 0 where
-  pub instructions : (p : ℕ) → Start c p → InstructionRules c p
+  pub instructions : Instructions c
   pub targets : Targets c
   pub last : Last c
 
