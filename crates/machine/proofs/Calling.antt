@@ -1,21 +1,23 @@
--- Calls one after another: a step call of a fit state is the step, and leaves a fit state; so are lists of them. In order: one call; lists; the
--- fresh state; a run, and demand 3 of step calls. Assumes nothing.
+-- Calls one after another: a call of a fit state is the steps that it counts as, and leaves a fit state; so are lists of them. In order: one
+-- call; lists; a run; the fresh state; demand 3 of every list of calls. Assumes nothing.
 use mathlib.Core.Path.{_≡_, refl, sym, ap, ap₂, _∙_, subst}
-use mathlib.Core.Logic.{_⊎_, inl, inr}
+use mathlib.Core.Logic.{_≢_}
 use mathlib.Core.Bool.{Bool, true, false}
-use mathlib.Core.List.{List, [], _∷_, _++_, map}
+use mathlib.Core.List.{List, [], _∷_, _++_, map, append-nil}
 use Prim.Native.Nat.{ℕ, zero, suc, _+_, _*_, _≤_, _<_}
 use native.Mathlib.Omega.{arith}
-use borrow.Author.Tests.{lt-ltb, le-ltb, ltb-true, ltb-false, eq-eqb, ne-eqb, eqb-true}
-use lib.Dec.{ltb, eqb}
-use lib.ListN.{length, getD, replicate, length-map, length-replicate, getD-replicate, replicate-append-replicate, List·getD-eq-default}
+use borrow.Author.Tests.{lt-ltb, ltb-true, eq-eqb, ne-eqb, eqb-true, eqb-false}
+use lib.Dec.{eqb}
+use lib.Seq.{take-all}
+use lib.ListN.{length, getD, replicate, take, length-take, length-append, take-append-drop, drop-of-length-le, length-map, length-replicate, getD-replicate, replicate-append-replicate}
 use Rattle.verdict.specs.Verdict.{pick, both}
-use Rattle.verdict.proofs.Verdict.{pick-true, pick-false, next-none, next-zero, unless-zero, both-true}
+use Rattle.verdict.proofs.Verdict.{pick-true, pick-false, by-pick, next-none, next-zero, unless-zero, both-true}
 use Rattle.memory.specs.Memory.{total, split, flat, part, splice}
 use Rattle.memory.proofs.Cores.{split-flat-of}
 use Rattle.protocol.specs.declared.Registers.{Registers}
-use Rattle.protocol.specs.State.{Core, State as Whole, core, absent, cleared, mode}
-use Rattle.protocol.specs.Step.{step, stepIn, run, takings, encoded, orderList}
+use Rattle.protocol.specs.State.{Core, State as Whole, core, absent, cleared}
+use Rattle.protocol.specs.Step.{step, run, takingOf, takings, encoded}
+use Rattle.protocol.proofs.Steps.{run-append, takings-append}
 use Rattle.protocol.specs.Fresh.{freshCore, fresh}
 use Rattle.records.specs.File.{cores, dataSize}
 use Rattle.taskset.specs.Judge.{judge}
@@ -34,11 +36,11 @@ use Rattle.states.proofs.Kept.{fit-kept}
 use Rattle.states.proofs.Fresh.{map-at, sizes-length, sizes-at, fresh-core, fresh-fit}
 use Rattle.runner.specs.Runs.{Left, left, allBelow, ranCall}
 use Rattle.machine.specs.Calls.{lentFits, callRefusal, answerOf, tableOf, freshRefusal, freshCall, runRefusal, runCall, stepRefusal, stepped, stepCall}
-use Rattle.machine.specs.Calling.{stepCalls, wholeOf, RunIsSteps, CallsInterleaved}
+use Rattle.machine.specs.Calling.{Lending, entire, front, lentOf, replaced, Call, stepping, running, restored, leaves, calls, stepCalls, wholeOf, countsAs, stepsOf, takenOf, Unchanged, RunIsSteps, CallsInterleaved}
 use Rattle.runner.proofs.Running.{shared-in}
 use Rattle.runner.proofs.End.{listed-is, data-back}
 use Rattle.machine.proofs.Interleaving.{interleaved-machine}
-use Rattle.machine.proofs.Calls.{refuse-named, refuse-none, granted}
+use Rattle.machine.proofs.Calls.{refuse-none, granted}
 use Rattle.machine.proofs.Back.{state-back, sized-back, held-back, held-twice}
 
 -- ---- one call
@@ -49,17 +51,90 @@ pub record Lendable (f t : List ℕ) (x : Left) : Type 0 where
   pub sized : Sized f (x .answer .state) (x .memory) (x .shared)
   pub fit : Fit f t (wholeOf f x)
 
--- a core number from n on: the step changes nothing
-step-none : (f t : List ℕ) (s : Whole) → Fit f t s → (k : ℕ) → cores f ≤ k → step (taskOf f t) k s ≡ s
-unfolding step
-step-none f t s fit k l =
-    let e : core (s .plant) k ≡ absent = List·getD-eq-default (s .plant .cores) absent (subst (λ (n : ℕ). n ≤ k) (sym (fit .table)) l) in
-    ap (λ (c : Core). stepIn (mode c) (taskOf f t) k c s) e
+-- a call whose steps are ks, made with what x has, left y
+pub record Counted (f t : List ℕ) (x y : Left) (ks : List ℕ) : Type 0 where
+  pub whole : wholeOf f y ≡ run (taskOf f t) ks (wholeOf f x)
+  pub taken : y .answer .taken ≡ length (takings (taskOf f t) ks (wholeOf f x))
+  pub lendable : Lendable f t y
 
-module _ (f t : List ℕ) (ok : Set f t) (x : Left) (w : Lendable f t x) (k : ℕ) where
-  abbrev left-by : Left
-  left-by = stepCall f t (x .answer .state) (x .memory) (x .shared) k
+run-fit : (f t : List ℕ) → Set f t → (ks : List ℕ) (s : Whole) → Fit f t s → Fit f t (run (taskOf f t) ks s)
+run-fit f t ok [] s fit = fit
+run-fit f t ok (k ∷ ks) s fit = run-fit f t ok ks (step (taskOf f t) k s) (fit-kept f t ok (executes f t ok) k s fit)
 
+-- what a memory lends whole, and what it is after a call that changes nothing
+module _ (m : List ℕ) where
+  lent-all : (a : Lending) → length (lentOf a m) ≡ length m → lentOf a m ≡ m
+  lent-all entire e = refl
+  lent-all (front n) e = take-all n m (omega (arith, sym (length-take n m) ∙ e))
+
+  replaced-all : (a : Lending) (y : List ℕ) → length (lentOf a m) ≡ length m → replaced a m y ≡ y
+  replaced-all entire y e = refl
+  replaced-all (front n) y e = ap (λ (l : List ℕ). y ++ l) (drop-of-length-le m {i = n} (omega (arith, sym (length-take n m) ∙ e))) ∙ append-nil y
+
+  replaced-same : (a : Lending) → replaced a m (lentOf a m) ≡ m
+  replaced-same entire = refl
+  replaced-same (front n) = take-append-drop n m
+
+module _ (f t : List ℕ) (ok : Set f t) (x : Left) (w : Lendable f t x) where
+  -- the caller's state with a fit state s for its cores
+  left-back : (s : Whole) → Fit f t s → (y : Left) → y .answer .state ≡ heldAfter (cores f) (x .answer .state) s → y .memory ≡ dataOf s → y .shared ≡ s .plant .shared
+      → (wholeOf f y ≡ s) × Lendable f t y
+  unfolding heldAfter
+  left-back s fit y a b c =
+      let back : wholeOf f y ≡ s = (λ i. stateOf f (a i) (b i) (c i)) ∙ state-back f t (ok .few) (x .answer .state) s fit in
+      let sized = sized-back f t (ok .few) (x .answer .state) s fit in (
+        back,
+        record {
+          count = ap (λ (h : State). h .count) a ∙ w .count;
+          sized = record {
+            memory = ap length b ∙ sized .memory;
+            shared = ap length c ∙ sized .shared;
+            places = ap (λ (h : State). length (h .places)) a ∙ sized .places;
+            offsets = ap (λ (h : State). length (h .offsets)) a ∙ sized .offsets;
+          };
+          fit = subst (Fit f t) (sym back) fit;
+        },
+      )
+
+  module _ (a b : Lending) where
+    abbrev memory : List ℕ
+    memory = lentOf a (x .memory)
+
+    abbrev shared : List ℕ
+    shared = lentOf b (x .shared)
+
+    -- a call that is refused changes nothing
+    refused : (ks : List ℕ) (y : Left) (r : ℕ) (list : List ℕ) → r ≢ 0 → y ≡ left (answerOf r (x .answer .state)) memory shared list
+        → Counted f t x (restored a b x y) (pick (eqb (y .answer .refusal) 0) ks [])
+    unfolding pick
+    refused ks y r list n e = subst (λ (z : Left). Counted f t x (restored a b x z) (pick (eqb (z .answer .refusal) 0) ks [])) (sym e)
+        (rw (ne-eqb r 0 n) record {
+          whole = λ i. stateOf f (x .answer .state) (replaced-same (x .memory) a i) (replaced-same (x .shared) b i);
+          taken = refl;
+          lendable = subst (Lendable f t) (sym (λ i. left (answerOf r (x .answer .state)) (replaced-same (x .memory) a i) (replaced-same (x .shared) b i) list))
+              record { count = w .count; sized = w .sized; fit = w .fit };
+        })
+
+    module _ (p : length memory ≡ total (sizesOf f)) (q : length shared ≡ 1024) where
+      pub memory-all : length memory ≡ length (x .memory)
+      memory-all = p ∙ sym (w .sized .memory)
+
+      pub shared-all : length shared ≡ length (x .shared)
+      shared-all = q ∙ sym (w .sized .shared)
+
+      -- a call that is not refused is its steps
+      granted-call : (ks : List ℕ) (y : Left) → y .answer .refusal ≡ 0
+          → y .answer .state ≡ heldAfter (cores f) (x .answer .state) (run (taskOf f t) ks (wholeOf f x))
+          → y .memory ≡ dataOf (run (taskOf f t) ks (wholeOf f x))
+          → y .shared ≡ run (taskOf f t) ks (wholeOf f x) .plant .shared
+          → y .answer .taken ≡ length (takings (taskOf f t) ks (wholeOf f x))
+          → Counted f t x (restored a b x y) (pick (eqb (y .answer .refusal) 0) ks [])
+      unfolding pick
+      granted-call ks y e u v z n =
+          let back = left-back (run (taskOf f t) ks (wholeOf f x)) (run-fit f t ok ks (wholeOf f x) (w .fit)) (restored a b x y) u (replaced-all (x .memory) a (y .memory) memory-all ∙ v) (replaced-all (x .shared) b (y .shared) shared-all ∙ z) in
+          rw (eq-eqb _ _ e) record { whole = back .0; taken = n; lendable = back .1 }
+
+  -- the call of a step, and of a run
   fits : lentFits f (length (x .memory)) (length (x .shared)) ≡ true
   unfolding lentFits
   fits = rw (eq-eqb _ _ (w .sized .memory), eq-eqb _ _ (w .sized .shared))
@@ -68,56 +143,89 @@ module _ (f t : List ℕ) (ok : Set f t) (x : Left) (w : Lendable f t x) (k : �
   unfolding heldRefusal
   held = next-none _ _ (ok .trace) (not-refused f t ok (x .answer .state) (x .memory) (x .shared) (w .sized) (w .count, w .fit))
 
-  call-granted : k < cores f → left-by ≡ stepped f t (x .answer .state) (x .memory) (x .shared) k
+  step-granted : (k : ℕ) → k < cores f → stepCall f t (x .answer .state) (x .memory) (x .shared) k ≡ stepped f t (x .answer .state) (x .memory) (x .shared) k
   unfolding stepCall stepRefusal
-  call-granted l = pick-true _ _ _ (eq-eqb _ _ (refuse-none f t (x .answer .state) _ _ true _ (ok .file) fits refl held (lt-ltb k (cores f) l)))
+  step-granted k l = pick-true _ _ _ (eq-eqb _ _ (refuse-none f t (x .answer .state) _ _ true _ (ok .file) fits refl held (lt-ltb k (cores f) l)))
 
-  call-refused : cores f ≤ k → left-by ≡ left (answerOf 20 (x .answer .state)) (x .memory) (x .shared) []
+  pub step-counted : (a b : Lending) (k : ℕ) → Counted f t x (leaves f t (stepping a b k) x) (countsAs f t (stepping a b k) x)
   unfolding stepCall stepRefusal
-  call-refused l =
-      let e : 20 ≡ callRefusal f t (x .answer .state) (length (x .memory)) (length (x .shared)) true (ltb k (cores f)) =
-      refuse-named f t (x .answer .state) _ _ true _ (ok .file) fits refl held (le-ltb k (cores f) l) in
-      pick-false _ _ _ (ne-eqb _ _ (λ z. absurd (let y : 20 ≡ 0 = e ∙ z in omega (arith, y))))
-      ∙ ap (λ (r : ℕ). left (answerOf r (x .answer .state)) (x .memory) (x .shared) []) (sym e)
-
-  moved : Fit f t (step (taskOf f t) k (wholeOf f x))
-  moved = fit-kept f t ok (executes f t ok) k (wholeOf f x) (w .fit)
-
-  counted : heldAfter (cores f) (x .answer .state) (step (taskOf f t) k (wholeOf f x)) .count ≡ cores f
-  unfolding heldAfter
-  counted = w .count
-
-  after : (y : Left) → y ≡ stepped f t (x .answer .state) (x .memory) (x .shared) k → (wholeOf f y ≡ step (taskOf f t) k (wholeOf f x)) × Lendable f t y
-  after y e =
-      let back : wholeOf f y ≡ step (taskOf f t) k (wholeOf f x) =
-      ap (wholeOf f) e ∙ state-back f t (ok .few) (x .answer .state) (step (taskOf f t) k (wholeOf f x)) moved in (
-        back,
-        record {
-          count = ap (λ (z : Left). z .answer .state .count) e ∙ counted;
-          sized = subst (λ (z : Left). Sized f (z .answer .state) (z .memory) (z .shared)) (sym e) (sized-back f t (ok .few) (x .answer .state) (step (taskOf f t) k (wholeOf f x)) moved);
-          fit = subst (Fit f t) (sym back) moved;
-        },
-      )
-
-  same : (y : Left) → y ≡ left (answerOf 20 (x .answer .state)) (x .memory) (x .shared) [] → cores f ≤ k → (wholeOf f y ≡ step (taskOf f t) k (wholeOf f x)) × Lendable f t y
-  same y e l =
-      (ap (wholeOf f) e ∙ sym (step-none f t (wholeOf f x) (w .fit) k l), subst (Lendable f t) (sym e) record { count = w .count; sized = w .sized; fit = w .fit })
-
-  -- a step call is the step, for core numbers of any size
-  pub one-call : (wholeOf f left-by ≡ step (taskOf f t) k (wholeOf f x)) × Lendable f t left-by
-  one-call = go (ltb k (cores f)) refl
+  step-counted a b k = go (eqb (stepRefusal f t (x .answer .state) (memory a b) (shared a b) k) 0) refl
     where
-      go : (b : Bool) → ltb k (cores f) ≡ b → (wholeOf f left-by ≡ step (taskOf f t) k (wholeOf f x)) × Lendable f t left-by
-      go true e = after left-by (call-granted (ltb-true k (cores f) e))
-      go false e = same left-by (call-refused (ltb-false k (cores f) e)) (ltb-false k (cores f) e)
+      go : (q : Bool) → eqb (stepRefusal f t (x .answer .state) (memory a b) (shared a b) k) 0 ≡ q → Counted f t x (leaves f t (stepping a b k) x) (countsAs f t (stepping a b k) x)
+      go true e =
+          let known = granted f t (x .answer .state) _ _ _ _ (eqb-true _ _ e) in
+          let m = lent-all (x .memory) a (memory-all a b (known .memory) (known .shared-memory)) in
+          let sh = lent-all (x .shared) b (shared-all a b (known .memory) (known .shared-memory)) in
+          let y : stepCall f t (x .answer .state) (memory a b) (shared a b) k ≡ stepped f t (x .answer .state) (x .memory) (x .shared) k =
+          pick-true _ _ _ e ∙ (λ i. stepped f t (x .answer .state) (m i) (sh i) k) in
+          granted-call a b (known .memory) (known .shared-memory) (k ∷ []) (stepCall f t (x .answer .state) (memory a b) (shared a b) k)
+          (ap (λ (z : Left). z .answer .refusal) y)
+          (ap (λ (z : Left). z .answer .state) y)
+          (ap (λ (z : Left). z .memory) y)
+          (ap (λ (z : Left). z .shared) y)
+          (ap (λ (z : Left). z .answer .taken) y ∙ ap length (sym (append-nil (takingOf (taskOf f t) k (wholeOf f x)))))
+      go false e = refused a b (k ∷ []) (stepCall f t (x .answer .state) (memory a b) (shared a b) k) (stepRefusal f t (x .answer .state) (memory a b) (shared a b) k) [] (eqb-false _ _ e) (pick-false _ _ _ e)
+
+  pub run-counted : (a b : Lending) (order list : List ℕ) → Counted f t x (leaves f t (running a b order list) x) (countsAs f t (running a b order list) x)
+  unfolding runCall runRefusal ranCall
+  run-counted a b order list = go (eqb (runRefusal f t (x .answer .state) (memory a b) (shared a b) order list) 0) refl
+    where
+      go : (q : Bool) → eqb (runRefusal f t (x .answer .state) (memory a b) (shared a b) order list) 0 ≡ q → Counted f t x (leaves f t (running a b order list) x) (countsAs f t (running a b order list) x)
+      go true e =
+          let known = granted f t (x .answer .state) _ _ _ _ (eqb-true _ _ e) in
+          let m = lent-all (x .memory) a (memory-all a b (known .memory) (known .shared-memory)) in
+          let sh = lent-all (x .shared) b (shared-all a b (known .memory) (known .shared-memory)) in
+          let y : runCall f t (x .answer .state) (memory a b) (shared a b) order list ≡ ranCall f t (x .answer .state) (x .memory) (x .shared) order list =
+          pick-true _ _ _ e ∙ (λ i. ranCall f t (x .answer .state) (m i) (sh i) order list) in
+          granted-call a b (known .memory) (known .shared-memory) order (runCall f t (x .answer .state) (memory a b) (shared a b) order list)
+          (ap (λ (z : Left). z .answer .refusal) y)
+          (ap (λ (z : Left). z .answer .state) y)
+          (ap (λ (z : Left). z .memory) y)
+          (ap (λ (z : Left). z .shared) y)
+          (ap (λ (z : Left). z .answer .taken) y ∙ length-map (takings (taskOf f t) order (wholeOf f x)) encoded)
+      go false e = refused a b order (runCall f t (x .answer .state) (memory a b) (shared a b) order list) (runRefusal f t (x .answer .state) (memory a b) (shared a b) order list) list (eqb-false _ _ e) (pick-false _ _ _ e)
+
+  pub call-counted : (c : Call) → Counted f t x (leaves f t c x) (countsAs f t c x)
+  call-counted (stepping a b k) = step-counted a b k
+  call-counted (running a b order list) = run-counted a b order list
+
+-- a refused call, whatever state and memories it was made with, leaves them
+module _ (f t : List ℕ) (x : Left) (a b : Lending) where
+  unchanged : (y : Left) (r : ℕ) (list : List ℕ) → y ≡ left (answerOf r (x .answer .state)) (lentOf a (x .memory)) (lentOf b (x .shared)) list → Unchanged x (restored a b x y)
+  unchanged y r list e = subst (λ (z : Left). Unchanged x (restored a b x z)) (sym e)
+      record { state = refl; memory = replaced-same (x .memory) a; shared = replaced-same (x .shared) b }
+
+pub refused-leaves : (f t : List ℕ) (c : Call) (x : Left) → leaves f t c x .answer .refusal ≢ 0 → Unchanged x (leaves f t c x)
+unfolding stepCall runCall ranCall
+refused-leaves f t (stepping a b k) x n = by-pick
+    (λ (y : Left). y .answer .refusal ≢ 0 → Unchanged x (restored a b x y)) (eqb (stepRefusal f t (x .answer .state) (lentOf a (x .memory)) (lentOf b (x .shared)) k) 0) _ _
+    (λ e m. absurd (m refl))
+    (λ e m. unchanged f t x a b _ _ [] refl)
+    n
+refused-leaves f t (running a b order list) x n = by-pick
+    (λ (y : Left). y .answer .refusal ≢ 0 → Unchanged x (restored a b x y)) (eqb (runRefusal f t (x .answer .state) (lentOf a (x .memory)) (lentOf b (x .shared)) order list) 0) _ _
+    (λ e m. absurd (m refl))
+    (λ e m. unchanged f t x a b _ _ list refl)
+    n
 
 -- ---- lists
 
-pub step-calls : (f t : List ℕ) → Set f t → (ks : List ℕ) (x : Left) → Lendable f t x → wholeOf f (stepCalls f t ks x) ≡ run (taskOf f t) ks (wholeOf f x)
-step-calls f t ok [] x w = refl
-step-calls f t ok (k ∷ ks) x w =
-    let y = one-call f t ok x w k in
-    step-calls f t ok ks (stepCall f t (x .answer .state) (x .memory) (x .shared) k) (y .1) ∙ ap (run (taskOf f t) ks) (y .0)
+pub calls-counted : (f t : List ℕ) → Set f t → (cs : List Call) (x : Left) → Lendable f t x
+    → (wholeOf f (calls f t cs x) ≡ run (taskOf f t) (stepsOf f t cs x) (wholeOf f x))
+    × (takenOf f t cs x ≡ length (takings (taskOf f t) (stepsOf f t cs x) (wholeOf f x)))
+    × Lendable f t (calls f t cs x)
+calls-counted f t ok [] x w = (refl, refl, w)
+calls-counted f t ok (c ∷ cs) x w =
+    let y = call-counted f t ok x w c in
+    let more = calls-counted f t ok cs (leaves f t c x) (y .lendable) in
+    let first = countsAs f t c x in
+    let rest = stepsOf f t cs (leaves f t c x) in (
+      more .0 ∙ ap (run (taskOf f t) rest) (y .whole) ∙ sym (run-append (taskOf f t) first rest (wholeOf f x)),
+      ap₂ _+_ (y .taken) (more .1 ∙ ap (λ (s : Whole). length (takings (taskOf f t) rest s)) (y .whole))
+          ∙ sym (length-append (takings (taskOf f t) first (wholeOf f x)) (takings (taskOf f t) rest (run (taskOf f t) first (wholeOf f x))))
+          ∙ ap length (sym (takings-append (taskOf f t) first rest (wholeOf f x))),
+      more .2,
+    )
 
 -- ---- a run
 
@@ -130,20 +238,24 @@ pub record Follows (f t : List ℕ) (h : State) (s : Whole) (x : Left) : Type 0 
   pub whole : wholeOf f x ≡ s
 
 follows-step : (f t : List ℕ) → Set f t → (h : State) (s : Whole) (x : Left) → Follows f t h s x → (k : ℕ) → k < cores f
-    → Follows f t h (step (taskOf f t) k s) (stepCall f t (x .answer .state) (x .memory) (x .shared) k)
+    → Follows f t h (step (taskOf f t) k s) (leaves f t (stepping entire entire k) x)
+unfolding pick
 follows-step f t ok h s x w k l =
-    let y = one-call f t ok x (w .lendable) k in
-    let e = call-granted f t ok x (w .lendable) k l in
+    let e = step-granted f t ok x (w .lendable) k l in
     let next : step (taskOf f t) k (wholeOf f x) ≡ step (taskOf f t) k s = ap (step (taskOf f t) k) (w .whole) in
+    let y = step-counted f t ok x (w .lendable) entire entire k in
     record {
-      lendable = y .1;
+      lendable = y .lendable;
       state =
           ap (λ (z : Left). z .answer .state) e
           ∙ ap₂ (heldAfter (cores f)) (w .state) next
           ∙ held-twice (cores f) h s (step (taskOf f t) k s);
       memory = ap (λ (z : Left). z .memory) e ∙ ap dataOf next;
       shared = ap (λ (z : Left). z .shared) e ∙ ap (λ (z : Whole). z .plant .shared) next;
-      whole = y .0 ∙ next;
+      whole =
+          y .whole
+          ∙ ap (λ (r : ℕ). run (taskOf f t) (pick (eqb r 0) (k ∷ []) []) (wholeOf f x)) (ap (λ (z : Left). z .answer .refusal) e)
+          ∙ next;
     }
 
 follows-steps : (f t : List ℕ) → Set f t → (h : State) (s : Whole) (x : Left) → Follows f t h s x → (ks : List ℕ) → allBelow (cores f) ks ≡ true
@@ -151,7 +263,7 @@ follows-steps : (f t : List ℕ) → Set f t → (h : State) (s : Whole) (x : Le
 follows-steps f t ok h s x w [] e = w
 follows-steps f t ok h s x w (k ∷ ks) e =
     let b = both-true _ _ e in
-    follows-steps f t ok h (step (taskOf f t) k s) (stepCall f t (x .answer .state) (x .memory) (x .shared) k)
+    follows-steps f t ok h (step (taskOf f t) k s) (leaves f t (stepping entire entire k) x)
     (follows-step f t ok h s x w k (ltb-true k (cores f) (b .0))) ks (b .1)
 
 -- ---- the fresh state
@@ -257,10 +369,14 @@ module _ (f t : List ℕ) (bytes : (i : ℕ) → getD f i 0 < 256) (trace-bytes 
       fit = subst (Fit f t) (sym (fresh-state f (ok .few))) (fresh-fit f t ok);
     }
 
-    pub calls-interleaved : traceRefusal f t ≡ 0 → (ks : List ℕ) → CallsInterleaved f t d sh ks
-    calls-interleaved sound ks =
+    pub calls-interleaved : traceRefusal f t ≡ 0 → (cs : List Call) → CallsInterleaved f t d sh cs
+    calls-interleaved sound cs =
         let ok : Set f t = accepted-set f t bytes trace-bytes (fresh-lent .0) sound in
+        let fresh-left = fresh-whole (ok .few) in
+        let y = calls-counted f t ok cs (freshCall f d sh) (fresh-lendable ok) in
+        let ks = stepsOf f t cs (freshCall f d sh) in
         record {
-          steps = step-calls f t ok ks (freshCall f d sh) (fresh-lendable ok) ∙ ap (run (taskOf f t) ks) (fresh-whole (ok .few));
+          steps = y .0 ∙ ap (run (taskOf f t) ks) fresh-left;
+          taken = y .1 ∙ ap (λ (s : Whole). length (takings (taskOf f t) ks s)) fresh-left;
           interleaved = interleaved-machine f t (fresh-lent .0) ks;
         }

@@ -1,9 +1,13 @@
--- Calls one after another, and what they are as steps of the machine of crate protocol. `run-is-steps` of proofs/Calling proves `RunIsSteps` of
--- every run that is not refused; `calls-interleaved` proves `CallsInterleaved`, which is demand 3 of every list of step calls.
+-- Calls one after another on one file and one trace, each with the state and the memories that the one before left, refused ones too; and what
+-- they are as steps of the machine of crate protocol. In order: a call and what it leaves; lists of calls; the steps that they count as; the claims.
+-- `run-is-steps` of proofs/Calling proves `RunIsSteps` of every run that is not refused; `calls-interleaved` proves `CallsInterleaved`, which is
+-- demand 3 of every list of calls. Not here: what each call is for every input (specs/Calls); calls on a lent core table (crate lent).
 use mathlib.Core.Path.{_≡_}
-use mathlib.Core.List.{List, [], _∷_, map}
-use Prim.Native.Nat.{ℕ}
-use lib.ListN.{length}
+use mathlib.Core.List.{List, [], _∷_, _++_, map}
+use Prim.Native.Nat.{ℕ, _+_}
+use lib.Dec.{eqb}
+use lib.ListN.{length, take, drop}
+use Rattle.verdict.specs.Verdict.{pick}
 use Rattle.memory.specs.Memory.{splice}
 use Rattle.protocol.specs.State.{State as Whole}
 use Rattle.protocol.specs.Step.{run, takings, encoded}
@@ -16,14 +20,75 @@ use Rattle.runner.specs.Runs.{Left, left}
 use Rattle.machine.specs.Calls.{answerOf, freshCall, runCall, stepCall}
 use Rattle.machine.specs.Interleaving.{MachineInterleaved}
 
--- step calls, each with the state and the memories that the one before left; refused ones too
+-- ---- a call, and what it leaves
+
+-- how much of a memory a call lends: all of it, or no more than its first bytes, which is 21 unless these are all
+pub data Lending : Type 0 where
+  entire : Lending
+  front : ℕ → Lending
+
+abbrev pub lentOf : Lending → List ℕ → List ℕ
+lentOf entire m = m
+lentOf (front n) m = take n m
+
+-- the memory m after a call that left y of what it was lent
+abbrev pub replaced : Lending → List ℕ → List ℕ → List ℕ
+replaced entire m y = y
+replaced (front n) m y = y ++ drop n m
+
+-- a step of a core, or a run of an order with the order list that is lent to it; and how much of data buffer and shared memory the call lends
+pub data Call : Type 0 where
+  stepping : Lending → Lending → ℕ → Call
+  running : Lending → Lending → List ℕ → List ℕ → Call
+
+-- y is what a call left that was lent these parts of the memories that x has
+abbrev pub restored : Lending → Lending → Left → Left → Left
+restored a b x y = left (y .answer) (replaced a (x .memory) (y .memory)) (replaced b (x .shared) (y .shared)) (y .order)
+
+-- what a call leaves that is made with what the one before left
+abbrev pub leaves : List ℕ → List ℕ → Call → Left → Left
+leaves f t (stepping a b k) x = restored a b x (stepCall f t (x .answer .state) (lentOf a (x .memory)) (lentOf b (x .shared)) k)
+leaves f t (running a b order list) x = restored a b x (runCall f t (x .answer .state) (lentOf a (x .memory)) (lentOf b (x .shared)) order list)
+
+-- ---- lists of calls
+
+abbrev pub calls : List ℕ → List ℕ → List Call → Left → Left
+calls f t [] x = x
+calls f t (c ∷ cs) x = calls f t cs (leaves f t c x)
+
+-- step calls of the cores ks, with the memories whole
 abbrev pub stepCalls : List ℕ → List ℕ → List ℕ → Left → Left
-stepCalls f t [] x = x
-stepCalls f t (k ∷ ks) x = stepCalls f t ks (stepCall f t (x .answer .state) (x .memory) (x .shared) k)
+stepCalls f t ks x = calls f t (map (stepping entire entire) ks) x
 
 -- the state, with the lent memories, that a call left
 abbrev pub wholeOf : List ℕ → Left → Whole
 wholeOf f x = stateOf f (x .answer .state) (x .memory) (x .shared)
+
+-- ---- the steps that calls count as: "A refused call changes nothing and is no taking; a run counts as its steps."
+
+abbrev pub stepsIn : Call → List ℕ
+stepsIn (stepping a b k) = k ∷ []
+stepsIn (running a b order list) = order
+
+abbrev pub countsAs : List ℕ → List ℕ → Call → Left → List ℕ
+countsAs f t c x = pick (eqb (leaves f t c x .answer .refusal) 0) (stepsIn c) []
+
+abbrev pub stepsOf : List ℕ → List ℕ → List Call → Left → List ℕ
+stepsOf f t [] x = []
+stepsOf f t (c ∷ cs) x = countsAs f t c x ++ stepsOf f t cs (leaves f t c x)
+
+-- the takings that the calls count, together
+abbrev pub takenOf : List ℕ → List ℕ → List Call → Left → ℕ
+takenOf f t [] x = 0
+takenOf f t (c ∷ cs) x = leaves f t c x .answer .taken + takenOf f t cs (leaves f t c x)
+
+-- ---- the claims
+
+-- A refused call changes nothing: `refused-leaves` proves it of every call with a refusal number, whatever state and memories it is made with
+pub record Unchanged (x y : Left) : Type 0 where
+  pub state : y .answer .state ≡ x .answer .state
+  pub memory : y .memory ≡ x .memory
+  pub shared : y .shared ≡ x .shared
 
 -- A run equals its step calls one after another, and its order list is the takings
 pub record RunIsSteps (f t : List ℕ) (h : State) (d sh order list : List ℕ) : Type 0 where
@@ -33,9 +98,11 @@ pub record RunIsSteps (f t : List ℕ) (h : State) (d sh order list : List ℕ) 
   pub listed : runCall f t h d sh order list .order ≡ splice list 0 (map encoded (takings (taskOf f t) order (stateOf f h d sh)))
   pub counted : runCall f t h d sh order list .answer .taken ≡ length (takings (taskOf f t) order (stateOf f h d sh))
 
--- The step calls of the cores ks after a call for the fresh state that was lent the memories d and sh
-pub record CallsInterleaved (f t d sh ks : List ℕ) : Type 0 where
-  -- what they leave is what the steps ks make of the fresh state: a call that is refused for its core is a step that changes nothing
-  pub steps : wholeOf f (stepCalls f t ks (freshCall f d sh)) ≡ run (taskOf f t) ks (fresh (sizesOf f))
+-- The calls cs, from what the call for the fresh state left that was lent the memories d and sh
+pub record CallsInterleaved (f t d sh : List ℕ) (cs : List Call) : Type 0 where
+  -- what they leave is what the steps that they count as make of the fresh state
+  pub steps : wholeOf f (calls f t cs (freshCall f d sh)) ≡ run (taskOf f t) (stepsOf f t cs (freshCall f d sh)) (fresh (sizesOf f))
+  -- they count the takings of those steps
+  pub taken : takenOf f t cs (freshCall f d sh) ≡ length (takings (taskOf f t) (stepsOf f t cs (freshCall f d sh)) (fresh (sizesOf f)))
   -- and of those steps demand 3 holds, both parts
-  pub interleaved : MachineInterleaved f t ks
+  pub interleaved : MachineInterleaved f t (stepsOf f t cs (freshCall f d sh))
