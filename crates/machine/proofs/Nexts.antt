@@ -1,10 +1,12 @@
 -- The judging of the call for the next core, forward and backward; what its answer means. Assumes nothing.
 use mathlib.Core.Path.{_≡_, refl, sym, ap, _∙_}
 use mathlib.Core.Logic.{_≢_}
-use mathlib.Core.Bool.{true, false}
-use mathlib.Core.List.{List}
+use mathlib.Core.Bool.{Bool, true, false}
+use mathlib.Core.List.{List, []}
 use Prim.Native.Nat.{ℕ, _≤_, _<_}
-use borrow.Author.Tests.{lt-ltb, le-ltb, eq-eqb, ne-eqb, ltb-true}
+use borrow.Author.Tests.{lt-ltb, le-ltb, eq-eqb, ne-eqb, ltb-true, eqb-true}
+use lib.Dec.{eqb}
+use Rattle.verdict.specs.Verdict.{pick}
 use lib.ListN.{getD}
 use Rattle.verdict.proofs.Verdict.{skip, stop, yes, no, pick-true, pick-false, next-none, next-zero, unless-zero}
 use Rattle.records.specs.File.{cores}
@@ -20,7 +22,8 @@ use Rattle.table.specs.Table.{nextMoving}
 use Rattle.table.specs.Next.{NextCore}
 use Rattle.table.proofs.Next.{next-core}
 use Rattle.machine.specs.declared.Next.{Next}
-use Rattle.machine.specs.Calls.{nextRefusal, noNext, nextCall}
+use Rattle.machine.specs.declared.Next.the-variants.{Refused, Found}
+use Rattle.machine.specs.Calls.{nextRefusal, nextCall, namedBy, nextSays, nextSaid}
 use Rattle.machine.proofs.Calls.{held-none}
 
 module _ (f t : List ℕ) (h : State) (given : ℕ) where
@@ -42,17 +45,27 @@ module _ (f t : List ℕ) (h : State) (given : ℕ) where
       unfolding nextRefusal
       next-free l = next-none _ _ z (next-none _ _ y (yes _ 20 (lt-ltb _ _ l)))
 
-  pub next-refused : {r : ℕ} (x : Next) → r ≡ nextRefusal f t h given → r ≢ 0 → x ≡ noNext r → x ≡ nextCall f t h given
-  unfolding nextCall
-  next-refused x e n q = q ∙ ap noNext e ∙ sym (pick-false _ _ _ (ne-eqb _ _ (λ w. n (e ∙ w))))
+  -- the answer, and what it says
+  says : (x : Next) → x ≡ nextCall f t h given → (x ≡ nextCall f t h given) × (nextSays x ≡ nextSaid f t h given)
+  unfolding nextCall nextSaid pick
+  says x e = (e, ap nextSays e ∙ go (eqb (nextRefusal f t h given) 0) refl)
+    where
+      go : (b : Bool) → eqb (nextRefusal f t h given) 0 ≡ b
+          → nextSays (pick b (Found (nextMoving f t h given)) (Refused (nextRefusal f t h given))) ≡ record { number = nextRefusal f t h given; named = pick b (namedBy (nextMoving f t h given)) [] }
+      go true e = ap (λ (n : ℕ). record { number = n; named = namedBy (nextMoving f t h given) }) (sym (eqb-true _ _ e))
+      go false e = refl
 
-  pub next-granted : (m : Moving) → nextRefusal f t h given ≡ 0 → m ≡ nextMoving f t h given → record { refusal = 0; moving = m } ≡ nextCall f t h given
+  pub next-refused : (r : ℕ) → r ≡ nextRefusal f t h given → r ≢ 0 → (Refused r ≡ nextCall f t h given) × (nextSays (Refused r) ≡ nextSaid f t h given)
   unfolding nextCall
-  next-granted m e q = ap (λ (x : Moving). record { refusal = 0; moving = x }) q ∙ sym (pick-true _ _ _ (eq-eqb _ _ e))
+  next-refused r e n = says (Refused r) (ap Refused e ∙ sym (pick-false _ _ _ (ne-eqb _ _ (λ w. n (e ∙ w)))))
+
+  pub next-granted : (m : Moving) → nextRefusal f t h given ≡ 0 → m ≡ nextMoving f t h given → (Found m ≡ nextCall f t h given) × (nextSays (Found m) ≡ nextSaid f t h given)
+  unfolding nextCall
+  next-granted m e q = says (Found m) (ap Found q ∙ sym (pick-true _ _ _ (eq-eqb _ _ e)))
 
   -- what the answer of a call that is not refused means, with any lent memories of the right sizes
   pub next-means : ((i : ℕ) → getD f i 0 < 256) → ((i : ℕ) → getD t i 0 < 256) → nextRefusal f t h given ≡ 0 → (d sh : List ℕ) → Sized f h d sh
-      → (nextCall f t h given ≡ record { refusal = 0; moving = nextMoving f t h given }) × NextCore f t h (stateOf f h d sh) given
+      → (nextCall f t h given ≡ Found (nextMoving f t h given)) × NextCore f t h (stateOf f h d sh) given
   unfolding nextRefusal nextCall
   next-means a b e d sh z =
       let x = next-zero _ _ e in

@@ -19,9 +19,10 @@ use Rattle.states.specs.Preparing.{heldRefusal}
 use Rattle.runner.specs.declared.Ran.{Ran}
 use Rattle.runner.specs.Runs.{allBelow, Left, left, ranCall}
 use Rattle.table.specs.declared.Moving.{Moving}
-use Rattle.table.specs.declared.Moving.the-variants.{Nothing}
+use Rattle.table.specs.declared.Moving.the-variants.{Core, Nothing}
 use Rattle.table.specs.Table.{nextMoving}
 use Rattle.machine.specs.declared.Next.{Next}
+use Rattle.machine.specs.declared.Next.the-variants.{Refused, Found}
 
 -- ---- refusals
 
@@ -103,11 +104,28 @@ stepCall f t h d sh k =
 unfoldable pub nextRefusal : List ℕ → List ℕ → State → ℕ → ℕ
 nextRefusal f t h given = next (judge f) (next (heldRefusal f t h) (unless (ltb given (cores f)) 20))
 
-abbrev pub noNext : ℕ → Next
-noNext r = record { refusal = r; moving = Nothing }
-
 unfoldable pub nextCall : List ℕ → List ℕ → State → ℕ → Next
 nextCall f t h given =
     pick (eqb (nextRefusal f t h given) 0)
-    (record { refusal = 0; moving = nextMoving f t h given })
-    (noNext (nextRefusal f t h given))
+    (Found (nextMoving f t h given))
+    (Refused (nextRefusal f t h given))
+
+-- what an answer says: document 01's refusal number, 0 for none, and the core that it names, if any
+pub record Says : Type 0 where
+  pub number : ℕ
+  pub named : List ℕ
+
+-- each case of the answer: a refusal names no core and says nothing of the table; "none" names no core and is no refusal
+abbrev pub namedBy : Moving → List ℕ
+namedBy (Core k) = k ∷ []
+namedBy Nothing = []
+
+abbrev pub nextSays : Next → Says
+nextSays (Refused r) = record { number = r; named = [] }
+nextSays (Found m) = record { number = 0; named = namedBy m }
+
+unfoldable pub nextSaid : List ℕ → List ℕ → State → ℕ → Says
+nextSaid f t h given = record {
+  number = nextRefusal f t h given;
+  named = pick (eqb (nextRefusal f t h given) 0) (namedBy (nextMoving f t h given)) [];
+}

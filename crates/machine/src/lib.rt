@@ -24,7 +24,7 @@ ghost use Rattle.states.specs.Tasks.{tasksOf};
 ghost use Rattle.states.specs.Fit.{Fit};
 ghost use Rattle.steps.specs.Moving.{Aimed};
 ghost use Rattle.runner.specs.Runs.{allBelow, left, ranCall};
-ghost use Rattle.machine.specs.Calls.{bufferSize, lentFits, setRefusal, answerOf, tableOf, freshCall, runRefusal, runCall, stepCall, noNext, nextCall};
+ghost use Rattle.machine.specs.Calls.{bufferSize, lentFits, setRefusal, answerOf, tableOf, freshCall, runRefusal, runCall, stepCall, nextCall, nextSays, nextSaid};
 
 // Bytes of shared memory.
 const SHARED: usize = 1024;
@@ -289,39 +289,28 @@ pub fn step(
 
 // ---- the core table
 
-// The answer on the next core to move: the refusal number, and the core or nothing.
-pub struct Next {
-    pub refusal: u8,
-    pub moving: Moving,
-}
-
-// What a refused call answers.
-fn no_next(number: u8) -> Next
-    ensures { λ r. ⌜ r ≡ noNext number ⌝ }
-{
-    Next {
-        refusal: number,
-        moving: Moving::Nothing,
-    }
+// The answer on the next core to move: the call's refusal with its number, or what the core table says.
+pub enum Next {
+    Refused(u8),
+    Found(Moving),
 }
 
 // The first core after a given one, round the ring and that one last, whose step would change something.
 pub fn next_core(file: &[u8], trace: &[u8], s: State, given: u8) -> Next
-    ensures { λ r. ⌜ r ≡ nextCall (now (file .entry)) (now (trace .entry)) s given ⌝ }
+    ensures { λ r. ⌜ (r ≡ nextCall (now (file .entry)) (now (trace .entry)) s given) × (nextSays r ≡ nextSaid (now (file .entry)) (now (trace .entry)) s given) ⌝ }
 {
     let loaded = taskset::load(file);
     if loaded.refusal != 0 {
-        return no_next(loaded.refusal);
+        return Next::Refused(loaded.refusal);
     }
     let layout = loaded.layout;
     let prepared = states::prepare(file, trace, layout, s);
     if prepared.refusal != 0 {
-        return no_next(prepared.refusal);
+        return Next::Refused(prepared.refusal);
     }
     if layout.cores <= given as usize {
-        return no_next(20);
+        return Next::Refused(20);
     }
     let tasks = prepared.tasks;
-    let moving = table::next_moving(file, trace, tasks, layout.cores, s, given);
-    Next { refusal: 0, moving }
+    Next::Found(table::next_moving(file, trace, tasks, layout.cores, s, given))
 }

@@ -1,6 +1,7 @@
 // Document 01's samples on the public calls: the listing of `cores`, the bench values that are not marked, every refusal, and the next
 // core to move. Each case tells its name, what came, and ok or WRONG beside what document 01 says. Lent memory is filled with a pattern
 // before a call that must be refused; where one byte of it, or the state, is changed, or two calls differ on a refusal, 99 comes.
+use machine::Next;
 use protocol::Registers;
 use runner::Ran;
 use states::State;
@@ -242,12 +243,7 @@ fn step_refusal(
     CHANGED
 }
 
-fn next_number(file: &[u8], trace: &[u8], s: State, given: u8) -> u8 {
-    let next = machine::next_core(file, trace, s, given);
-    if next.refusal != 0 {
-        return next.refusal;
-    }
-    let moving = next.moving;
+fn moving_number(moving: Moving) -> u8 {
     match moving {
         Moving::Core(k) => {
             if 4 <= k {
@@ -256,6 +252,14 @@ fn next_number(file: &[u8], trace: &[u8], s: State, given: u8) -> u8 {
             CORE + k
         }
         Moving::Nothing => NONE,
+    }
+}
+
+fn next_number(file: &[u8], trace: &[u8], s: State, given: u8) -> u8 {
+    let next = machine::next_core(file, trace, s, given);
+    match next {
+        Next::Refused(number) => number,
+        Next::Found(moving) => moving_number(moving),
     }
 }
 

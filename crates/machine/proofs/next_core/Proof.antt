@@ -12,37 +12,72 @@ use Rattle.machine.proofs.next_core.Tie as tie
 load-requires : tie.Need-load-requires
 load-requires c κs = search needs
 
-no-next-requires : tie.Need-no-next-requires
-no-next-requires c κs = search needs
-
 returns : tie.Need-returns
-returns c = next-refused (c .before .before .before .before .before .before .args .file .now) (c .before .before .before .before .before .before .args .trace .now) (c .before .before .before .before .before .before .args .s) (c .before .before .before .before .before .before .args .given) _ (next-file (c .before .before .before .before .before .before .args .file .now) (c .before .before .before .before .before .before .args .trace .now) (c .before .before .before .before .before .before .args .s) (c .before .before .before .before .before .before .args .given) (file-judged (c .before .before .before .before .before .before .args .file .now) _ (c .before .before .before .load .ensures)) (c .before .if1 .taken)) (c .before .if1 .taken) (c .no-next .ensures)
+returns c =
+    let loaded = c .before .before in
+    let a = loaded .before .before .before .args in
+    next-refused (a .file .now) (a .trace .now) (a .s) (a .given) _
+    (next-file (a .file .now) (a .trace .now) (a .s) (a .given) (file-judged (a .file .now) _ (loaded .load .ensures)) (c .if1 .taken)) (c .if1 .taken)
 
 prepare-requires : tie.Need-prepare-requires
-prepare-requires c κs = ((file-accepted (c .before .before .before .before .before .before .args .file .now) _ (c .before .before .before .load .ensures) (c .before .if1 .left)), (file-laid (c .before .before .before .before .before .before .args .file .now) _ (c .before .before .before .load .ensures) (c .before .if1 .left)))
-
-no-next-requires-2 : tie.Need-no-next-requires-2
-no-next-requires-2 c κs = search needs
+prepare-requires c κs =
+    let tested = c .before in
+    let loaded = tested .before .before in
+    let a = loaded .before .before .before .args in
+    (file-accepted (a .file .now) _ (loaded .load .ensures) (tested .if1 .left), file-laid (a .file .now) _ (loaded .load .ensures) (tested .if1 .left))
 
 returns-2 : tie.Need-returns-2
-returns-2 c = next-refused (c .before .before .before .before .before .before .before .before .before .before .args .file .now) (c .before .before .before .before .before .before .before .before .before .before .args .trace .now) (c .before .before .before .before .before .before .before .before .before .before .args .s) (c .before .before .before .before .before .before .before .before .before .before .args .given) _ (next-held (c .before .before .before .before .before .before .before .before .before .before .args .file .now) (c .before .before .before .before .before .before .before .before .before .before .args .trace .now) (c .before .before .before .before .before .before .before .before .before .before .args .s) (c .before .before .before .before .before .before .before .before .before .before .args .given) (file-accepted (c .before .before .before .before .before .before .before .before .before .before .args .file .now) _ (c .before .before .before .before .before .before .before .load .ensures) (c .before .before .before .before .before .if1 .left)) (held-judged (c .before .before .before .before .before .before .before .before .before .before .args .file .now) (c .before .before .before .before .before .before .before .before .before .before .args .trace .now) (c .before .before .before .before .before .before .before .before .before .before .args .s) _ (c .before .before .before .prepare .ensures)) (c .before .if2 .taken)) (c .before .if2 .taken) (c .no-next2 .ensures)
-
-no-next-requires-3 : tie.Need-no-next-requires-3
-no-next-requires-3 c κs = search needs
+returns-2 c =
+    let held = c .before .before in
+    let tested = held .before .before in
+    let loaded = tested .before .before in
+    let a = loaded .before .before .before .args in
+    next-refused (a .file .now) (a .trace .now) (a .s) (a .given) _
+    (next-held (a .file .now) (a .trace .now) (a .s) (a .given) (file-accepted (a .file .now) _ (loaded .load .ensures) (tested .if1 .left))
+    (held-judged (a .file .now) (a .trace .now) (a .s) _ (held .prepare .ensures)) (c .if2 .taken)) (c .if2 .taken)
 
 returns-3 : tie.Need-returns-3
-returns-3 c = next-refused (c .before .before .before .before .before .before .before .before .before .before .before .before .args .file .now) (c .before .before .before .before .before .before .before .before .before .before .before .before .args .trace .now) (c .before .before .before .before .before .before .before .before .before .before .before .before .args .s) (c .before .before .before .before .before .before .before .before .before .before .before .before .args .given) _ (next-named (c .before .before .before .before .before .before .before .before .before .before .before .before .args .file .now) (c .before .before .before .before .before .before .before .before .before .before .before .before .args .trace .now) (c .before .before .before .before .before .before .before .before .before .before .before .before .args .s) (c .before .before .before .before .before .before .before .before .before .before .before .before .args .given) (file-accepted (c .before .before .before .before .before .before .before .before .before .before .before .before .args .file .now) _ (c .before .before .before .before .before .before .before .before .before .load .ensures) (c .before .before .before .before .before .before .before .if1 .left)) (sym (held-judged (c .before .before .before .before .before .before .before .before .before .before .before .before .args .file .now) (c .before .before .before .before .before .before .before .before .before .before .before .before .args .trace .now) (c .before .before .before .before .before .before .before .before .before .before .before .before .args .s) _ (c .before .before .before .before .before .prepare .ensures)) ∙ c .before .before .before .if2 .left) (omega (arith, ap (λ (l : Layout). l .cores) (file-laid (c .before .before .before .before .before .before .before .before .before .before .before .before .args .file .now) _ (c .before .before .before .before .before .before .before .before .before .load .ensures) (c .before .before .before .before .before .before .before .if1 .left)), c .before .if3 .taken))) (λ e. absurd (omega arith)) (c .no-next3 .ensures)
+returns-3 c =
+    let passed = c .before .before in
+    let held = passed .before .before in
+    let tested = held .before .before in
+    let loaded = tested .before .before in
+    let a = loaded .before .before .before .args in
+    let accepted = file-accepted (a .file .now) _ (loaded .load .ensures) (tested .if1 .left) in
+    let laid = ap (λ (l : Layout). l .cores) (file-laid (a .file .now) _ (loaded .load .ensures) (tested .if1 .left)) in
+    let fit = sym (held-judged (a .file .now) (a .trace .now) (a .s) _ (held .prepare .ensures)) ∙ passed .if2 .left in
+    next-refused (a .file .now) (a .trace .now) (a .s) (a .given) 20
+    (next-named (a .file .now) (a .trace .now) (a .s) (a .given) accepted fit (omega (arith, laid, c .if3 .taken))) (λ e. absurd (omega arith))
 
 next-moving-requires : tie.Need-next-moving-requires
-next-moving-requires c κs = (
-  accepted-set (c .before .before .before .before .before .before .before .before .before .before .before .before .args .file .now) (c .before .before .before .before .before .before .before .before .before .before .before .before .args .trace .now) (λ i. omega (arith, c .before .before .before .before .before .before .before .before .before .before .before .shared-slice-known .given i)) (λ i. omega (arith, c .before .before .before .before .before .before .before .before .before .before .shared-slice-known2 .given i)) (file-accepted (c .before .before .before .before .before .before .before .before .before .before .before .before .args .file .now) _ (c .before .before .before .before .before .before .before .before .before .load .ensures) (c .before .before .before .before .before .before .before .if1 .left)) (held-none (c .before .before .before .before .before .before .before .before .before .before .before .before .args .file .now) (c .before .before .before .before .before .before .before .before .before .before .before .before .args .trace .now) (c .before .before .before .before .before .before .before .before .before .before .before .before .args .s) (sym (held-judged (c .before .before .before .before .before .before .before .before .before .before .before .before .args .file .now) (c .before .before .before .before .before .before .before .before .before .before .before .before .args .trace .now) (c .before .before .before .before .before .before .before .before .before .before .before .before .args .s) _ (c .before .before .before .before .before .prepare .ensures)) ∙ c .before .before .before .if2 .left) .0),
-  held-tasks (c .before .before .before .before .before .before .before .before .before .before .before .before .args .file .now) (c .before .before .before .before .before .before .before .before .before .before .before .before .args .trace .now) (c .before .before .before .before .before .before .before .before .before .before .before .before .args .s) _ (c .before .before .before .before .before .prepare .ensures) (c .before .before .before .if2 .left),
-  ap (λ (l : Layout). l .cores) (file-laid (c .before .before .before .before .before .before .before .before .before .before .before .before .args .file .now) _ (c .before .before .before .before .before .before .before .before .before .load .ensures) (c .before .before .before .before .before .before .before .if1 .left)),
-  omega (arith, c .before .if3 .left),
-)
+next-moving-requires c κs =
+    let passed = c .before .before .before in
+    let held = passed .before .before in
+    let tested = held .before .before in
+    let loaded = tested .before .before in
+    let a = loaded .before .before .before .args in
+    let accepted = file-accepted (a .file .now) _ (loaded .load .ensures) (tested .if1 .left) in
+    let laid = ap (λ (l : Layout). l .cores) (file-laid (a .file .now) _ (loaded .load .ensures) (tested .if1 .left)) in
+    let fit = sym (held-judged (a .file .now) (a .trace .now) (a .s) _ (held .prepare .ensures)) ∙ passed .if2 .left in
+    let known = loaded .before in (
+      accepted-set (a .file .now) (a .trace .now) (λ i. omega (arith, known .before .shared-slice-known .given i)) (λ i. omega (arith, known .shared-slice-known2 .given i)) accepted (held-none (a .file .now) (a .trace .now) (a .s) fit .0),
+      held-tasks (a .file .now) (a .trace .now) (a .s) _ (held .prepare .ensures) (passed .if2 .left),
+      laid,
+      omega (arith, c .before .if3 .left),
+    )
 
 returns-4 : tie.Need-returns-4
-returns-4 c = next-granted (c .before .before .before .before .before .before .before .before .before .before .before .before .before .args .file .now) (c .before .before .before .before .before .before .before .before .before .before .before .before .before .args .trace .now) (c .before .before .before .before .before .before .before .before .before .before .before .before .before .args .s) (c .before .before .before .before .before .before .before .before .before .before .before .before .before .args .given) _ (next-free (c .before .before .before .before .before .before .before .before .before .before .before .before .before .args .file .now) (c .before .before .before .before .before .before .before .before .before .before .before .before .before .args .trace .now) (c .before .before .before .before .before .before .before .before .before .before .before .before .before .args .s) (c .before .before .before .before .before .before .before .before .before .before .before .before .before .args .given) (file-accepted (c .before .before .before .before .before .before .before .before .before .before .before .before .before .args .file .now) _ (c .before .before .before .before .before .before .before .before .before .before .load .ensures) (c .before .before .before .before .before .before .before .before .if1 .left)) (sym (held-judged (c .before .before .before .before .before .before .before .before .before .before .before .before .before .args .file .now) (c .before .before .before .before .before .before .before .before .before .before .before .before .before .args .trace .now) (c .before .before .before .before .before .before .before .before .before .before .before .before .before .args .s) _ (c .before .before .before .before .before .before .prepare .ensures)) ∙ c .before .before .before .before .if2 .left) (omega (arith, ap (λ (l : Layout). l .cores) (file-laid (c .before .before .before .before .before .before .before .before .before .before .before .before .before .args .file .now) _ (c .before .before .before .before .before .before .before .before .before .before .load .ensures) (c .before .before .before .before .before .before .before .before .if1 .left)), c .before .before .if3 .left))) (c .next-moving .ensures)
+returns-4 c =
+    let passed = c .before .before .before .before in
+    let held = passed .before .before in
+    let tested = held .before .before in
+    let loaded = tested .before .before in
+    let a = loaded .before .before .before .args in
+    let accepted = file-accepted (a .file .now) _ (loaded .load .ensures) (tested .if1 .left) in
+    let laid = ap (λ (l : Layout). l .cores) (file-laid (a .file .now) _ (loaded .load .ensures) (tested .if1 .left)) in
+    let fit = sym (held-judged (a .file .now) (a .trace .now) (a .s) _ (held .prepare .ensures)) ∙ passed .if2 .left in
+    next-granted (a .file .now) (a .trace .now) (a .s) (a .given) _
+    (next-free (a .file .now) (a .trace .now) (a .s) (a .given) accepted fit (omega (arith, laid, c .before .before .if3 .left))) (c .next-moving .ensures)
 
 pub next-core-spec : {M : Type 1} → statement M
-next-core-spec = tie.close (tie.spec load-requires no-next-requires returns prepare-requires no-next-requires-2 returns-2 no-next-requires-3 returns-3 next-moving-requires returns-4)
+next-core-spec = tie.close (tie.spec load-requires returns prepare-requires returns-2 returns-3 next-moving-requires returns-4)
