@@ -1,17 +1,17 @@
 -- The marked (M) bench values of document 01 as one table: each case with what the definitions give and what the document says. The theorem
 -- for all of them is `marked` (proofs/Marked). In order: the kinds of cases; the two latches; the step against a held semaphore; the table.
-use Prim.Native.Nat.{ℕ}
+use Prim.Native.Nat.{ℕ, _<_}
+use mathlib.Core.Path.{_≡_}
 use mathlib.Core.Bool.{true, false}
 use mathlib.Core.List.{List, [], _∷_}
 use mathlib.Core.Logic.{_⊎_, inl, inr}
 use lib.IntN.{pos, negsuc}
 use lib.Ieee.{fin}
-use lib.ListN.{replicate}
 use Rattle.values.specs.Values.{typed, stored, readValue}
 use Rattle.values.specs.Commands.{command}
 use Rattle.values.specs.declared.Value.{Value}
 use Rattle.values.specs.declared.Value.the-variants.{Bool as Truth, Signed, Unsigned, Real}
-use Rattle.protocol.specs.State.{Core, State, Task, cleared}
+use Rattle.protocol.specs.State.{State, Task, core, mode}
 use Rattle.protocol.specs.Step.{step}
 
 -- ---- the kinds of cases
@@ -63,18 +63,15 @@ SR s r q = orB s (andB (notB r) q)
 
 -- ---- a held semaphore
 
--- a core with four bytes of data, in a mode
-abbrev pub coreInMode : ℕ → Core
-coreInMode mode = record { registers = cleared mode 0; stack = record { places = replicate 16 0; offsets = replicate 16 0 }; memory = replicate 4 0 }
+-- core k waits to write, and some core holds the semaphore
+pub record WaitsToWrite (k : ℕ) (s : State) : Type 0 where
+  pub mode-3 : mode (core (s .plant) k) ≡ 3
+  pub held : 0 < s .holder
 
--- core 0 waits to write, and core 1, in its writing exchange, holds the semaphore
-unfoldable pub heldByOther : State
-heldByOther = record { plant = record { cores = coreInMode 3 ∷ coreInMode 4 ∷ []; shared = replicate 1024 0 }; holder = 2 }
+-- ---- the table, in the document's order; its step is one of any task, core and state (`marked` asks that these are `WaitsToWrite`)
 
--- ---- the table, in the document's order; its step is one of any task
-
-unfoldable pub cases : Task → List Case
-cases t =
+unfoldable pub cases : Task → ℕ → State → List Case
+cases t k s =
     does 16 3 (Signed (pos 32767)) (Signed (pos 1)) (Signed (negsuc 32767))  -- INT 32767 + 1 = -32768
     ∷ does 16 2 (Unsigned 200) (Unsigned 100) (Unsigned 44)  -- BYTE 200 + 100 = 44
     ∷ does 18 4 (Unsigned 65535) (Unsigned 65535) (Unsigned 1)  -- WORD 65535 × 65535 = 1
@@ -89,5 +86,5 @@ cases t =
     ∷ latches RS (Truth true) (Truth true) (Truth true) (Truth false)  -- and from Q = 1
     ∷ latches SR (Truth true) (Truth true) (Truth false) (Truth true)  -- and 1 in SR, from Q = 0
     ∷ latches SR (Truth true) (Truth true) (Truth true) (Truth true)  -- and from Q = 1
-    ∷ waits t 0 heldByOther  -- a step in mode 3 while another core holds the semaphore changes nothing
+    ∷ waits t k s  -- a step in mode 3 while another core holds the semaphore changes nothing
     ∷ []
