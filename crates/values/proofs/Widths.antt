@@ -1,5 +1,6 @@
 -- Whole numbers modulo 2 ^ b, once for every b. `Cong m z r`: r is z modulo m. It is kept by sums and products (`cong-add`, `cong-mul`),
--- and a pattern is the one number below 2 ^ b with it (`pattern-cong`, `cong-pattern`). Assumes nothing.
+-- and a pattern is the one number below 2 ^ b with it (`pattern-cong`, `cong-pattern`). `modular` is the law that ADD, SUB and MUL cite.
+-- Assumes nothing.
 use Prim.Native.Nat.{ℕ, zero, suc, _+_, _-_, _*_, _/_, _%_, _^_, _≤_, _<_}
 use mathlib.Core.Path.{_≡_, refl, sym, _∙_, ap, subst}
 use mathlib.Core.Bool.{Bool, true, false, cond}
@@ -122,12 +123,10 @@ cong-pattern b (negsuc n) r h =
     in
     omega (arith, whole (2 ^ b) (r % 2 ^ b + suc (n % 2 ^ b)) (ltb (r % 2 ^ b + suc (n % 2 ^ b)) (2 ^ b)) refl (omega arith) (omega arith) e)
 
--- ---- the laws that the functions cite
-pub pattern-add : (b : ℕ) (x y : ℤ) (r t : ℕ) → Cong (2 ^ b) x r → Cong (2 ^ b) y t → pattern b (x +ℤ y) ≡ (r + t) % 2 ^ b
-pattern-add b x y r t p q = cong-pattern b (x +ℤ y) (r + t) (cong-add (2 ^ b) x y r t p q)
-
-pub pattern-mul : (b : ℕ) (x y : ℤ) (r t : ℕ) → Cong (2 ^ b) x r → Cong (2 ^ b) y t → pattern b (x *ℤ y) ≡ (r * t) % 2 ^ b
-pattern-mul b x y r t p q = cong-pattern b (x *ℤ y) (r * t) (cong-mul (2 ^ b) x y r t p q)
+-- ---- document 01, "Whole-number sums and products wrap at the type's width": the one modular law that ADD, SUB and MUL of every width cite.
+-- What is computed is congruent to the exact result (`cong-add`, `cong-mul`, `cong-difference`); cut to b bits it is the exact result's pattern.
+pub modular : (b : ℕ) (z : ℤ) (r : ℕ) {p : ℕ} → Cong (2 ^ b) z r → p ≡ r % 2 ^ b → p ≡ pattern b z
+modular b z r h e = e ∙ sym (cong-pattern b z r h)
 
 -- fewer bits
 pub cong-less : (j k : ℕ) (z : ℤ) (r : ℕ) → Cong (2 ^ (j + k)) z r → Cong (2 ^ k) z r
@@ -171,7 +170,16 @@ signed-high b p h = rw (le-ltb p (2 ^ (b - 1)) h)
 
 -- one law for the four widths of a supplied wrapping sum
 pub add-at : (w b : ℕ) → 8 * w ≡ b → (x y : ℕ) {r : ℕ} → r ≡ (x % 2 ^ b + y % 2 ^ b) % 2 ^ b → r ≡ (x + y) % 2 ^ (8 * w)
-add-at w b e x y h = h ∙ sym (add-mod x y (2 ^ b)) ∙ ap (λ (k : ℕ). (x + y) % 2 ^ k) (sym e)
+unfolding pattern
+add-at w b e x y h =
+    modular b (pos x +ℤ pos y) (x % 2 ^ b + y % 2 ^ b) (cong-add (2 ^ b) (pos x) (pos y) (x % 2 ^ b) (y % 2 ^ b) (mod-mod x (2 ^ b)) (mod-mod y (2 ^ b))) h
+    ∙ ap (λ (k : ℕ). (x + y) % 2 ^ k) (sym e)
+
+-- and of the low bytes of a product of 64 bits
+pub mul-at : (w : ℕ) → w ≤ 8 → (x y : ℕ) {r : ℕ} → r ≡ (x * y) % 2 ^ 64 % 2 ^ (8 * w) → r ≡ (x * y) % 2 ^ (8 * w)
+unfolding pattern
+mul-at w h x y e =
+    modular (8 * w) (pos x *ℤ pos y) ((x * y) % 2 ^ 64) (cong-narrow w h (pos x *ℤ pos y) ((x * y) % 2 ^ 64) (mod-mod (x * y) (2 ^ 64))) e
 
 -- the width that is none of the first three
 pub last-width : {w : ℕ} → Width w → (w ≡ 1 → ⊥) → (w ≡ 2 → ⊥) → (w ≡ 4 → ⊥) → w ≡ 8
@@ -249,15 +257,17 @@ cong-difference b x y p q r hx hy e =
 -- one law for the four widths of a supplied wrapping difference
 pub sub-at : (w b : ℕ) → 8 * w ≡ b → (x y r : ℕ) → r < 2 ^ b → (r + y % 2 ^ b) % 2 ^ b ≡ x % 2 ^ b → r ≡ pattern (8 * w) (pos x -ℤ pos y)
 sub-at w b e x y r l h =
-    sym (mod-eq-of-lt l)
-    ∙ sym (cong-pattern b (pos x -ℤ pos y) r (cong-difference b (pos x) (pos y) x y r refl refl (sym (add-mod-mod r y (2 ^ b)) ∙ h)))
+    modular b (pos x -ℤ pos y) r (cong-difference b (pos x) (pos y) x y r refl refl (sym (add-mod-mod r y (2 ^ b)) ∙ h)) (sym (mod-eq-of-lt l))
     ∙ ap (λ (k : ℕ). pattern k (pos x -ℤ pos y)) (sym e)
 
-pub wrapped-difference : (b : ℕ) (x y : ℤ) (p q : ℕ) → Cong (2 ^ b) x p → Cong (2 ^ b) y q → pattern b (x -ℤ y) ≡ pattern b (pos p -ℤ pos q)
-wrapped-difference b x y p q hx hy =
-    let t = pattern b (pos p -ℤ pos q) in
+-- the difference of two patterns, congruent to that of the numbers
+pub cong-subtract : (b : ℕ) (x y : ℤ) (p q : ℕ) → Cong (2 ^ b) x p → Cong (2 ^ b) y q → Cong (2 ^ b) (x -ℤ y) (pattern b (pos p -ℤ pos q))
+cong-subtract b x y p q hx hy =
     let h : Cong (2 ^ b) (pos p +ℤ negℤ (pos q)) (pattern b (pos p -ℤ pos q)) = pattern-cong b (pos p -ℤ pos q) in
     let e : (pattern b (pos p -ℤ pos q) + q) % 2 ^ b ≡ p % 2 ^ b =
     subst (λ (z : ℤ). Cong (2 ^ b) z (pattern b (pos p -ℤ pos q) + q)) (-ℤ-+ℤ-cancel (pos p) (pos q)) (cong-add (2 ^ b) (pos p -ℤ pos q) (pos q) (pattern b (pos p -ℤ pos q)) q h refl)
     in
-    cong-pattern b (x -ℤ y) (pattern b (pos p -ℤ pos q)) (cong-difference b x y p q (pattern b (pos p -ℤ pos q)) hx hy e) ∙ mod-eq-of-lt (pattern-lt b (pos p -ℤ pos q))
+    cong-difference b x y p q (pattern b (pos p -ℤ pos q)) hx hy e
+
+pub pattern-cut : (b : ℕ) (z : ℤ) {r : ℕ} → r ≡ pattern b z → r ≡ pattern b z % 2 ^ b
+pattern-cut b z e = e ∙ sym (mod-eq-of-lt (pattern-lt b z))

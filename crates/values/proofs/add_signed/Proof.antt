@@ -1,6 +1,6 @@
--- `values::add_signed` meets its contract. The sum of the patterns is the pattern of the sum (`pattern-add`). Assumes nothing.
+-- `values::add_signed` meets its contract. The sum of the patterns, cut to the width, is the pattern of the sum (`modular`). Assumes nothing.
 use mathlib.Core.Path.{sym, _∙_}
-use Prim.Native.Nat.{_*_, _≤_}
+use Prim.Native.Nat.{_+_, _*_, _^_, _≤_}
 use Rattle.values.proofs.Widths as W
 use lib.IntN.{_+ℤ_}
 use Rattle.values.proofs.Signs as S
@@ -20,11 +20,11 @@ returns c =
     let w = s .args .w in
     let h : w ≤ 8 = W.width-le (s .pre) in
     S.read64 (c .signed-of .result) (c .signed-of .ok) ∙ c .signed-of .ensures
-    ∙ W.wrap-of (8 * w) (s .args .x +ℤ s .args .y) (c .before .add-unsigned .result)
-    (W.pattern-add (8 * w) (s .args .x) (s .args .y) (c .before .before .before .bits-of .result) (c .before .before .bits-of2 .result)
+    ∙ W.wrap-of (8 * w) (s .args .x +ℤ s .args .y) (c .before .add-unsigned .result) (sym
+    (W.modular (8 * w) (s .args .x +ℤ s .args .y) (c .before .before .before .bits-of .result + c .before .before .bits-of2 .result) (W.cong-add (2 ^ (8 * w)) (s .args .x) (s .args .y) (c .before .before .before .bits-of .result) (c .before .before .bits-of2 .result)
     (S.bits-cong w h (s .args .x) (s .fits .x .sfits) (c .before .before .before .bits-of .ensures))
-    (S.bits-cong w h (s .args .y) (s .fits .y .sfits) (c .before .before .bits-of2 .ensures))
-    ∙ sym (c .before .add-unsigned .ensures))
+    (S.bits-cong w h (s .args .y) (s .fits .y .sfits) (c .before .before .bits-of2 .ensures)))
+    (c .before .add-unsigned .ensures)))
 
 pub add-signed-spec : {M : Type 1} → statement M
 add-signed-spec =

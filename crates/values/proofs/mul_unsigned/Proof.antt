@@ -7,7 +7,7 @@ use Rattle.values.proofs.mul_unsigned.Statement.{statement}
 use Rattle.values.proofs.mul_unsigned.Tie as tie
 
 returns : tie.Need-returns
-returns c = c .low-bytes .ensures ∙ ap (λ (k : ℕ). k % 2 ^ (8 * c .before .before .args .w)) (c .before .wrapping-mul .ensures) ∙ W.mod-64 (c .before .before .args .w) (c .before .before .pre) (c .before .before .args .x * c .before .before .args .y)
+returns c = W.mul-at (c .before .before .args .w) (c .before .before .pre) (c .before .before .args .x) (c .before .before .args .y) (c .low-bytes .ensures ∙ ap (λ (k : ℕ). k % 2 ^ (8 * c .before .before .args .w)) (c .before .wrapping-mul .ensures))
 
 pub mul-unsigned-spec : {M : Type 1} → statement M
 mul-unsigned-spec = tie.close (tie.spec (λ c κs. search needs) (λ c κs. search needs) returns)

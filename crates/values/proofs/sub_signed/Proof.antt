@@ -1,4 +1,4 @@
--- `values::sub_signed` meets its contract. The difference of the patterns is the pattern of the difference (`wrapped-difference`). Assumes nothing.
+-- `values::sub_signed` meets its contract. The difference of the patterns is the pattern of the difference (`modular`). Assumes nothing.
 use mathlib.Core.Path.{sym, subst, _∙_}
 use Prim.Native.Nat.{ℕ, _*_, _^_, _<_, _≤_}
 use Rattle.values.proofs.Widths as W
@@ -20,11 +20,11 @@ returns c =
     let w = s .args .w in
     let h : w ≤ 8 = W.width-le (s .pre) in
     S.read64 (c .signed-of .result) (c .signed-of .ok) ∙ c .signed-of .ensures
-    ∙ W.wrap-of (8 * w) (s .args .x -ℤ s .args .y) (c .before .sub-unsigned .result)
-    (W.wrapped-difference (8 * w) (s .args .x) (s .args .y) (c .before .before .before .bits-of .result) (c .before .before .bits-of2 .result)
+    ∙ W.wrap-of (8 * w) (s .args .x -ℤ s .args .y) (c .before .sub-unsigned .result) (sym
+    (W.modular (8 * w) (s .args .x -ℤ s .args .y) _ (W.cong-subtract (8 * w) (s .args .x) (s .args .y) (c .before .before .before .bits-of .result) (c .before .before .bits-of2 .result)
     (S.bits-cong w h (s .args .x) (s .fits .x .sfits) (c .before .before .before .bits-of .ensures))
-    (S.bits-cong w h (s .args .y) (s .fits .y .sfits) (c .before .before .bits-of2 .ensures))
-    ∙ sym (c .before .sub-unsigned .ensures))
+    (S.bits-cong w h (s .args .y) (s .fits .y .sfits) (c .before .before .bits-of2 .ensures)))
+    (W.pattern-cut (8 * w) _ (c .before .sub-unsigned .ensures))))
 
 pub sub-signed-spec : {M : Type 1} → statement M
 sub-signed-spec =
