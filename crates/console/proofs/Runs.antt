@@ -32,6 +32,8 @@ use Rattle.machine.specs.Calls.{bufferSize, lentFits, callRefusal, answerOf, ta
 use Rattle.machine.proofs.Calls.{fresh-none}
 use Rattle.listing.specs.Listing.{listing, refusedText, longText}
 use Rattle.machine.proofs.Calling.{fresh-state}
+use Rattle.listing.specs.declared.Written.{Written}
+use Rattle.listing.specs.Writers.{textLeft, textCall}
 use Rattle.console.specs.Console.{tooLong, refusalOf, stateAfter, takingsOf, runText, coresText}
 use Rattle.console.proofs.Fresh.{zeros, fresh-not-refused}
 
@@ -96,13 +98,6 @@ module _ (f t order d sh list : List ℕ) (lent : length d ≡ bufferSize f) (le
     from-fresh y e =
         e ∙ ap (λ (z : Left). runCall f t (z .answer .state) (z .memory) (z .shared) order list) left-fresh
         ∙ ap₂ (λ (m n : ℕ). runCall f t (tableOf (cores f) 4) (zeros m) (zeros n) order list) (sized accepted) lent-shared
-
-    -- as many takings as steps at most
-    pub few-taken : (y : Ran) (e k l : List ℕ) → left y e k l ≡ runCall f t (x .state) d′ sh′ order list → y .taken ≤ length order
-    unfolding runCall ranCall
-    few-taken y e k l ran =
-        rw (ap (λ (z : Left). z .answer .taken) ran)
-        (by-pick (λ (z : Left). z .answer .taken ≤ length order) _ _ _ (λ w. few-listed (taskOf f t) order (stateOf f (x .state) d′ sh′)) (λ w. omega arith))
 
     -- ---- the run
 
@@ -180,11 +175,9 @@ module _ (f t order d sh list : List ℕ) (lent : length d ≡ bufferSize f) (le
 
 -- ---- what a writer of the listing ensures, of another name of its text
 
-abbrev Written : List ℕ → List ℕ → ℕ → List ℕ → Type 0
-Written out after r text = (after ≡ splice out 0 text) × (r ≡ length text) × (r ≤ 16384)
-
-pub written : (out : List ℕ) {after : List ℕ} {r : ℕ} {a b : List ℕ} → a ≡ b → Written out after r a → Written out after r b
-written out {after} {r} e w = subst (Written out after r) e w
+-- a writer of the text a has written the text b, where these are the same
+pub written : (out : List ℕ) {after : List ℕ} {r : Written} {a b : List ℕ} → a ≡ b → textLeft r after ≡ textCall a out → textLeft r after ≡ textCall b out
+written out e w = w ∙ ap (λ (text : List ℕ). textCall text out) e
 
 -- ---- a longer file
 

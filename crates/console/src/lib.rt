@@ -1,17 +1,21 @@
 // What the program `cores` prints, from the bytes of its three files, written into lent bytes.
+use listing::Written;
 ghost use mathlib.Core.Path.{_≡_};
 ghost use Prim.Native.Nat.{_≤_};
 ghost use lib.ListN.{length};
-ghost use Rattle.memory.specs.Memory.{splice};
+ghost use Rattle.listing.specs.Writers.{textLeft, textCall};
 ghost use Rattle.machine.specs.Calls.{bufferSize};
 ghost use Rattle.console.specs.Console.{tooLong, runText, coresText};
 
-// The most bytes of a task set, of a trace and of an order.
-const MOST_FILE: usize = 33600;
+// The most bytes of a task set, of a trace and of an order. Who reads files for `output` reads one byte more, so that a longer one is seen.
+pub const MOST_FILE: usize = 33600;
 
-const MOST_TRACE: usize = 4096;
+pub const MOST_TRACE: usize = 4096;
 
-const MOST_ORDER: usize = 4096;
+pub const MOST_ORDER: usize = 4096;
+
+// Bytes that hold any text.
+pub const TEXT: usize = 16384;
 
 // Whether one of three files of these lengths is longer than the program reads.
 fn too_long(file: usize, trace: usize, order: usize) -> bool
@@ -37,9 +41,9 @@ fn write_run(
     shared: &mut [u8],
     list: &mut [u8],
     out: &mut [u8],
-) -> usize
+) -> Written
     requires { ⌜ (length (now buffer) ≡ bufferSize (now file)) × (length (now shared) ≡ 1024) × (length (now list) ≡ 4096) × (length (now order) ≤ 4096) ⌝ }
-    ensures { λ r. ⌜ (now (out .exit) ≡ splice (now (out .entry)) 0 (runText (now (file .entry)) (now (trace .entry)) (now (order .entry)))) × (r ≡ length (runText (now (file .entry)) (now (trace .entry)) (now (order .entry)))) × (r ≤ 16384) ⌝ }
+    ensures { λ r. ⌜ textLeft r (now (out .exit)) ≡ textCall (runText (now (file .entry)) (now (trace .entry)) (now (order .entry))) (now (out .entry)) ⌝ }
 {
     let start = machine::fresh(file, buffer, shared);
     if start.refusal != 0 {
@@ -55,9 +59,10 @@ fn write_run(
 
 // ---- the text
 
-// The text goes to the front of `out`, and the answer is its length; past the end of `out` nothing is written. 16,384 bytes hold any text.
-pub fn output(file: &[u8], trace: &[u8], order: &[u8], out: &mut [u8]) -> usize
-    ensures { λ r. ⌜ (now (out .exit) ≡ splice (now (out .entry)) 0 (coresText (now (file .entry)) (now (trace .entry)) (now (order .entry)))) × (r ≡ length (coresText (now (file .entry)) (now (trace .entry)) (now (order .entry)))) × (r ≤ 16384) ⌝ }
+// The text goes to the front of `out`, and the answer is its length; where `out` can't hold it, the answer is 21 and `out` stays as it was.
+// TEXT bytes hold any text.
+pub fn output(file: &[u8], trace: &[u8], order: &[u8], out: &mut [u8]) -> Written
+    ensures { λ r. ⌜ textLeft r (now (out .exit)) ≡ textCall (coresText (now (file .entry)) (now (trace .entry)) (now (order .entry))) (now (out .entry)) ⌝ }
 {
     if too_long(file.len(), trace.len(), order.len()) {
         return listing::write_long(out);

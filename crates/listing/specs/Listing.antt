@@ -78,6 +78,10 @@ orderLine takings = orderWord ++ (flat (map takingText takings) ++ (lineFeed ∷
 
 -- ---- the three texts
 
+-- what comes before the takings
+unfoldable pub head : ℕ → State → List ℕ
+head n s = header ++ (coreLines 0 (take n (s .cores)) ++ orderWord)
+
 -- the listing of n cores and of the takings
 unfoldable pub listing : ℕ → State → List ℕ → List ℕ
 listing n s takings = header ++ (coreLines 0 (take n (s .cores)) ++ orderLine takings)

@@ -1,12 +1,14 @@
-// What the program `cores` prints, written into lent bytes. A writer answers the place after its text; past the end of the lent
-// bytes nothing is written, and the answer still counts the whole text. 16,384 bytes hold any of the three texts. Every place is
-// below 65,536, so that no sum wraps.
+// What the program `cores` prints, written into lent bytes that can hold it; into fewer nothing is written (21).
+//
+// The writers of parts answer the place after their part. Past the end of the lent bytes they write nothing and count on, so that with
+// no bytes at all they measure.
 ghost use mathlib.Core.Path.{_≡_};
 ghost use mathlib.Core.List.{_∷_, [], map};
-ghost use Prim.Native.Nat.{_+_, _<_, _≤_, min};
+ghost use Prim.Native.Nat.{_+_, _*_, _<_, _≤_, min};
 ghost use lib.ListN.{length, take};
 ghost use Rattle.memory.specs.Memory.{splice, flat};
-ghost use Rattle.listing.specs.Listing.{decimal, column, coreLine, coreLines, kind, takingText, listing, refusedText, longText};
+ghost use Rattle.listing.specs.Listing.{decimal, column, coreLine, coreLines, kind, takingText, head, listing, refusedText, longText};
+ghost use Rattle.listing.specs.Writers.{textLeft, textCall};
 use protocol::Registers;
 use states::State;
 
@@ -18,10 +20,12 @@ const WRITING: u8 = 16; // the order list's bytes of writings, from here on
 
 const CORES: usize = 4; // of a state
 
+const TOO_SHORT: u8 = 21; // the refusal of a lent output
+
 // ---- bytes and numbers
 
 fn put(out: &mut [u8], at: usize, byte: u8) -> usize
-    requires { ⌜ at < 65536 ⌝ }
+    requires { ⌜ at < 18446744073709551615 ⌝ }
     ensures { λ r. ⌜ (now (out .exit) ≡ splice (now (out .entry)) at (byte ∷ [])) × (r ≡ at + 1) ⌝ }
 {
     if at < out.len() {
@@ -31,7 +35,7 @@ fn put(out: &mut [u8], at: usize, byte: u8) -> usize
 }
 
 fn write_text(out: &mut [u8], at: usize, text: &[u8]) -> usize
-    requires { ⌜ at + length (now text) < 65536 ⌝ }
+    requires { ⌜ at + length (now text) < 18446744073709551615 ⌝ }
     ensures { λ r. ⌜ (now (out .exit) ≡ splice (now (out .entry)) at (now (text .entry))) × (r ≡ at + length (now (text .entry))) ⌝ }
 {
     let mut next = at;
@@ -45,7 +49,7 @@ fn write_text(out: &mut [u8], at: usize, text: &[u8]) -> usize
 
 // In base ten, at most five digits.
 fn write_decimal(out: &mut [u8], at: usize, value: u16) -> usize
-    requires { ⌜ at + 5 < 65536 ⌝ }
+    requires { ⌜ at + 5 < 18446744073709551615 ⌝ }
     ensures { λ r. ⌜ (now (out .exit) ≡ splice (now (out .entry)) at (decimal value)) × (r ≡ at + length (decimal value)) × (r ≤ at + 5) ⌝ }
 {
     if value < 10 {
@@ -57,7 +61,7 @@ fn write_decimal(out: &mut [u8], at: usize, value: u16) -> usize
 
 // A number and the byte that ends it.
 fn write_column(out: &mut [u8], at: usize, value: u16, end: u8) -> usize
-    requires { ⌜ at + 6 < 65536 ⌝ }
+    requires { ⌜ at + 6 < 18446744073709551615 ⌝ }
     ensures { λ r. ⌜ (now (out .exit) ≡ splice (now (out .entry)) at (column value end)) × (r ≡ at + length (column value end)) × (r ≤ at + 6) ⌝ }
 {
     let next = write_decimal(out, at, value);
@@ -67,7 +71,7 @@ fn write_column(out: &mut [u8], at: usize, value: u16, end: u8) -> usize
 // ---- the core table
 
 fn write_line(out: &mut [u8], at: usize, k: usize, r: Registers) -> usize
-    requires { ⌜ (at + 30 < 65536) × (k < 4) ⌝ }
+    requires { ⌜ (at + 30 < 18446744073709551615) × (k < 4) ⌝ }
     ensures { λ end. ⌜ (now (out .exit) ≡ splice (now (out .entry)) at (coreLine k r)) × (end ≡ at + length (coreLine k r)) × (end ≤ at + 30) ⌝ }
 {
     let core = k as u16;
@@ -99,7 +103,7 @@ fn table_of(s: State) -> [Registers; 4]
 
 // The lines of the first n cores.
 fn write_lines(out: &mut [u8], at: usize, s: State, n: usize) -> usize
-    requires { ⌜ at + 120 < 65536 ⌝ }
+    requires { ⌜ at + 120 < 18446744073709551615 ⌝ }
     ensures { λ r. ⌜ (now (out .exit) ≡ splice (now (out .entry)) at (coreLines 0 (take n (s .cores)))) × (r ≡ at + length (coreLines 0 (take n (s .cores)))) × (r ≤ at + 120) ⌝ }
 {
     let cores = table_of(s);
@@ -125,7 +129,7 @@ fn kind_of(byte: u8) -> u8
 }
 
 fn write_taking(out: &mut [u8], at: usize, byte: u8) -> usize
-    requires { ⌜ at + 3 < 65536 ⌝ }
+    requires { ⌜ at + 3 < 18446744073709551615 ⌝ }
     ensures { λ r. ⌜ (now (out .exit) ≡ splice (now (out .entry)) at (takingText byte)) × (r ≡ at + 3) ⌝ }
 {
     let core = put(out, at, SPACE);
@@ -135,8 +139,8 @@ fn write_taking(out: &mut [u8], at: usize, byte: u8) -> usize
 
 // The first `taken` bytes of the order list.
 fn write_takings(out: &mut [u8], at: usize, list: &[u8], taken: usize) -> usize
-    requires { ⌜ (at + 12288 < 65536) × (taken ≤ 4096) ⌝ }
-    ensures { λ r. ⌜ (now (out .exit) ≡ splice (now (out .entry)) at (flat (map takingText (take taken (now (list .entry)))))) × (r ≡ at + length (flat (map takingText (take taken (now (list .entry)))))) × (r ≤ at + 12288) ⌝ }
+    requires { ⌜ at + 3 * min taken (length (now list)) < 18446744073709551615 ⌝ }
+    ensures { λ r. ⌜ (now (out .exit) ≡ splice (now (out .entry)) at (flat (map takingText (take taken (now (list .entry)))))) × (r ≡ at + length (flat (map takingText (take taken (now (list .entry)))))) × (r ≡ at + 3 * min taken (length (now (list .entry)))) ⌝ }
 {
     let takings = least(taken, list.len());
     let mut next = at;
@@ -150,29 +154,63 @@ fn write_takings(out: &mut [u8], at: usize, list: &[u8], taken: usize) -> usize
 
 // ---- the three texts
 
-// The listing of n cores in the state s and of the first `taken` takings of the order list.
-pub fn write_listing(s: State, n: usize, list: &[u8], taken: usize, out: &mut [u8]) -> usize
-    requires { ⌜ taken ≤ 4096 ⌝ }
-    ensures { λ r. ⌜ (now (out .exit) ≡ splice (now (out .entry)) 0 (listing n s (take taken (now (list .entry))))) × (r ≡ length (listing n s (take taken (now (list .entry))))) × (r ≤ 16384) ⌝ }
+// What a writer answers: the length of the text, or a refusal with its number.
+pub enum Written {
+    Text(usize),
+    Refused(u8),
+}
+
+// What comes before the takings.
+fn write_head(out: &mut [u8], s: State, n: usize) -> usize
+    ensures { λ r. ⌜ (now (out .exit) ≡ splice (now (out .entry)) 0 (head n s)) × (r ≡ length (head n s)) × (r ≤ 154) ⌝ }
 {
     let lines = write_text(out, 0, b"core mode cycles flags count\n");
     let order = write_lines(out, lines, s, n);
-    let takings = write_text(out, order, b"order");
-    let end = write_takings(out, takings, list, taken);
-    put(out, end, LINE_FEED)
+    write_text(out, order, b"order")
 }
 
-// The refusal with its number.
-pub fn write_refused(number: u8, out: &mut [u8]) -> usize
-    ensures { λ r. ⌜ (now (out .exit) ≡ splice (now (out .entry)) 0 (refusedText number)) × (r ≡ length (refusedText number)) × (r ≤ 16384) ⌝ }
+// The listing of n cores in the state s and of the first `taken` takings of the order list.
+pub fn write_listing(s: State, n: usize, list: &[u8], taken: usize, out: &mut [u8]) -> Written
+    ensures { λ r. ⌜ textLeft r (now (out .exit)) ≡ textCall (listing n s (take taken (now (list .entry)))) (now (out .entry)) ⌝ }
+{
+    let mut nothing = [0u8; 0];
+    let before = write_head(&mut nothing, s, n);
+    if out.len() <= before {
+        return Written::Refused(TOO_SHORT);
+    }
+    let takings = least(taken, list.len());
+    if (out.len() - before - 1) / 3 < takings {
+        return Written::Refused(TOO_SHORT);
+    }
+    let from = write_head(out, s, n);
+    let end = write_takings(out, from, list, taken);
+    Written::Text(put(out, end, LINE_FEED))
+}
+
+fn write_number(out: &mut [u8], number: u8) -> usize
+    ensures { λ r. ⌜ (now (out .exit) ≡ splice (now (out .entry)) 0 (refusedText number)) × (r ≡ length (refusedText number)) ⌝ }
 {
     let at = write_text(out, 0, b"refused ");
     write_column(out, at, number as u16, LINE_FEED)
 }
 
-// A file was longer than the program reads.
-pub fn write_long(out: &mut [u8]) -> usize
-    ensures { λ r. ⌜ (now (out .exit) ≡ splice (now (out .entry)) 0 longText) × (r ≡ length longText) × (r ≤ 16384) ⌝ }
+// The refusal with its number.
+pub fn write_refused(number: u8, out: &mut [u8]) -> Written
+    ensures { λ r. ⌜ textLeft r (now (out .exit)) ≡ textCall (refusedText number) (now (out .entry)) ⌝ }
 {
-    write_text(out, 0, b"long\n")
+    let mut nothing = [0u8; 0];
+    if out.len() < write_number(&mut nothing, number) {
+        return Written::Refused(TOO_SHORT);
+    }
+    Written::Text(write_number(out, number))
+}
+
+// A file was longer than the program reads.
+pub fn write_long(out: &mut [u8]) -> Written
+    ensures { λ r. ⌜ textLeft r (now (out .exit)) ≡ textCall longText (now (out .entry)) ⌝ }
+{
+    if out.len() < 5 {
+        return Written::Refused(TOO_SHORT);
+    }
+    Written::Text(write_text(out, 0, b"long\n"))
 }

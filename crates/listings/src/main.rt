@@ -1,5 +1,6 @@
 // Texts of `cores` with known results: the refusals in their order, `long` before them, and runs; the listing of document 01, its first four
 // steps, and JMP 0 with limit 1 among them.
+use listing::Written;
 
 fn text(s: &[u8]) {
     io::write_all(1, s);
@@ -9,9 +10,65 @@ fn text(s: &[u8]) {
 fn show(label: &[u8], file: &[u8], trace: &[u8], order: &[u8]) {
     text(label);
     text(b":\n");
-    let mut out = [0u8; 16384];
-    let n = console::output(file, trace, order, &mut out);
-    text(&out[..n]);
+    let mut out = [0u8; console::TEXT];
+    let written = console::output(file, trace, order, &mut out);
+    tell(written, &out);
+}
+
+// The text that was written, or 21.
+fn tell(written: Written, out: &[u8]) {
+    match written {
+        Written::Text(n) => {
+            if n <= out.len() {
+                let start = 0;
+                text(&out[start..n]);
+            }
+        }
+        Written::Refused(number) => {
+            io::print_decimal(1, number as u64);
+            text(b"\n");
+        }
+    }
+}
+
+// Lent bytes that are one too few for a text, or just enough: 21 where it is refused, and what they hold afterwards.
+fn show_room(label: &[u8], file: &[u8], order: &[u8], out: &mut [u8]) {
+    text(label);
+    text(b":\n");
+    let written = console::output(file, b"\x01\x00\x00\x00\x00\x00", order, out);
+    if let Written::Refused(number) = written {
+        io::print_decimal(1, number as u64);
+        text(b" ");
+    }
+    text(out);
+    text(b"\n");
+}
+
+fn rooms() {
+    let task = b"MCS1\x01\x01\x00\x00\x00\x01\x00\x00\x01\x00\x00";
+    let mut few = [b'.'; 50];
+    show_room(
+        b"document 01's listing in 50 bytes",
+        task,
+        b"\x00\x00\x00\x00\x00",
+        &mut few,
+    );
+    let mut enough = [b'.'; 51];
+    show_room(
+        b"document 01's listing in 51 bytes",
+        task,
+        b"\x00\x00\x00\x00\x00",
+        &mut enough,
+    );
+    let mut ten = [b'.'; 10];
+    show_room(b"refused 20 in 10 bytes", task, b"\x01", &mut ten);
+    let mut eleven = [b'.'; 11];
+    show_room(b"refused 20 in 11 bytes", task, b"\x01", &mut eleven);
+    let long = [0u8; console::MOST_FILE + 1];
+    let mut four = [b'.'; 4];
+    show_room(b"long in 4 bytes", &long, b"", &mut four);
+    let mut six = [b'.'; 6];
+    show_room(b"long in 6 bytes", &long, b"", &mut six);
 }
 
 // ---- one core, whose code is RETURN, and one input record
@@ -79,4 +136,5 @@ fn main() {
     refusals();
     runs();
     lengths();
+    rooms();
 }

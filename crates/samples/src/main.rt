@@ -1,6 +1,7 @@
 // Document 01's samples on the public calls: the listing of `cores`, the bench values that are not marked, every refusal, and the next
 // core to move. Each case tells its name, what came, and ok or WRONG beside what document 01 says. Lent memory is filled with a pattern
 // before a call that must be refused; where one byte of it, or the state, is changed, or two calls differ on a refusal, 99 comes.
+use listing::Written;
 use machine::Next;
 use protocol::Registers;
 use runner::Ran;
@@ -289,17 +290,22 @@ fn run_fresh(
     machine::run(file, trace, begun.state, buffer, shared, order, list)
 }
 
+// The bytes that were written; none of a text that was refused.
+fn length_of(written: Written) -> usize {
+    match written {
+        Written::Text(n) => n,
+        Written::Refused(_) => 0,
+    }
+}
+
 // What `cores` prints of it, and its length.
 fn outcome(ran: Ran, list: &[u8], out: &mut [u8]) -> usize {
     if ran.refusal != 0 {
-        return listing::write_refused(ran.refusal, out);
-    }
-    if 4096 < ran.taken {
-        return 0;
+        return length_of(listing::write_refused(ran.refusal, out));
     }
     let s = ran.state;
     let n = s.count as usize;
-    listing::write_listing(s, n, list, ran.taken, out)
+    length_of(listing::write_listing(s, n, list, ran.taken, out))
 }
 
 // The first n bytes.

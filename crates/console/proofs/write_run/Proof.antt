@@ -1,6 +1,6 @@
 -- `console::write_run` meets its contract: what either call refuses is printed, or the listing. Assumes nothing.
 use native.Mathlib.Omega.{arith}
-use Rattle.console.proofs.Runs.{fresh-refused, few-taken, run-refused, run-listed, written}
+use Rattle.console.proofs.Runs.{fresh-refused, run-refused, run-listed, written}
 use borrow.Author.Needs.{needs}
 use Rattle.console.proofs.write_run.Statement.{statement}
 use Rattle.console.proofs.write_run.Tie as tie
@@ -48,10 +48,12 @@ cast-n : tie.Need-cast-n
 cast-n c = search needs
 
 write-listing-requires : tie.Need-write-listing-requires
-write-listing-requires c κs = omega (arith, few-taken (c .before .before .before .before .before .before .before .before .before .before .before .before .before .before .before .before .before .before .before .before .before .before .before .before .before .before .before .before .before .before .before .args .file .now) (c .before .before .before .before .before .before .before .before .before .before .before .before .before .before .before .before .before .before .before .before .before .before .before .before .before .before .before .before .before .before .before .args .trace .now) (c .before .before .before .before .before .before .before .before .before .before .before .before .before .before .before .before .before .before .before .before .before .before .before .before .before .before .before .before .before .before .before .args .order .now) (c .before .before .before .before .before .before .before .before .before .before .before .before .before .before .before .before .before .before .before .before .before .before .before .before .before .before .before .before .before .before .before .args .buffer .now) (c .before .before .before .before .before .before .before .before .before .before .before .before .before .before .before .before .before .before .before .before .before .before .before .before .before .before .before .before .before .before .before .args .shared .now) (c .before .before .before .before .before .before .before .before .before .before .before .before .before .before .before .before .before .before .before .before .before .before .before .before .before .before .before .before .before .before .before .args .list .now) (c .before .before .before .before .before .before .before .before .before .before .before .before .before .before .before .before .before .before .before .before .before .before .before .before .before .before .before .before .before .before .before .pre .0) (c .before .before .before .before .before .before .before .before .before .before .before .before .before .before .before .before .before .before .before .before .before .before .before .before .before .before .before .before .before .before .before .pre .1) _ _ _ (c .before .before .before .before .before .before .before .before .before .before .before .before .before .before .before .before .before .before .before .before .before .fresh .ensures) (c .before .before .before .before .before .before .before .before .before .before .before .before .before .before .before .if1 .left) _ _ _ _ (c .before .before .before .before .before .before .before .before .before .before .before .run .ensures), c .before .before .before .before .before .before .before .before .before .before .before .before .before .before .before .before .before .before .before .before .before .before .before .before .before .before .before .before .before .before .before .pre .3)
+write-listing-requires c κs = search needs
 
 same-length-8 : tie.Need-same-length-8
-same-length-8 c = search needs
+same-length-8 c =
+    let ran = c .before .before .before .before .before .before .before .before .before .before .before .before .before .before in
+    search (needs, ran .run, ran .before .before .before .before .before .before .before .before .before .before .fresh)
 
 same-length-9 : tie.Need-same-length-9
 same-length-9 c = search needs

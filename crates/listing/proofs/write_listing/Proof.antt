@@ -1,62 +1,106 @@
--- `listing::write_listing` meets its contract, piece by piece. The longest listing has 4 lines of 30 bytes and 4,096 takings of 3.
+-- `listing::write_listing` meets its contract: what comes before the takings is measured, each taking has three bytes, and a line feed ends it.
 -- Assumes nothing.
-use mathlib.Core.Path.{refl, _∙_}
+use mathlib.Core.Path.{refl, sym, _∙_}
 use native.Mathlib.Nat.{zero-add}
 use native.Mathlib.Omega.{arith}
 use lib.ListN.{take}
-use Rattle.listing.specs.Listing.{header, orderWord, orderLine, listing}
+use Rattle.listing.specs.Listing.{listing}
 use Rattle.listing.proofs.Writing.{writing-start, writing-more, writing-last}
+use Rattle.listing.proofs.Answers.{text-short, text-written, listing-head, length-listing}
 use borrow.Author.Needs.{needs}
 use Rattle.listing.proofs.write_listing.Statement.{statement}
 use Rattle.listing.proofs.write_listing.Tie as tie
 
-slice-aggregate-write-text : tie.Need-slice-aggregate-write-text
-slice-aggregate-write-text c = search needs
+slice-aggregate-write-head : tie.Need-slice-aggregate-write-head
+slice-aggregate-write-head c = search needs
 
-write-text-requires : tie.Need-write-text-requires
-write-text-requires c κs = search needs
+write-head-requires : tie.Need-write-head-requires
+write-head-requires c κs = search needs
 
-write-lines-requires : tie.Need-write-lines-requires
-write-lines-requires c κs = search needs
+returns : tie.Need-returns
+returns c =
+    let measured = c .before .before in
+    let a = measured .before .before .before .before .args in
+    text-short (listing (a .n) (a .s) (take (a .taken) (a .list .now))) (a .out .now)
+    (omega (arith, length-listing (a .n) (a .s) (a .list .now) (a .taken), measured .write-head .ensures .1, c .if1 .taken))
 
-slice-aggregate-write-text-2 : tie.Need-slice-aggregate-write-text-2
-slice-aggregate-write-text-2 c = search needs
+least-requires : tie.Need-least-requires
+least-requires c κs = search needs
 
-write-text-requires-2 : tie.Need-write-text-requires-2
-write-text-requires-2 c κs = search needs
+sub-if2 : tie.Need-sub-if2
+sub-if2 c = search needs
+
+sub-if2-2 : tie.Need-sub-if2-2
+sub-if2-2 c = search needs
+
+returns-2 : tie.Need-returns-2
+returns-2 c =
+    let counted = c .before in
+    let room = counted .before in
+    let measured = room .before .before in
+    let a = measured .before .before .before .before .args in
+    text-short (listing (a .n) (a .s) (take (a .taken) (a .list .now))) (a .out .now)
+    (omega (arith, length-listing (a .n) (a .s) (a .list .now) (a .taken), measured .write-head .ensures .1, room .if1 .left, counted .least .ensures, c .if2 .taken))
+
+write-head-requires-2 : tie.Need-write-head-requires-2
+write-head-requires-2 c κs = search needs
 
 write-takings-requires : tie.Need-write-takings-requires
-write-takings-requires c κs = search needs
+write-takings-requires c κs =
+    let wrote = c .before .before .before in
+    let fits = wrote .before .before in
+    let counted = fits .before in
+    let room = counted .before in
+    let measured = room .before .before in
+    omega (arith, measured .before .before .before .before .good, measured .write-head .ensures .1, wrote .write-head2 .ensures .1, room .if1 .left, counted .least .ensures, fits .if2 .left)
 
 put-requires : tie.Need-put-requires
-put-requires c κs = search needs
+put-requires c κs =
+    let listed = c .before .before .before in
+    let wrote = listed .before .before .before .before in
+    let fits = wrote .before .before in
+    let counted = fits .before in
+    let room = counted .before in
+    let measured = room .before .before in
+    omega (arith, measured .before .before .before .before .good, listed .write-takings .ensures .2, measured .write-head .ensures .1, wrote .write-head2 .ensures .1, room .if1 .left, counted .least .ensures, fits .if2 .left)
 
 same-length : tie.Need-same-length
 same-length c = search needs
 
-returns : tie.Need-returns
-unfolding listing header orderLine orderWord
-returns c =
+returns-3 : tie.Need-returns-3
+returns-3 c =
+    let ended = c .before .before in
+    let listed = ended .before .before .before .before in
+    let wrote = listed .before .before .before .before in
+    let fits = wrote .before .before in
+    let counted = fits .before in
+    let room = counted .before in
+    let measured = room .before .before in
+    let a = measured .before .before .before .before .args in
+    let l = take (a .taken) (a .list .now) in
     let w = writing-last
-    (writing-more _ _ (writing-more _ _ (writing-more _ _ (writing-more _ _
-    (writing-start _ 0 (listing (c .before .before .before .before .before .before .before .before .before .before .before .before .before .before .before .before .before .before .before .before .before .before .before .before .args .n) (c .before .before .before .before .before .before .before .before .before .before .before .before .before .before .before .before .before .before .before .before .before .before .before .before .args .s) (take (c .before .before .before .before .before .before .before .before .before .before .before .before .before .before .before .before .before .before .before .before .before .before .before .before .args .taken) (c .before .before .before .before .before .before .before .before .before .before .before .before .before .before .before .before .before .before .before .before .before .before .before .before .args .list .now))))
-    refl (c .before .before .before .before .before .before .before .before .before .before .before .before .before .before .before .before .before .before .before .write-text .ensures .0) (c .before .before .before .before .before .before .before .before .before .before .before .before .before .before .before .before .before .before .before .write-text .ensures .1))
-    refl (c .before .before .before .before .before .before .before .before .before .before .before .before .before .before .before .write-lines .ensures .0) (c .before .before .before .before .before .before .before .before .before .before .before .before .before .before .before .write-lines .ensures .1))
-    refl (c .before .before .before .before .before .before .before .before .before .before .write-text2 .ensures .0) (c .before .before .before .before .before .before .before .before .before .before .write-text2 .ensures .1))
-    refl (c .before .before .before .before .before .before .write-takings .ensures .0) (c .before .before .before .before .before .before .write-takings .ensures .1))
-    (c .before .before .put .ensures .0) (c .before .before .put .ensures .1) in
-    (w .0, w .1 ∙ zero-add _, omega arith)
+    (writing-more _ _ (writing-more _ _
+    (writing-start _ 0 (listing (a .n) (a .s) l))
+    (listing-head (a .n) (a .s) l) (wrote .write-head2 .ensures .0) (wrote .write-head2 .ensures .1 ∙ sym (zero-add _)))
+    refl (listed .write-takings .ensures .0) (listed .write-takings .ensures .1))
+    (ended .put .ensures .0) (ended .put .ensures .1) in
+    text-written (listing (a .n) (a .s) l) (a .out .now)
+    (omega (arith, length-listing (a .n) (a .s) (a .list .now) (a .taken), measured .write-head .ensures .1, room .if1 .left, counted .least .ensures, fits .if2 .left))
+    (w .1 ∙ zero-add _) (w .0)
 
 pub write-listing-spec : {M : Type 1} → statement M
 write-listing-spec =
     tie.close
     (tie.spec
-    slice-aggregate-write-text
-    write-text-requires
-    write-lines-requires
-    slice-aggregate-write-text-2
-    write-text-requires-2
+    slice-aggregate-write-head
+    write-head-requires
+    returns
+    least-requires
+    sub-if2
+    sub-if2-2
+    returns-2
+    write-head-requires-2
     write-takings-requires
     put-requires
     same-length
-    returns)
+    returns-3)

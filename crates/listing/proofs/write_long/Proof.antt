@@ -1,9 +1,14 @@
--- `listing::write_long` meets its contract. Assumes nothing.
+-- `listing::write_long` meets its contract: five bytes, or 21. Assumes nothing.
 use native.Mathlib.Omega.{arith}
 use Rattle.listing.specs.Listing.{longText}
+use Rattle.listing.proofs.Answers.{text-short, text-written}
 use borrow.Author.Needs.{needs}
 use Rattle.listing.proofs.write_long.Statement.{statement}
 use Rattle.listing.proofs.write_long.Tie as tie
+
+returns : tie.Need-returns
+unfolding longText
+returns c = text-short longText (c .before .before .args .out .now) (omega arith)
 
 slice-aggregate-write-text : tie.Need-slice-aggregate-write-text
 slice-aggregate-write-text c = search needs
@@ -14,10 +19,14 @@ write-text-requires c κs = search needs
 same-length : tie.Need-same-length
 same-length c = search needs
 
-returns : tie.Need-returns
+returns-2 : tie.Need-returns-2
 unfolding longText
-returns c = (c .before .before .write-text .ensures .0, c .before .before .write-text .ensures .1, omega arith)
+returns-2 c =
+    let wrote = c .before .before in
+    let room = wrote .before .before .before in
+    text-written longText (room .before .before .args .out .now) (omega (arith, room .if1 .left)) (wrote .write-text .ensures .1) (wrote .write-text .ensures .0)
 
 pub write-long-spec : {M : Type 1} → statement M
 write-long-spec =
-    tie.close (tie.spec slice-aggregate-write-text write-text-requires same-length returns)
+    tie.close
+    (tie.spec returns slice-aggregate-write-text write-text-requires same-length returns-2)

@@ -1,0 +1,4 @@
+// `cores` on an order of 4,097 bytes.
+fn main() {
+    terminal::print_cores();
+}

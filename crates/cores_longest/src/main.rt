@@ -1,0 +1,4 @@
+// `cores` on files of the most bytes: they are read whole, and the task set is refused for its leftover bytes.
+fn main() {
+    terminal::print_cores();
+}
