@@ -1,5 +1,6 @@
--- A table copied out gives its records back: the record of core k of the state that a table holds is the table's record k. So the state has all
--- of the table, and only where a record's two lists have their sixteen entries, which those of a lent table have. Assumes nothing.
+-- A table copied out gives its records back: the record of core k of the state that a table holds is the table's record k, with zeros in its
+-- spare bytes. So the state has all of the table but those, where a record's two lists have their sixteen entries, which those of a lent table
+-- have. Assumes nothing.
 use mathlib.Core.Path.{_≡_, refl, sym, ap, _∙_}
 use mathlib.Core.List.{List, [], _∷_}
 use Prim.Native.Nat.{ℕ, zero, suc, _+_, _*_, _≤_, _<_}
@@ -10,7 +11,7 @@ use Rattle.memory.specs.Memory.{splice, part}
 use Rattle.memory.proofs.Laws.{length-splice, part-splice-below, part-splice-same}
 use Rattle.lent.specs.declared.Core.{Core}
 use Rattle.lent.specs.declared.Table.{Table}
-use Rattle.lent.specs.Lent.{recordAt, loaded, entries, heldPlaces, heldOffsets, held, coreOf}
+use Rattle.lent.specs.Lent.{registersIn, recordWith, recordAt, loaded, entries, heldPlaces, heldOffsets, held, coreOf}
 
 -- ---- one stack of four
 
@@ -60,8 +61,12 @@ pub record Sixteen (c : Core) : Type 0 where
   pub places : length (c .places) ≡ 16
   pub offsets : length (c .offsets) ≡ 16
 
+-- a record with zeros in its spare bytes
+abbrev pub unspared : Core → Core
+unspared c = recordWith (registersIn c) (c .places) (c .offsets)
+
 module _ (ys : List Core) (holder : ℕ) (sized : (k : ℕ) → Sixteen (recordAt ys k)) where
-  pub comes-back : (k : ℕ) → k < 4 → coreOf (held (loaded ys) holder) k ≡ recordAt ys k
+  pub comes-back : (k : ℕ) → k < 4 → coreOf (held (loaded ys) holder) k ≡ unspared (recordAt ys k)
   unfolding coreOf held heldPlaces heldOffsets
   comes-back zero h = rw (entries-0 _ _ _ _ (sized 0 .places) (sized 1 .places) (sized 2 .places) (sized 3 .places), entries-0 _ _ _ _ (sized 0 .offsets) (sized 1 .offsets) (sized 2 .offsets) (sized 3 .offsets)) refl
   comes-back (suc zero) h = rw (entries-1 _ _ _ _ (sized 0 .places) (sized 1 .places) (sized 2 .places) (sized 3 .places), entries-1 _ _ _ _ (sized 0 .offsets) (sized 1 .offsets) (sized 2 .offsets) (sized 3 .offsets)) refl

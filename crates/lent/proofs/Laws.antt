@@ -1,5 +1,5 @@
--- Laws of the table as a state and back, and of what a call leaves of a table. In order: whole stretches; refused
--- calls; calls on a table copied out; calls on a lent table; the next core.
+-- Laws of the table as a state and back, and of what a call leaves of a table. In order: whole stretches; what a call by value left; calls on a
+-- table copied out; calls on a lent table; the next core. Not here: that a refused call leaves all (Unchanged); a table's records back (Back).
 -- Assumes nothing.
 use mathlib.Core.Path.{_≡_, refl, sym, ap, _∙_}
 use mathlib.Core.Logic.{_≢_}
@@ -26,7 +26,7 @@ use Rattle.machine.specs.Calls.{answerOf, tableOf, freshCall, runCall, stepCall
 use Rattle.lent.specs.declared.Core.{Core}
 use Rattle.lent.specs.declared.Table.{Table}
 use Rattle.lent.specs.declared.After.{After}
-use Rattle.lent.specs.Lent.{loaded, held, recordAfter, afterOf, refusedOf, holderAfter, takenAfter, tableLeft, onTable, saved, lent, written, stepTable, stepLent, runTable, runLent, takenTable, takenLent, freshTable, freshLent, numberOf, answered, foundAfter, nextTable, nextLent}
+use Rattle.lent.specs.Lent.{loaded, held, acceptedOf, refusedOf, afterOf, holderAfter, takenAfter, tableLeft, onTable, saved, lent, written, stepTable, stepLent, runTable, runLent, takenTable, takenLent, freshTable, freshLent, numberOf, answered, foundAfter, nextTable, nextLent}
 
 -- ---- whole stretches
 
@@ -38,15 +38,21 @@ pub splice-whole : (s ys : List ℕ) → length ys ≡ length s → splice s 0 y
 splice-whole s ys e =
     splice-is s 0 ys (omega (arith, e)) ∙ ap (λ (m : ℕ). ys ++ drop m s) (zero-add (length ys) ∙ e) ∙ ap (λ (r : List ℕ). ys ++ r) (drop-length s) ∙ append-nil ys
 
--- ---- refused calls
+-- ---- what a call by value left, on a table copied out
 
-pub refused-records : (x : Table) (s : State) (n : ℕ) → n ≢ 0 → afterOf x (answerOf n s) ≡ refusedOf x n
-unfolding recordAfter pick
-refused-records x s n ne = rw (ne-eqb n 0 ne) refl
+pub on-refused : (x : Table) (holder : ℕ) (r : Ran) (d sh list : List ℕ) → r .refusal ≢ 0 → onTable x holder (left r d sh list) ≡ tableLeft (refusedOf x (r .refusal)) holder d sh list
+on-refused x holder r d sh list ne =
+    let e = ne-eqb (r .refusal) 0 ne in
+    let kept : afterOf x r ≡ refusedOf x (r .refusal) = pick-false _ _ _ e in
+    let same : holderAfter holder r ≡ holder = pick-false _ _ _ e in
+    (λ i. tableLeft (kept i) (same i) d sh list)
 
-pub refused-holder : (holder : ℕ) (s : State) (n : ℕ) → n ≢ 0 → holderAfter holder (answerOf n s) ≡ holder
-unfolding pick
-refused-holder holder s n ne = rw (ne-eqb n 0 ne) refl
+pub on-accepted : (x : Table) (holder : ℕ) (r : Ran) (d sh list : List ℕ) → r .refusal ≡ 0 → onTable x holder (left r d sh list) ≡ tableLeft (acceptedOf x (r .state)) (r .state .holder) d sh list
+on-accepted x holder r d sh list z =
+    let e = eq-eqb (r .refusal) 0 z in
+    let new : afterOf x r ≡ acceptedOf x (r .state) = pick-true _ _ _ e in
+    let its : holderAfter holder r ≡ r .state .holder = pick-true _ _ _ e in
+    (λ i. tableLeft (new i) (its i) d sh list)
 
 -- the file's own refusal, else 21: never none
 pub short-refused : (a : ℕ) → next a 21 ≢ 0
@@ -54,45 +60,61 @@ unfolding next
 short-refused zero e = suc-ne-zero 20 e
 short-refused (suc a) e = suc-ne-zero a e
 
--- ---- a call on a table copied out: what the call by value left, as the code puts it together
+-- ---- a call on a table copied out: refused, or not
 
-pub step-left : (f t : List ℕ) (x : Table) (holder : ℕ) (d sh : List ℕ) (k : ℕ) (s : State) (r : Ran) (y : After) (holder′ : ℕ) (d′ sh′ : List ℕ)
-    → s ≡ held x holder → left r d′ sh′ [] ≡ stepCall f t s d sh k → holder′ ≡ holderAfter holder r → y ≡ afterOf x r
-    → tableLeft y holder′ d′ sh′ [] ≡ stepTable f t x holder d sh k
-unfolding stepTable
-step-left f t x holder d sh k s r y holder′ d′ sh′ es e eh ey =
-    (λ i. tableLeft (ey i) (eh i) d′ sh′ []) ∙ ap (onTable x holder) (e ∙ ap (λ (z : State). stepCall f t z d sh k) es)
+module _ (f t : List ℕ) (x : Table) (holder : ℕ) (d sh : List ℕ) (k : ℕ) (s : State) (r : Ran) (y : After) (d′ sh′ : List ℕ) (es : s ≡ held x holder) (e : left r d′ sh′ [] ≡ stepCall f t s d sh k) where
+  stepped-on : onTable x holder (left r d′ sh′ []) ≡ stepTable f t x holder d sh k
+  unfolding stepTable
+  stepped-on = ap (onTable x holder) (e ∙ ap (λ (z : State). stepCall f t z d sh k) es)
 
-pub run-left : (f t : List ℕ) (x : Table) (holder : ℕ) (d sh order list : List ℕ) (s : State) (r : Ran) (y : After) (holder′ : ℕ) (d′ sh′ list′ : List ℕ)
-    → s ≡ held x holder → left r d′ sh′ list′ ≡ runCall f t s d sh order list → holder′ ≡ holderAfter holder r → y ≡ afterOf x r
-    → tableLeft y holder′ d′ sh′ list′ ≡ runTable f t x holder d sh order list
-unfolding runTable
-run-left f t x holder d sh order list s r y holder′ d′ sh′ list′ es e eh ey =
-    (λ i. tableLeft (ey i) (eh i) d′ sh′ list′) ∙ ap (onTable x holder) (e ∙ ap (λ (z : State). runCall f t z d sh order list) es)
+  pub step-stays : r .refusal ≢ 0 → y ≡ refusedOf x (r .refusal) → tableLeft y holder d′ sh′ [] ≡ stepTable f t x holder d sh k
+  step-stays ne ey = ap (λ (z : After). tableLeft z holder d′ sh′ []) ey ∙ sym (on-refused x holder r d′ sh′ [] ne) ∙ stepped-on
 
-pub run-taken : (f t : List ℕ) (x : Table) (holder : ℕ) (d sh order list : List ℕ) (taken : ℕ) (s : State) (r : Ran) (d′ sh′ list′ : List ℕ) (taken′ : ℕ)
-    → s ≡ held x holder → left r d′ sh′ list′ ≡ runCall f t s d sh order list → taken′ ≡ takenAfter taken r
-    → taken′ ≡ takenTable f t x holder d sh order list taken
-unfolding takenTable
-run-taken f t x holder d sh order list taken s r d′ sh′ list′ taken′ es e et =
-    et ∙ ap (λ (l : Left). takenAfter taken (l .answer)) (e ∙ ap (λ (z : State). runCall f t z d sh order list) es)
+  pub step-moves : r .refusal ≡ 0 → y ≡ acceptedOf x (r .state) → tableLeft y (r .state .holder) d′ sh′ [] ≡ stepTable f t x holder d sh k
+  step-moves z ey = ap (λ (z : After). tableLeft z (r .state .holder) d′ sh′ []) ey ∙ sym (on-accepted x holder r d′ sh′ [] z) ∙ stepped-on
 
-pub fresh-left : (f : List ℕ) (x : Table) (holder : ℕ) (d sh : List ℕ) (n : ℕ) (r : Ran) (y : After) (holder′ : ℕ) (d′ sh′ : List ℕ)
-    → n ≡ cores f → n ≤ x .count → left r d′ sh′ [] ≡ freshCall f d sh → holder′ ≡ holderAfter holder r → y ≡ afterOf x r
-    → tableLeft y holder′ d′ sh′ [] ≡ freshTable f x holder d sh
-unfolding freshTable
-fresh-left f x holder d sh n r y holder′ d′ sh′ en h e eh ey =
-    (λ i. tableLeft (ey i) (eh i) d′ sh′ []) ∙ ap (onTable x holder) (e ∙ sym (pick-true _ _ _ (le-leb (cores f) (x .count) (omega (arith, en, h)))))
+module _ (f t : List ℕ) (x : Table) (holder : ℕ) (d sh order list : List ℕ) (taken : ℕ) (s : State) (r : Ran) (y : After) (d′ sh′ list′ : List ℕ) (es : s ≡ held x holder) (e : left r d′ sh′ list′ ≡ runCall f t s d sh order list) where
+  ran-on : onTable x holder (left r d′ sh′ list′) ≡ runTable f t x holder d sh order list
+  unfolding runTable
+  ran-on = ap (onTable x holder) (e ∙ ap (λ (z : State). runCall f t z d sh order list) es)
 
-pub fresh-short : (f : List ℕ) (x : Table) (holder : ℕ) (d sh : List ℕ) (n r : ℕ) (y : After)
-    → n ≡ cores f → x .count < n → r ≡ next (judge f) 21 → y ≡ refusedOf x r
-    → tableLeft y holder d sh [] ≡ freshTable f x holder d sh
-unfolding freshTable
-fresh-short f x holder d sh n r y en h er ey =
-    let q = next (judge f) 21 in
-    let kept : y ≡ afterOf x (answerOf q (tableOf 0 0)) = ey ∙ ap (refusedOf x) er ∙ sym (refused-records x (tableOf 0 0) q (short-refused (judge f))) in
-    let same : holder ≡ holderAfter holder (answerOf q (tableOf 0 0)) = sym (refused-holder holder (tableOf 0 0) q (short-refused (judge f))) in
-    (λ i. tableLeft (kept i) (same i) d sh []) ∙ ap (onTable x holder) (sym (pick-false _ _ _ (lt-leb (cores f) (x .count) (omega (arith, en, h)))))
+  taken-on : takenAfter taken r ≡ takenTable f t x holder d sh order list taken
+  unfolding takenTable
+  taken-on = ap (λ (l : Left). takenAfter taken (l .answer)) (e ∙ ap (λ (z : State). runCall f t z d sh order list) es)
+
+  pub run-stays : r .refusal ≢ 0 → y ≡ refusedOf x (r .refusal)
+      → (tableLeft y holder d′ sh′ list′ ≡ runTable f t x holder d sh order list) × (taken ≡ takenTable f t x holder d sh order list taken)
+  run-stays ne ey = (
+    ap (λ (z : After). tableLeft z holder d′ sh′ list′) ey ∙ sym (on-refused x holder r d′ sh′ list′ ne) ∙ ran-on,
+    sym (pick-false _ _ _ (ne-eqb (r .refusal) 0 ne)) ∙ taken-on,
+  )
+
+  pub run-moves : r .refusal ≡ 0 → y ≡ acceptedOf x (r .state)
+      → (tableLeft y (r .state .holder) d′ sh′ list′ ≡ runTable f t x holder d sh order list) × (r .taken ≡ takenTable f t x holder d sh order list taken)
+  run-moves z ey = (
+    ap (λ (z : After). tableLeft z (r .state .holder) d′ sh′ list′) ey ∙ sym (on-accepted x holder r d′ sh′ list′ z) ∙ ran-on,
+    sym (pick-true _ _ _ (eq-eqb (r .refusal) 0 z)) ∙ taken-on,
+  )
+
+module _ (f : List ℕ) (x : Table) (holder : ℕ) (d sh : List ℕ) (n : ℕ) (en : n ≡ cores f) where
+  pub fresh-short : (r : ℕ) (y : After) → x .count < n → r ≡ next (judge f) 21 → y ≡ refusedOf x r → tableLeft y holder d sh [] ≡ freshTable f x holder d sh
+  unfolding freshTable
+  fresh-short r y h er ey =
+      let q = next (judge f) 21 in
+      ap (λ (z : After). tableLeft z holder d sh []) (ey ∙ ap (refusedOf x) er)
+      ∙ sym (on-refused x holder (answerOf q (tableOf 0 0)) d sh [] (short-refused (judge f)))
+      ∙ ap (onTable x holder) (sym (pick-false _ _ _ (lt-leb (cores f) (x .count) (omega (arith, en, h)))))
+
+  module _ (r : Ran) (y : After) (d′ sh′ : List ℕ) (h : n ≤ x .count) (e : left r d′ sh′ [] ≡ freshCall f d sh) where
+    freshened : onTable x holder (left r d′ sh′ []) ≡ freshTable f x holder d sh
+    unfolding freshTable
+    freshened = ap (onTable x holder) (e ∙ sym (pick-true _ _ _ (le-leb (cores f) (x .count) (omega (arith, en, h)))))
+
+    pub fresh-stays : r .refusal ≢ 0 → y ≡ refusedOf x (r .refusal) → tableLeft y holder d′ sh′ [] ≡ freshTable f x holder d sh
+    fresh-stays ne ey = ap (λ (z : After). tableLeft z holder d′ sh′ []) ey ∙ sym (on-refused x holder r d′ sh′ [] ne) ∙ freshened
+
+    pub fresh-moves : r .refusal ≡ 0 → y ≡ acceptedOf x (r .state) → tableLeft y (r .state .holder) d′ sh′ [] ≡ freshTable f x holder d sh
+    fresh-moves z ey = ap (λ (z : After). tableLeft z (r .state .holder) d′ sh′ []) ey ∙ sym (on-accepted x holder r d′ sh′ [] z) ∙ freshened
 
 -- ---- a call on a lent table: what was copied out, what was written back
 

@@ -1,5 +1,5 @@
 -- A refused call on a lent table leaves every record, the semaphore's holder and every lent byte as on entry: each claim is the whole of what the
--- call leaves. In order: a table whose records are written back; the calls; the registers of one core.
+-- call leaves. In order: a table after a refused call; the calls; the registers of one core.
 -- Assumes nothing.
 use mathlib.Core.Path.{_≡_, refl, sym, ap, subst, _∙_}
 use mathlib.Core.Logic.{_≢_}
@@ -7,7 +7,7 @@ use mathlib.Core.Bool.{true, false}
 use mathlib.Core.List.{List, []}
 use Prim.Native.Nat.{ℕ, _<_}
 use lib.ListN.{length}
-use lib.Seq.{set-getD, getD-set-same}
+use lib.Seq.{getD-set-same}
 use lib.Dec.{leb, ltb}
 use borrow.Author.Tests.{ne-eqb, ltb-true}
 use Rattle.verdict.specs.Verdict.{next}
@@ -21,19 +21,19 @@ use Rattle.runner.specs.Runs.{Left, left}
 use Rattle.machine.specs.declared.Next.{Next}
 use Rattle.machine.specs.Calls.{answerOf, tableOf, freshRefusal, freshCall, runRefusal, runCall, stepRefusal, stepCall, nextRefusal, nextCall}
 use Rattle.lent.specs.declared.Core.{Core}
-use Rattle.lent.specs.Lent.{noCore, counted, loaded, held, afterOf, refusedOf, holderAfter, onTable, saved, lent, written, stepTable, stepLent, runTable, runLent, takenAfter, takenTable, takenLent, freshTable, freshLent, answered, foundAfter, nextTable, nextLent, withRegisters, registersAfter, stepRegisters}
-use Rattle.lent.proofs.Laws.{refused-records, refused-holder, short-refused}
+use Rattle.lent.specs.declared.After.{After}
+use Rattle.lent.specs.Lent.{counted, loaded, held, refusedOf, onTable, saved, lent, written, stepTable, stepLent, runTable, runLent, takenAfter, takenTable, takenLent, freshTable, freshLent, answered, foundAfter, nextTable, nextLent, withRegisters, registersAfter, stepRegisters}
+use Rattle.lent.proofs.Laws.{on-refused, short-refused}
 
--- ---- a table whose own records are written back
+-- ---- a table after a refused call
 
-pub saved-same : (ys : List Core) (n : ℕ) → saved ys (refusedOf (loaded ys) n) ≡ ys
-saved-same ys n = rw (set-getD ys 0 noCore, set-getD ys 1 noCore, set-getD ys 2 noCore, set-getD ys 3 noCore) refl
+pub saved-same : (ys : List Core) (x : After) → x .refusal ≢ 0 → saved ys x ≡ ys
+saved-same ys x ne = pick-false _ _ _ (ne-eqb _ 0 ne)
 
 pub refused-lent : (ys : List Core) (holder : ℕ) (d sh list : List ℕ) (n : ℕ) (s : State) → n ≢ 0
     → written ys (onTable (loaded ys) holder (left (answerOf n s) d sh list)) ≡ lent n ys holder d sh list
 refused-lent ys holder d sh list n s ne =
-    let records : saved ys (afterOf (loaded ys) (answerOf n s)) ≡ ys = ap (saved ys) (refused-records (loaded ys) s n ne) ∙ saved-same ys n in
-    (λ i. lent n (records i) (refused-holder holder s n ne i) d sh list)
+    ap (written ys) (on-refused (loaded ys) holder (answerOf n s) d sh list ne) ∙ ap (λ (l : List Core). lent n l holder d sh list) (saved-same ys (refusedOf (loaded ys) n) ne)
 
 -- ---- the calls
 

@@ -25,16 +25,60 @@ use Rattle.lent.specs.declared.After.{After}
 
 -- ---- a table as a state, and back
 
+-- the registers of a record
+abbrev pub registersIn : Core → Registers
+registersIn c = record {
+  mode = c .mode;
+  counter = c .counter;
+  offset = c .offset;
+  depth = c .depth;
+  count = c .count;
+  exchange = c .exchange;
+  cycles = c .cycles;
+  flags = c .flags;
+  time = c .time;
+}
+
+-- the record of these registers and this call stack, with zeros in its spare bytes
+abbrev pub recordWith : Registers → List ℕ → List ℕ → Core
+recordWith r places offsets = record {
+  time = r .time;
+  counter = r .counter;
+  offset = r .offset;
+  count = r .count;
+  exchange = r .exchange;
+  cycles = r .cycles;
+  mode = r .mode;
+  depth = r .depth;
+  flags = r .flags;
+  spare = replicate 3 0;
+  places = places;
+  offsets = offsets;
+}
+
 -- a record past the end of a table
 abbrev pub noCore : Core
-noCore = record { registers = none; places = replicate 16 0; offsets = replicate 16 0 }
+noCore = recordWith none (replicate 16 0) (replicate 16 0)
 
 abbrev pub recordAt : List Core → ℕ → Core
 recordAt ys k = getD ys k noCore
 
 -- record k of a table copied out, which has four; no other is ever read
 abbrev pub recordOf : Table → ℕ → Core
-recordOf t k = getD (t .cores) k (record { registers = none; places = []; offsets = [] })
+recordOf t k = getD (t .cores) k record {
+  time = 0;
+  counter = 0;
+  offset = 0;
+  count = 0;
+  exchange = 0;
+  cycles = 0;
+  mode = 0;
+  depth = 0;
+  flags = 0;
+  spare = [];
+  places = [];
+  offsets = [];
+}
 
 -- how many records a table has, in one byte: 255 stands for more, and is no number of cores
 abbrev pub counted : ℕ → ℕ
@@ -62,27 +106,30 @@ unfoldable pub held : Table → ℕ → State
 held t holder = record {
   count = t .count;
   holder = holder;
-  cores = recordOf t 0 .registers ∷ recordOf t 1 .registers ∷ recordOf t 2 .registers ∷ recordOf t 3 .registers ∷ [];
+  cores = registersIn (recordOf t 0) ∷ registersIn (recordOf t 1) ∷ registersIn (recordOf t 2) ∷ registersIn (recordOf t 3) ∷ [];
   places = heldPlaces t;
   offsets = heldOffsets t;
 }
 
 -- the record of core k of a state
 unfoldable pub coreOf : State → ℕ → Core
-coreOf s k = record { registers = getD (s .cores) k none; places = part (s .places) (16 * k) 16; offsets = part (s .offsets) (16 * k) 16 }
+coreOf s k = recordWith (getD (s .cores) k none) (part (s .places) (16 * k) 16) (part (s .offsets) (16 * k) 16)
 
 -- ---- what a call leaves
 
--- record k after a call: that of the state, where the call isn't refused and the state has a core k; else the one on entry
-unfoldable pub recordAfter : Table → Ran → ℕ → Core
-recordAfter t r k = pick (both (eqb (r .refusal) 0) (ltb k (r .state .count))) (coreOf (r .state) k) (recordOf t k)
+-- record k after a call that isn't refused: that of the state it leaves; the one on entry where the state has no core k
+unfoldable pub recordAfter : Table → State → ℕ → Core
+recordAfter t s k = pick (ltb k (s .count)) (coreOf s k) (recordOf t k)
 
-abbrev pub afterOf : Table → Ran → After
-afterOf t r = record { refusal = r .refusal; a = recordAfter t r 0; b = recordAfter t r 1; c = recordAfter t r 2; d = recordAfter t r 3 }
+abbrev pub acceptedOf : Table → State → After
+acceptedOf t s = record { refusal = 0; a = recordAfter t s 0; b = recordAfter t s 1; c = recordAfter t s 2; d = recordAfter t s 3 }
 
--- a refusal that no call by value answers
+-- a refused call's number, with the records on entry
 abbrev pub refusedOf : Table → ℕ → After
 refusedOf t n = record { refusal = n; a = recordOf t 0; b = recordOf t 1; c = recordOf t 2; d = recordOf t 3 }
+
+abbrev pub afterOf : Table → Ran → After
+afterOf t r = pick (eqb (r .refusal) 0) (acceptedOf t (r .state)) (refusedOf t (r .refusal))
 
 -- the semaphore's holder and the count of takings after a call; a refused one leaves them
 abbrev pub holderAfter : ℕ → Ran → ℕ
@@ -117,9 +164,12 @@ pub record Lent : Type 0 where
 abbrev pub lent : ℕ → List Core → ℕ → List ℕ → List ℕ → List ℕ → Lent
 lent r ys holder d sh list = record { refusal = r; table = ys; holder = holder; memory = d; shared = sh; order = list }
 
--- the records that a table has are written back
+-- the records that a table has are written back; of a refused call none
+abbrev pub stored : List Core → After → List Core
+stored ys x = set (set (set (set ys 0 (x .a)) 1 (x .b)) 2 (x .c)) 3 (x .d)
+
 abbrev pub saved : List Core → After → List Core
-saved ys x = set (set (set (set ys 0 (x .a)) 1 (x .b)) 2 (x .c)) 3 (x .d)
+saved ys x = pick (eqb (x .refusal) 0) (stored ys x) ys
 
 abbrev pub written : List Core → TableLeft → Lent
 written ys l = lent (l .after .refusal) (saved ys (l .after)) (l .holder) (l .memory) (l .shared) (l .order)

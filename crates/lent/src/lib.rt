@@ -14,12 +14,22 @@ ghost use Rattle.verdict.specs.Verdict.{next};
 ghost use Rattle.memory.specs.Memory.{splice, part};
 ghost use Rattle.taskset.specs.Judge.{judge};
 ghost use Rattle.runner.specs.Runs.{left};
-ghost use Rattle.lent.specs.Lent.{noCore, tableFrom, loaded, entries, counted, heldPlaces, heldOffsets, held, coreOf, recordAfter, afterOf, refusedOf, holderAfter, takenAfter, tableLeft, lent, stepTable, stepLent, runTable, runLent, takenTable, takenLent, freshTable, freshLent, numberOf, answered, nextTable, nextLent, withRegisters, registersAfter, stepRegisters};
+ghost use Rattle.lent.specs.Lent.{noCore, tableFrom, loaded, entries, counted, registersIn, recordWith, heldPlaces, heldOffsets, held, coreOf, recordAfter, acceptedOf, refusedOf, tableLeft, saved, lent, stepTable, stepLent, runTable, runLent, takenTable, takenLent, freshTable, freshLent, numberOf, answered, nextTable, nextLent, withRegisters, registersAfter, stepRegisters};
 
-// A record of the core table: a core's registers and call stack.
+// A record of the core table: a core's registers and call stack, in 84 bytes of which each belongs to a field, so that what a call says of the
+// fields it says of every byte. Spare bytes are never judged, and a record that a call writes has zeros there.
 #[repr(C)]
 pub struct Core {
-    pub registers: Registers,
+    pub time: u32,
+    pub counter: u16,
+    pub offset: u16,
+    pub count: u16,
+    pub exchange: u16,
+    pub cycles: u16,
+    pub mode: u8,
+    pub depth: u8,
+    pub flags: u8,
+    pub spare: [u8; 3],
     pub places: [u16; 16], // the return places of its open calls
     pub offsets: [u16; 16], // the data offsets that go with them
 }
@@ -31,6 +41,44 @@ pub struct Table {
 }
 
 // ---- a table as a state, and back
+
+// The registers of a record.
+fn registers_in(c: Core) -> Registers
+    ensures { λ r. ⌜ r ≡ registersIn c ⌝ }
+{
+    Registers {
+        mode: c.mode,
+        counter: c.counter,
+        offset: c.offset,
+        depth: c.depth,
+        count: c.count,
+        exchange: c.exchange,
+        cycles: c.cycles,
+        flags: c.flags,
+        time: c.time,
+    }
+}
+
+// A record of these registers and this call stack.
+fn record_of(r: Registers, places: [u16; 16], offsets: [u16; 16]) -> Core
+    ensures { λ c. ⌜ c ≡ recordWith r places offsets ⌝ }
+{
+    let spare = [0u8; 3];
+    Core {
+        time: r.time,
+        counter: r.counter,
+        offset: r.offset,
+        count: r.count,
+        exchange: r.exchange,
+        cycles: r.cycles,
+        mode: r.mode,
+        depth: r.depth,
+        flags: r.flags,
+        spare,
+        places,
+        offsets,
+    }
+}
 
 // Copies n entries from src[from..] to dst[to..].
 fn copy(dst: &mut [u16], to: usize, src: &[u16], from: usize, n: usize)
@@ -104,10 +152,10 @@ fn state_of(t: Table, holder: u8) -> State
     let b = t.cores[1];
     let c = t.cores[2];
     let d = t.cores[3];
-    let ra = a.registers;
-    let rb = b.registers;
-    let rc = c.registers;
-    let rd = d.registers;
+    let ra = registers_in(a);
+    let rb = registers_in(b);
+    let rc = registers_in(c);
+    let rd = registers_in(d);
     let cores = [ra, rb, rc, rd];
     let places = places_of(t);
     let offsets = offsets_of(t);
@@ -130,11 +178,7 @@ fn core_of(s: State, k: usize) -> Core
     let all_offsets = s.offsets;
     let places = stack_of(all_places, k);
     let offsets = stack_of(all_offsets, k);
-    Core {
-        registers,
-        places,
-        offsets,
-    }
+    record_of(registers, places, offsets)
 }
 
 // ---- what a call leaves of a table
@@ -148,30 +192,26 @@ pub struct After {
     pub d: Core,
 }
 
-// Record k after a call.
-fn record_after(t: Table, r: Ran, k: usize) -> Core
+// Record k after a call that is not refused and leaves the state s.
+fn record_after(t: Table, s: State, k: usize) -> Core
     requires { ⌜ k < 4 ⌝ }
-    ensures { λ x. ⌜ x ≡ recordAfter t r k ⌝ }
+    ensures { λ x. ⌜ x ≡ recordAfter t s k ⌝ }
 {
-    if r.refusal != 0 {
-        return t.cores[k];
-    }
-    let s = r.state;
     if s.count as usize <= k {
         return t.cores[k];
     }
     core_of(s, k)
 }
 
-fn records_after(t: Table, r: Ran) -> After
-    ensures { λ x. ⌜ x ≡ afterOf t r ⌝ }
+fn accepted(t: Table, s: State) -> After
+    ensures { λ x. ⌜ x ≡ acceptedOf t s ⌝ }
 {
-    let a = record_after(t, r, 0);
-    let b = record_after(t, r, 1);
-    let c = record_after(t, r, 2);
-    let d = record_after(t, r, 3);
+    let a = record_after(t, s, 0);
+    let b = record_after(t, s, 1);
+    let c = record_after(t, s, 2);
+    let d = record_after(t, s, 3);
     After {
-        refusal: r.refusal,
+        refusal: 0,
         a,
         b,
         c,
@@ -179,25 +219,20 @@ fn records_after(t: Table, r: Ran) -> After
     }
 }
 
-// The semaphore's holder after a call.
-fn holder_after(holder: u8, r: Ran) -> u8
-    ensures { λ x. ⌜ x ≡ holderAfter holder r ⌝ }
+fn refused(t: Table, number: u8) -> After
+    ensures { λ x. ⌜ x ≡ refusedOf t number ⌝ }
 {
-    if r.refusal != 0 {
-        return holder;
+    let a = t.cores[0];
+    let b = t.cores[1];
+    let c = t.cores[2];
+    let d = t.cores[3];
+    After {
+        refusal: number,
+        a,
+        b,
+        c,
+        d,
     }
-    let s = r.state;
-    s.holder
-}
-
-// The count of takings after a run.
-fn taken_after(taken: usize, r: Ran) -> usize
-    ensures { λ x. ⌜ x ≡ takenAfter taken r ⌝ }
-{
-    if r.refusal != 0 {
-        return taken;
-    }
-    r.taken
 }
 
 // ---- the calls on a table copied out
@@ -215,8 +250,12 @@ fn step_table(
 {
     let s = state_of(t, *holder);
     let r = machine::step(file, trace, s, buffer, shared, core);
-    *holder = holder_after(*holder, r);
-    records_after(t, r)
+    if r.refusal != 0 {
+        return refused(t, r.refusal);
+    }
+    let after = r.state;
+    *holder = after.holder;
+    accepted(t, after)
 }
 
 fn run_table(
@@ -234,9 +273,13 @@ fn run_table(
 {
     let s = state_of(t, *holder);
     let r = machine::run(file, trace, s, buffer, shared, order, list);
-    *holder = holder_after(*holder, r);
-    *taken = taken_after(*taken, r);
-    records_after(t, r)
+    if r.refusal != 0 {
+        return refused(t, r.refusal);
+    }
+    let after = r.state;
+    *holder = after.holder;
+    *taken = r.taken;
+    accepted(t, after)
 }
 
 // The fresh state. A table of fewer than n records is too short.
@@ -253,8 +296,12 @@ fn fresh_table(
         return refused(t, short_refusal(file));
     }
     let r = machine::fresh(file, buffer, shared);
-    *holder = holder_after(*holder, r);
-    records_after(t, r)
+    if r.refusal != 0 {
+        return refused(t, r.refusal);
+    }
+    let after = r.state;
+    *holder = after.holder;
+    accepted(t, after)
 }
 
 // The refusal where the table is too short: the file is judged first.
@@ -266,22 +313,6 @@ fn short_refusal(file: &[u8]) -> u8
         return r;
     }
     21
-}
-
-fn refused(t: Table, number: u8) -> After
-    ensures { λ x. ⌜ x ≡ refusedOf t number ⌝ }
-{
-    let a = t.cores[0];
-    let b = t.cores[1];
-    let c = t.cores[2];
-    let d = t.cores[3];
-    After {
-        refusal: number,
-        a,
-        b,
-        c,
-        d,
-    }
 }
 
 // The number of the core that moves next; 255 where there is none.
@@ -403,21 +434,20 @@ pub fn step_registers(
 fn no_core() -> Core
     ensures { λ r. ⌜ r ≡ noCore ⌝ }
 {
-    let registers = Registers {
-        mode: protocol::BETWEEN,
-        counter: 0,
-        offset: 0,
-        depth: 0,
-        count: 0,
-        exchange: 0,
-        cycles: 0,
-        flags: 0,
-        time: 0,
-    };
+    let spare = [0u8; 3];
     let places = [0u16; 16];
     let offsets = [0u16; 16];
     Core {
-        registers,
+        time: 0,
+        counter: 0,
+        offset: 0,
+        count: 0,
+        exchange: 0,
+        cycles: 0,
+        mode: protocol::BETWEEN,
+        depth: 0,
+        flags: 0,
+        spare,
         places,
         offsets,
     }
@@ -473,14 +503,17 @@ pub fn load(t: &[Core]) -> Table
     table_of(a, b, c, d, t.len())
 }
 
-// Four records are written to the table, as far as it has them.
-pub fn save(t: &mut [Core], a: Core, b: Core, c: Core, d: Core)
-    ensures { λ _. ⌜ now (t .exit) ≡ set (set (set (set (now (t .entry)) 0 a) 1 b) 2 c) 3 d ⌝ }
+// What a call leaves is written to the table: its first four records, as far as it has them. A refused call stores nothing.
+pub fn save(t: &mut [Core], x: After)
+    ensures { λ _. ⌜ now (t .exit) ≡ saved (now (t .entry)) x ⌝ }
 {
-    put_or(t, 0, a);
-    put_or(t, 1, b);
-    put_or(t, 2, c);
-    put_or(t, 3, d);
+    if x.refusal != 0 {
+        return;
+    }
+    put_or(t, 0, x.a);
+    put_or(t, 1, x.b);
+    put_or(t, 2, x.c);
+    put_or(t, 3, x.d);
 }
 
 // ---- the calls on a lent table
@@ -500,7 +533,7 @@ pub extern "C" fn rikzord_step(
 {
     let t = load(table);
     let x = step_table(file, trace, t, holder, buffer, shared, core);
-    save(table, x.a, x.b, x.c, x.d);
+    save(table, x);
     x.refusal
 }
 
@@ -521,7 +554,7 @@ pub extern "C" fn rikzord_run(
 {
     let t = load(table);
     let x = run_table(file, trace, t, holder, buffer, shared, order, list, taken);
-    save(table, x.a, x.b, x.c, x.d);
+    save(table, x);
     x.refusal
 }
 
@@ -538,7 +571,7 @@ pub extern "C" fn rikzord_fresh(
 {
     let t = load(table);
     let x = fresh_table(file, t, holder, buffer, shared);
-    save(table, x.a, x.b, x.c, x.d);
+    save(table, x);
     x.refusal
 }
 

@@ -20,9 +20,12 @@ stack-of-requires c κs = search needs
 stack-of-requires-2 : tie.Need-stack-of-requires-2
 stack-of-requires-2 c κs = search needs
 
+record-of-requires : tie.Need-record-of-requires
+record-of-requires c κs = search needs
+
 returns : tie.Need-returns
 unfolding coreOf
-returns c = rw (c .before .stack-of .ensures, c .stack-of2 .ensures) refl
+returns c = rw (c .record-of .ensures, c .before .before .stack-of .ensures, c .before .stack-of2 .ensures) refl
 
 pub core-of-spec : {M : Type 1} → statement M
 core-of-spec =
@@ -32,4 +35,5 @@ core-of-spec =
     element-copy-out-registers
     stack-of-requires
     stack-of-requires-2
+    record-of-requires
     returns)

@@ -51,7 +51,7 @@ use Rattle.lent.proofs.After as N
 use Rattle.lent.proofs.After.Laws as N′
 use Rattle.lent.proofs.Shared.{LentShared, lends-shared, shared-back}
 use Rattle.lent.specs.Lent.{loaded, tableLeft, saved, lent, freshTable, freshLent}
-use Rattle.lent.proofs.Lending.{R, mach, Load, Save, load-of, Fields, fields}
+use Rattle.lent.proofs.Lending.{R, mach-after, Load, Save, load-of, after-is, refusal-fits}
 use Rattle.lent.proofs.Laws.{fresh-written}
 use Rattle.lent.proofs.load as load′
 use Rattle.lent.proofs.load.Symbol as load-def
@@ -167,18 +167,17 @@ module _ {M : Type 1} (𝓤 : URA M) (H : Heap 𝓤) (A : Atoms 𝓤) (W : Given
   Says t y holder′ buffer′ shared′ = tableLeft y holder′ buffer′ shared′ [] ≡ freshTable file t holder buffer shared
 
   abbrev SaveArg : Type 0
-  SaveArg = RefT (List Core) × (Core × (Core × (Core × (Core × Unit {0}))))
+  SaveArg = RefT (List Core) × (After × Unit {0})
 
   abbrev to-save-args : After → SaveArg
-  to-save-args y = (table-ref, (y .a, (y .b, (y .c, (y .d, tt)))))
+  to-save-args y = (table-ref, (y, tt))
 
   abbrev to-save : After → Save 𝓤 H A at-mem run .Ghost
-  to-save y = (((κ₁, tt), (q₁, tt), tt, to-save-args y, (table-val ∷ [], (mach (y .a) ∷ [], (mach (y .b) ∷ [], (mach (y .c) ∷ [], (mach (y .d) ∷ [], tt)))))), tt)
+  to-save y = (((κ₁, tt), (q₁, tt), tt, to-save-args y, (table-val ∷ [], (mach-after y ∷ [], tt))), tt)
 
-  goes-save : (y : After) → Fields y → ent 𝓤 (sep 𝓤 (sem 𝓤 H A table-own) (A .lft κ₁ q₁)) (Save 𝓤 H A at-mem run .pre (to-save y))
-  goes-save y k =
-      qed W (‵ table-own ∷ ‵ (flft κ₁ q₁) ∷ []) ∵ nothing ! $ owned ! R (Is R) (LL.makes T.the-type T′.the-plain 𝓤 H A) (y .d) _ (k .1 .1 .1 .1) $ fjoin ! $ owned ! R (Is R) (LL.makes T.the-type T′.the-plain 𝓤 H A) (y .c) _ (k .1 .1 .1 .0) $ fjoin ! $
-      owned ! R (Is R) (LL.makes T.the-type T′.the-plain 𝓤 H A) (y .b) _ (k .1 .1 .0) $ fjoin ! $ owned ! R (Is R) (LL.makes T.the-type T′.the-plain 𝓤 H A) (y .a) _ (k .1 .0) $ fjoin ! $ move ! (1 ∷ 0 ∷ []) $ fjoin ! $
+  goes-save : (y : After) → Is N.the-row y (mach-after y ∷ []) → ent 𝓤 (sep 𝓤 (sem 𝓤 H A table-own) (A .lft κ₁ q₁)) (Save 𝓤 H A at-mem run .pre (to-save y))
+  goes-save y is =
+      qed W (‵ table-own ∷ ‵ (flft κ₁ q₁) ∷ []) ∵ nothing ! $ owned ! N.the-row (Is N.the-row) (LL.makes N.the-type N′.the-plain 𝓤 H A) y _ is $ fjoin ! $ move ! (1 ∷ 0 ∷ []) $ fjoin ! $
       nothing ! $ move ! (2 ∷ 0 ∷ []) $ join ! $ join ! $ frame ! $ done !
 
   module _ (C : Calls 𝓤 H) (Λ : Loops 𝓤 H) (fm : FmC 𝓤 H (W .laws) C) (known-load : Triple 𝓤 (C #lent·load) (Load 𝓤 H A at-mem run)) (known-callee : Triple 𝓤 (C #lent·fresh-table) (Callee 𝓤 H A at-mem run)) (known-save : Triple 𝓤 (C #lent·save) (Save 𝓤 H A at-mem run)) where
@@ -224,18 +223,18 @@ module _ {M : Type 1} (𝓤 : URA M) (H : Heap 𝓤) (A : Atoms 𝓤) (W : Given
         move ! (5 ∷ 6 ∷ []) $
         assigns ! (addr ! (from ! (fld ! refl (hop ! (look-in ! 37 (sub ! 0 refl (whole !))) (stop !))))) (from ! (stop !)) (init ! 9 refl (tt, tt)) $
         assigns ! (agg ! (and-then ! (load ! (from ! (stop !)) (look ! 9 refl)) (and-then ! (load ! (from ! (fld ! refl (stop !))) (look-in ! 37 (sub ! 1 refl (whole !)))) (no-more !)))) (from ! (stop !)) (init ! 7 refl (tt, (tt, (record { fits = room-table .0 }, tt)))) $
-        use2 W (raw (Save 𝓤 H A at-mem run .pre (to-save y))) (goes-save y (fields y w is₂)) $
-        calls-at ! fm (Save 𝓤 H A at-mem run) known-save (to-save y) (and-then ! (load ! (from ! (stop !)) (look ! 6 refl)) (and-then ! (load ! (from ! (fld ! refl (stop !))) (look-in ! 26 (sub ! 1 refl (whole !)))) (and-then ! (load ! (from ! (fld ! refl (stop !))) (look-in ! 26 (sub ! 2 refl (whole !)))) (and-then ! (load ! (from ! (fld ! refl (stop !))) (look-in ! 26 (sub ! 3 refl (whole !)))) (and-then ! (load ! (from ! (fld ! refl (stop !))) (look-in ! 26 (sub ! 4 refl (whole !)))) (no-more !)))))) (λ u.
+        use2 W (raw (Save 𝓤 H A at-mem run .pre (to-save y))) (goes-save y (after-is y w is₂)) $
+        calls-at ! fm (Save 𝓤 H A at-mem run) known-save (to-save y) (and-then ! (load ! (from ! (stop !)) (look ! 6 refl)) (and-then ! (load ! (from ! (stop !)) (look ! 26 refl)) (no-more !))) (λ u.
         use1 W (later (some (λ (z : Unit {0}). ((‵ (flft κ₁ q₁) ⊛ ‵ ftrue) ⊛ ‵ (Nothing .own z (u ∷ []))) ⊛ raw (ensured 𝓤 H A save.ended (save.clauses 𝓤 H A at-mem run) (κ₁, tt) (to-save-args y) tt z)))) (id⊢ 𝓤 _) $ await ! tt $ pick ! (λ z.
-        split ! $ move ! (1 ∷ []) $ use1 W (some (λ (zs′ : List Core × (Unit {0} × (Unit {0} × (Unit {0} × (Unit {0} × Unit {0}))))). ‵ (lasts save.ended (κ₁, tt) (to-save-args y) zs′) ⊛ raw (fact 𝓤 (zs′ .0 ≡ saved table y)))) (id⊢ 𝓤 _) $ pick ! (λ zs′.
+        split ! $ move ! (1 ∷ []) $ use1 W (some (λ (zs′ : List Core × (Unit {0} × Unit {0})). ‵ (lasts save.ended (κ₁, tt) (to-save-args y) zs′) ⊛ raw (fact 𝓤 (zs′ .0 ≡ saved table y)))) (id⊢ 𝓤 _) $ pick ! (λ zs′.
         split ! $ move ! (1 ∷ []) $ heard ! (zs′ .0 ≡ saved table y) (λ e₃. fsplit ! $ fsplit ! $ move ! (1 ∷ []) $ feqL ! (λ l-table. move ! (1 ∷ []) $ drop ! $ move ! (1 ∷ []) $ split ! $ move ! (1 ∷ []) $ feqL ! (λ eu.
         land ! (from ! (stop !)) (init ! 11 refl (subst (λ (v′ : Val). Holds (hasTy tyUnit v′) × WT v′) (sym (ap only eu)) (tt, tt))) $
-        assigns ! (of-opd ! (load ! (from ! (fld ! refl (stop !))) (look-in ! 27 (sub ! 0 refl (whole !))))) (from ! (stop !)) (init ! 41 refl (tt, record { fits = fields y w is₂ .0 })) $
+        assigns ! (of-opd ! (load ! (from ! (fld ! refl (stop !))) (look-in ! 27 (sub ! 0 refl (whole !))))) (from ! (stop !)) (init ! 41 refl (tt, record { fits = refusal-fits y w is₂ })) $
         -- [table's token; the last table; the tokens of what was passed on; the last shared; the last buffer; the last holder; what file owns; _17; …; _16; …; down to _0]
         returns ! (look ! 41 refl) $ forget ! 7 refl $ forget ! 9 refl $ forget ! 11 refl $ forget ! 13 refl $ forget ! 15 refl $ forget ! 17 refl $ forget ! 19 refl $ forget ! 21 refl $ forget ! 23 refl $ forget ! 25 refl $ forget ! 27 refl $ forget ! 29 refl $ forget ! 31 refl $ forget ! 33 refl $ forget ! 35 refl $ forget ! 37 refl $ forget ! 39 refl $ forget ! 41 refl $
         move ! (41 ∷ 42 ∷ []) $ free1 ! $ move ! (39 ∷ 40 ∷ []) $ free1 ! $ move ! (37 ∷ 38 ∷ []) $ free1 ! $ move ! (35 ∷ 36 ∷ []) $ free1 ! $ move ! (33 ∷ 34 ∷ []) $ free1 ! $ move ! (31 ∷ 32 ∷ []) $ free1 ! $ move ! (29 ∷ 30 ∷ []) $ free1 ! $ move ! (27 ∷ 28 ∷ []) $ free1 ! $ move ! (25 ∷ 26 ∷ []) $ free1 ! $ move ! (23 ∷ 24 ∷ []) $ free1 ! $ move ! (21 ∷ 22 ∷ []) $ free1 ! $ move ! (19 ∷ 20 ∷ []) $ free1 ! $ move ! (17 ∷ 18 ∷ []) $ free1 ! $ move ! (15 ∷ 16 ∷ []) $ free1 ! $ move ! (13 ∷ 14 ∷ []) $ free1 ! $ move ! (11 ∷ 12 ∷ []) $ free1 ! $ move ! (9 ∷ 10 ∷ []) $ free1 ! $ move ! (7 ∷ 8 ∷ []) $ free1 ! $ free0 ! $
         move ! (2 ∷ []) $ split ! $ move ! (1 ∷ []) $ split ! $ move ! (1 ∷ []) $ split ! $ move ! (1 ∷ []) $ split ! $ move ! (5 ∷ []) $ split ! $ move ! (1 ∷ []) $ drop ! $ move ! (1 ∷ 2 ∷ []) $ join ! $ move ! (2 ∷ 0 ∷ []) $ join ! $ move ! (2 ∷ 0 ∷ []) $ join ! $ move ! (1 ∷ 0 ∷ []) $ join ! $ move ! (1 ∷ 0 ∷ []) $ join ! $
-        keep ! (0 ∷ 5 ∷ 1 ∷ 4 ∷ 3 ∷ 2 ∷ []) $ by ! (exits y (zs′ .0) (zs .1 .1 .0) (zs .1 .1 .1 .0) (zs .1 .1 .1 .1 .0) (fresh-written file table holder buffer shared r y (zs′ .0) (zs .1 .1 .0) (zs .1 .1 .1 .0) (zs .1 .1 .1 .1 .0) e₁ e₂ e₃) l-table l-buffer l-shared (fields y w is₂ .0)))))))))))))))))))))))))))))))))))))))
+        keep ! (0 ∷ 5 ∷ 1 ∷ 4 ∷ 3 ∷ 2 ∷ []) $ by ! (exits y (zs′ .0) (zs .1 .1 .0) (zs .1 .1 .1 .0) (zs .1 .1 .1 .1 .0) (fresh-written file table holder buffer shared r y (zs′ .0) (zs .1 .1 .0) (zs .1 .1 .1 .0) (zs .1 .1 .1 .1 .0) e₁ e₂ e₃) l-table l-buffer l-shared (refusal-fits y w is₂)))))))))))))))))))))))))))))))))))))))
 
 module _ {M : Type 1} (𝓤 : URA M) (H : Heap 𝓤) (A : Atoms 𝓤) (W : Given 𝓤 H A) (at-mem : Memory → SProp 𝓤) (run : Routine → Fun 𝓤) where
   walks : (C : Calls 𝓤 H) (Λ : Loops 𝓤 H) → FmC 𝓤 H (W .laws) C → Triple 𝓤 (C #lent·load) (Load 𝓤 H A at-mem run) → Triple 𝓤 (C #lent·fresh-table) (Callee 𝓤 H A at-mem run) → Triple 𝓤 (C #lent·save) (Save 𝓤 H A at-mem run)

@@ -51,7 +51,7 @@ use Rattle.lent.proofs.After as N
 use Rattle.lent.proofs.After.Laws as N′
 use Rattle.lent.proofs.Shared.{LentShared, lends-shared, shared-back}
 use Rattle.lent.specs.Lent.{loaded, tableLeft, saved, lent, stepTable, stepLent}
-use Rattle.lent.proofs.Lending.{R, mach, Load, Save, load-of, Fields, fields}
+use Rattle.lent.proofs.Lending.{R, mach-after, Load, Save, load-of, after-is, refusal-fits}
 use Rattle.lent.proofs.Laws.{step-written}
 use Rattle.lent.proofs.load as load′
 use Rattle.lent.proofs.load.Symbol as load-def
@@ -176,18 +176,17 @@ module _ {M : Type 1} (𝓤 : URA M) (H : Heap 𝓤) (A : Atoms 𝓤) (W : Given
   Says t y holder′ buffer′ shared′ = tableLeft y holder′ buffer′ shared′ [] ≡ stepTable file trace t holder buffer shared core
 
   abbrev SaveArg : Type 0
-  SaveArg = RefT (List Core) × (Core × (Core × (Core × (Core × Unit {0}))))
+  SaveArg = RefT (List Core) × (After × Unit {0})
 
   abbrev to-save-args : After → SaveArg
-  to-save-args y = (table-ref, (y .a, (y .b, (y .c, (y .d, tt)))))
+  to-save-args y = (table-ref, (y, tt))
 
   abbrev to-save : After → Save 𝓤 H A at-mem run .Ghost
-  to-save y = (((κ₂, tt), (q₂, tt), tt, to-save-args y, (table-val ∷ [], (mach (y .a) ∷ [], (mach (y .b) ∷ [], (mach (y .c) ∷ [], (mach (y .d) ∷ [], tt)))))), tt)
+  to-save y = (((κ₂, tt), (q₂, tt), tt, to-save-args y, (table-val ∷ [], (mach-after y ∷ [], tt))), tt)
 
-  goes-save : (y : After) → Fields y → ent 𝓤 (sep 𝓤 (sem 𝓤 H A table-own) (A .lft κ₂ q₂)) (Save 𝓤 H A at-mem run .pre (to-save y))
-  goes-save y k =
-      qed W (‵ table-own ∷ ‵ (flft κ₂ q₂) ∷ []) ∵ nothing ! $ owned ! R (Is R) (LL.makes T.the-type T′.the-plain 𝓤 H A) (y .d) _ (k .1 .1 .1 .1) $ fjoin ! $ owned ! R (Is R) (LL.makes T.the-type T′.the-plain 𝓤 H A) (y .c) _ (k .1 .1 .1 .0) $ fjoin ! $
-      owned ! R (Is R) (LL.makes T.the-type T′.the-plain 𝓤 H A) (y .b) _ (k .1 .1 .0) $ fjoin ! $ owned ! R (Is R) (LL.makes T.the-type T′.the-plain 𝓤 H A) (y .a) _ (k .1 .0) $ fjoin ! $ move ! (1 ∷ 0 ∷ []) $ fjoin ! $
+  goes-save : (y : After) → Is N.the-row y (mach-after y ∷ []) → ent 𝓤 (sep 𝓤 (sem 𝓤 H A table-own) (A .lft κ₂ q₂)) (Save 𝓤 H A at-mem run .pre (to-save y))
+  goes-save y is =
+      qed W (‵ table-own ∷ ‵ (flft κ₂ q₂) ∷ []) ∵ nothing ! $ owned ! N.the-row (Is N.the-row) (LL.makes N.the-type N′.the-plain 𝓤 H A) y _ is $ fjoin ! $ move ! (1 ∷ 0 ∷ []) $ fjoin ! $
       nothing ! $ move ! (2 ∷ 0 ∷ []) $ join ! $ join ! $ frame ! $ done !
 
   module _ (C : Calls 𝓤 H) (Λ : Loops 𝓤 H) (fm : FmC 𝓤 H (W .laws) C) (known-load : Triple 𝓤 (C #lent·load) (Load 𝓤 H A at-mem run)) (known-callee : Triple 𝓤 (C #lent·step-table) (Callee 𝓤 H A at-mem run)) (known-save : Triple 𝓤 (C #lent·save) (Save 𝓤 H A at-mem run)) where
@@ -234,18 +233,18 @@ module _ {M : Type 1} (𝓤 : URA M) (H : Heap 𝓤) (A : Atoms 𝓤) (W : Given
         move ! (6 ∷ 7 ∷ []) $
         assigns ! (addr ! (from ! (fld ! refl (hop ! (look-in ! 40 (sub ! 0 refl (whole !))) (stop !))))) (from ! (stop !)) (init ! 10 refl (tt, tt)) $
         assigns ! (agg ! (and-then ! (load ! (from ! (stop !)) (look ! 10 refl)) (and-then ! (load ! (from ! (fld ! refl (stop !))) (look-in ! 40 (sub ! 1 refl (whole !)))) (no-more !)))) (from ! (stop !)) (init ! 8 refl (tt, (tt, (record { fits = room-table .0 }, tt)))) $
-        use2 W (raw (Save 𝓤 H A at-mem run .pre (to-save y))) (goes-save y (fields y w is₂)) $
-        calls-at ! fm (Save 𝓤 H A at-mem run) known-save (to-save y) (and-then ! (load ! (from ! (stop !)) (look ! 7 refl)) (and-then ! (load ! (from ! (fld ! refl (stop !))) (look-in ! 27 (sub ! 1 refl (whole !)))) (and-then ! (load ! (from ! (fld ! refl (stop !))) (look-in ! 27 (sub ! 2 refl (whole !)))) (and-then ! (load ! (from ! (fld ! refl (stop !))) (look-in ! 27 (sub ! 3 refl (whole !)))) (and-then ! (load ! (from ! (fld ! refl (stop !))) (look-in ! 27 (sub ! 4 refl (whole !)))) (no-more !)))))) (λ u.
+        use2 W (raw (Save 𝓤 H A at-mem run .pre (to-save y))) (goes-save y (after-is y w is₂)) $
+        calls-at ! fm (Save 𝓤 H A at-mem run) known-save (to-save y) (and-then ! (load ! (from ! (stop !)) (look ! 7 refl)) (and-then ! (load ! (from ! (stop !)) (look ! 27 refl)) (no-more !))) (λ u.
         use1 W (later (some (λ (z : Unit {0}). ((‵ (flft κ₂ q₂) ⊛ ‵ ftrue) ⊛ ‵ (Nothing .own z (u ∷ []))) ⊛ raw (ensured 𝓤 H A save.ended (save.clauses 𝓤 H A at-mem run) (κ₂, tt) (to-save-args y) tt z)))) (id⊢ 𝓤 _) $ await ! tt $ pick ! (λ z.
-        split ! $ move ! (1 ∷ []) $ use1 W (some (λ (zs′ : List Core × (Unit {0} × (Unit {0} × (Unit {0} × (Unit {0} × Unit {0}))))). ‵ (lasts save.ended (κ₂, tt) (to-save-args y) zs′) ⊛ raw (fact 𝓤 (zs′ .0 ≡ saved table y)))) (id⊢ 𝓤 _) $ pick ! (λ zs′.
+        split ! $ move ! (1 ∷ []) $ use1 W (some (λ (zs′ : List Core × (Unit {0} × Unit {0})). ‵ (lasts save.ended (κ₂, tt) (to-save-args y) zs′) ⊛ raw (fact 𝓤 (zs′ .0 ≡ saved table y)))) (id⊢ 𝓤 _) $ pick ! (λ zs′.
         split ! $ move ! (1 ∷ []) $ heard ! (zs′ .0 ≡ saved table y) (λ e₃. fsplit ! $ fsplit ! $ move ! (1 ∷ []) $ feqL ! (λ l-table. move ! (1 ∷ []) $ drop ! $ move ! (1 ∷ []) $ split ! $ move ! (1 ∷ []) $ feqL ! (λ eu.
         land ! (from ! (stop !)) (init ! 12 refl (subst (λ (v′ : Val). Holds (hasTy tyUnit v′) × WT v′) (sym (ap only eu)) (tt, tt))) $
-        assigns ! (of-opd ! (load ! (from ! (fld ! refl (stop !))) (look-in ! 28 (sub ! 0 refl (whole !))))) (from ! (stop !)) (init ! 46 refl (tt, record { fits = fields y w is₂ .0 })) $
+        assigns ! (of-opd ! (load ! (from ! (fld ! refl (stop !))) (look-in ! 28 (sub ! 0 refl (whole !))))) (from ! (stop !)) (init ! 46 refl (tt, record { fits = refusal-fits y w is₂ })) $
         -- [table's token; the last table; the tokens of what was passed on; the last shared; the last buffer; the last holder; what trace owns; what file owns; _19; …; _18; …; down to _0]
         returns ! (look ! 46 refl) $ forget ! 8 refl $ forget ! 10 refl $ forget ! 12 refl $ forget ! 14 refl $ forget ! 16 refl $ forget ! 18 refl $ forget ! 20 refl $ forget ! 22 refl $ forget ! 24 refl $ forget ! 26 refl $ forget ! 28 refl $ forget ! 30 refl $ forget ! 32 refl $ forget ! 34 refl $ forget ! 36 refl $ forget ! 38 refl $ forget ! 40 refl $ forget ! 42 refl $ forget ! 44 refl $ forget ! 46 refl $
         move ! (46 ∷ 47 ∷ []) $ free1 ! $ move ! (44 ∷ 45 ∷ []) $ free1 ! $ move ! (42 ∷ 43 ∷ []) $ free1 ! $ move ! (40 ∷ 41 ∷ []) $ free1 ! $ move ! (38 ∷ 39 ∷ []) $ free1 ! $ move ! (36 ∷ 37 ∷ []) $ free1 ! $ move ! (34 ∷ 35 ∷ []) $ free1 ! $ move ! (32 ∷ 33 ∷ []) $ free1 ! $ move ! (30 ∷ 31 ∷ []) $ free1 ! $ move ! (28 ∷ 29 ∷ []) $ free1 ! $ move ! (26 ∷ 27 ∷ []) $ free1 ! $ move ! (24 ∷ 25 ∷ []) $ free1 ! $ move ! (22 ∷ 23 ∷ []) $ free1 ! $ move ! (20 ∷ 21 ∷ []) $ free1 ! $ move ! (18 ∷ 19 ∷ []) $ free1 ! $ move ! (16 ∷ 17 ∷ []) $ free1 ! $ move ! (14 ∷ 15 ∷ []) $ free1 ! $ move ! (12 ∷ 13 ∷ []) $ free1 ! $ move ! (10 ∷ 11 ∷ []) $ free1 ! $ move ! (8 ∷ 9 ∷ []) $ free1 ! $ free0 ! $
         move ! (2 ∷ []) $ split ! $ move ! (1 ∷ []) $ split ! $ move ! (1 ∷ []) $ split ! $ move ! (1 ∷ []) $ split ! $ move ! (1 ∷ []) $ split ! $ move ! (6 ∷ []) $ split ! $ move ! (1 ∷ []) $ drop ! $ move ! (1 ∷ 2 ∷ []) $ join ! $ move ! (2 ∷ 0 ∷ []) $ join ! $ move ! (2 ∷ 0 ∷ []) $ join ! $ move ! (1 ∷ 0 ∷ []) $ join ! $ move ! (1 ∷ 0 ∷ []) $ join ! $ move ! (1 ∷ 0 ∷ []) $ join ! $
-        keep ! (0 ∷ 6 ∷ 5 ∷ 1 ∷ 4 ∷ 3 ∷ 2 ∷ []) $ by ! (exits y (zs′ .0) (zs .1 .1 .1 .0) (zs .1 .1 .1 .1 .0) (zs .1 .1 .1 .1 .1 .0) (step-written file trace table holder buffer shared core r y (zs′ .0) (zs .1 .1 .1 .0) (zs .1 .1 .1 .1 .0) (zs .1 .1 .1 .1 .1 .0) e₁ e₂ e₃) l-table l-buffer l-shared (fields y w is₂ .0)))))))))))))))))))))))))))))))))))))))))
+        keep ! (0 ∷ 6 ∷ 5 ∷ 1 ∷ 4 ∷ 3 ∷ 2 ∷ []) $ by ! (exits y (zs′ .0) (zs .1 .1 .1 .0) (zs .1 .1 .1 .1 .0) (zs .1 .1 .1 .1 .1 .0) (step-written file trace table holder buffer shared core r y (zs′ .0) (zs .1 .1 .1 .0) (zs .1 .1 .1 .1 .0) (zs .1 .1 .1 .1 .1 .0) e₁ e₂ e₃) l-table l-buffer l-shared (refusal-fits y w is₂)))))))))))))))))))))))))))))))))))))))))
 
 module _ {M : Type 1} (𝓤 : URA M) (H : Heap 𝓤) (A : Atoms 𝓤) (W : Given 𝓤 H A) (at-mem : Memory → SProp 𝓤) (run : Routine → Fun 𝓤) where
   walks : (C : Calls 𝓤 H) (Λ : Loops 𝓤 H) → FmC 𝓤 H (W .laws) C → Triple 𝓤 (C #lent·load) (Load 𝓤 H A at-mem run) → Triple 𝓤 (C #lent·step-table) (Callee 𝓤 H A at-mem run) → Triple 𝓤 (C #lent·save) (Save 𝓤 H A at-mem run)

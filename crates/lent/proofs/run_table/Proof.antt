@@ -1,15 +1,8 @@
--- `lent::run_table` meets its contract: the run by value, on the state that the table holds. Assumes nothing.
+-- `lent::run_table` meets its contract: the run by value, on the state that the table holds; refused, or not. Assumes nothing.
 use borrow.Author.Needs.{needs}
-use Rattle.lent.proofs.Laws.{run-left, run-taken}
+use Rattle.lent.proofs.Laws.{run-stays, run-moves}
 use Rattle.lent.proofs.run_table.Statement.{statement}
 use Rattle.lent.proofs.run_table.Tie as tie
-use Rattle.lent.proofs.run_table.Reads as reads
-use Rattle.lent.proofs.run_table.Lts as lts
-use Rattle.lent.proofs.holder_after.Reads as holder-after-reads
-use Rattle.lent.proofs.records_after.Reads as records-after-reads
-use Rattle.lent.proofs.state_of.Reads as state-of-reads
-use Rattle.lent.proofs.taken_after.Reads as taken-after-reads
-use Rattle.machine.proofs.run.Reads as run-reads
 
 state-of-requires : tie.Need-state-of-requires
 state-of-requires c κs = search needs
@@ -17,14 +10,8 @@ state-of-requires c κs = search needs
 run-requires : tie.Need-run-requires
 run-requires c κs = search needs
 
-holder-after-requires : tie.Need-holder-after-requires
-holder-after-requires c κs = search needs
-
-taken-after-requires : tie.Need-taken-after-requires
-taken-after-requires c κs = search needs
-
-records-after-requires : tie.Need-records-after-requires
-records-after-requires c κs = search needs
+refused-requires : tie.Need-refused-requires
+refused-requires c κs = search needs
 
 same-length : tie.Need-same-length
 same-length c = search needs
@@ -36,7 +23,26 @@ same-length-3 : tie.Need-same-length-3
 same-length-3 c = search needs
 
 returns : tie.Need-returns
-returns c = (run-left _ _ _ _ _ _ _ _ _ _ _ _ _ _ _ (c .before .before .before .before .before .before .before .before .before .before .before .before .before .before .state-of .ensures) (c .before .before .before .before .before .before .before .before .before .before .run .ensures) (c .before .before .before .holder-after .ensures) (c .records-after .ensures), run-taken _ _ _ _ _ _ _ _ _ _ _ _ _ _ _ (c .before .before .before .before .before .before .before .before .before .before .before .before .before .before .state-of .ensures) (c .before .before .before .before .before .before .before .before .before .before .run .ensures) (c .before .taken-after .ensures))
+returns c =
+    let called = c .before .before .before .before .before .before .before .before .before in
+    run-stays _ _ _ _ _ _ _ _ _ _ _ _ _ _ _ (called .before .before .before .before .state-of .ensures) (called .run .ensures) (c .before .if1 .taken) (c .refused .ensures)
+
+accepted-requires : tie.Need-accepted-requires
+accepted-requires c κs = search needs
+
+same-length-4 : tie.Need-same-length-4
+same-length-4 c = search needs
+
+same-length-5 : tie.Need-same-length-5
+same-length-5 c = search needs
+
+same-length-6 : tie.Need-same-length-6
+same-length-6 c = search needs
+
+returns-2 : tie.Need-returns-2
+returns-2 c =
+    let called = c .before .before .before .before .before .before .before .before .before .before in
+    run-moves _ _ _ _ _ _ _ _ _ _ _ _ _ _ _ (called .before .before .before .before .state-of .ensures) (called .run .ensures) (c .before .before .if1 .left) (c .accepted .ensures)
 
 pub run-table-spec : {M : Type 1} → statement M
 run-table-spec =
@@ -44,10 +50,13 @@ run-table-spec =
     (tie.spec
     state-of-requires
     run-requires
-    holder-after-requires
-    taken-after-requires
-    records-after-requires
+    refused-requires
     same-length
     same-length-2
     same-length-3
-    returns)
+    returns
+    accepted-requires
+    same-length-4
+    same-length-5
+    same-length-6
+    returns-2)

@@ -21,6 +21,18 @@ element-copy-out-c c = search needs
 element-copy-out-d : tie.Need-element-copy-out-d
 element-copy-out-d c = search needs
 
+registers-in-requires : tie.Need-registers-in-requires
+registers-in-requires c κs = search needs
+
+registers-in-requires-2 : tie.Need-registers-in-requires-2
+registers-in-requires-2 c κs = search needs
+
+registers-in-requires-3 : tie.Need-registers-in-requires-3
+registers-in-requires-3 c κs = search needs
+
+registers-in-requires-4 : tie.Need-registers-in-requires-4
+registers-in-requires-4 c κs = search needs
+
 places-of-requires : tie.Need-places-of-requires
 places-of-requires c κs = search needs
 
@@ -29,7 +41,9 @@ offsets-of-requires c κs = search needs
 
 returns : tie.Need-returns
 unfolding held
-returns c = rw (c .before .places-of .ensures, c .offsets-of .ensures) refl
+returns c =
+    let four = c .before .before in
+    rw (four .before .before .before .registers-in .ensures, four .before .before .registers-in2 .ensures, four .before .registers-in3 .ensures, four .registers-in4 .ensures, c .before .places-of .ensures, c .offsets-of .ensures) refl
 
 pub state-of-spec : {M : Type 1} → statement M
 state-of-spec =
@@ -39,6 +53,10 @@ state-of-spec =
     element-copy-out-b
     element-copy-out-c
     element-copy-out-d
+    registers-in-requires
+    registers-in-requires-2
+    registers-in-requires-3
+    registers-in-requires-4
     places-of-requires
     offsets-of-requires
     returns)

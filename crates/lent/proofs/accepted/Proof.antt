@@ -1,10 +1,10 @@
--- `lent::records_after` meets its contract: record by record. Assumes nothing.
+-- `lent::accepted` meets its contract: record by record. Assumes nothing.
 use borrow.Author.Needs.{needs}
 use mathlib.Core.Path.{refl}
-use Rattle.lent.proofs.records_after.Statement.{statement}
-use Rattle.lent.proofs.records_after.Tie as tie
-use Rattle.lent.proofs.records_after.Reads as reads
-use Rattle.lent.proofs.records_after.Lts as lts
+use Rattle.lent.proofs.accepted.Statement.{statement}
+use Rattle.lent.proofs.accepted.Tie as tie
+use Rattle.lent.proofs.accepted.Reads as reads
+use Rattle.lent.proofs.accepted.Lts as lts
 use Rattle.lent.proofs.record_after.Reads as record-after-reads
 
 record-after-requires : tie.Need-record-after-requires
@@ -22,8 +22,8 @@ record-after-requires-4 c κs = search needs
 returns : tie.Need-returns
 returns c = rw (c .before .before .before .record-after .ensures, c .before .before .record-after2 .ensures, c .before .record-after3 .ensures, c .record-after4 .ensures) refl
 
-pub records-after-spec : {M : Type 1} → statement M
-records-after-spec =
+pub accepted-spec : {M : Type 1} → statement M
+accepted-spec =
     tie.close
     (tie.spec
     record-after-requires
