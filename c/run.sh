@@ -4,7 +4,7 @@ set -e
 cd "$(dirname "$0")/.."
 rt staticlib lent
 mkdir -p target/c
-gcc -std=c99 -Wall -Wextra -Werror -Iinclude -o target/c/listing c/listing.c target/staticlib/liblent.a
+gcc -std=c11 -Wall -Wextra -Werror -Iinclude -o target/c/listing c/listing.c target/staticlib/liblent.a
 printf 'core mode cycles flags count\n0 0 1 0 1\norder 0r 0w\n' > target/c/expected
 target/c/listing | diff - target/c/expected
 echo "c: the listing is document 01's"

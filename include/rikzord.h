@@ -1,35 +1,42 @@
 /* The C interface of Rikzord: a multi-core task machine whose every function is proved to meet its contract.
  *
- * Link with the archive that `rt staticlib lent` writes. Each slice is a pointer to its first element and the count of its elements. The lent
- * memories of one call must not overlap. A pointer of an empty slice must not be null, but is never read.
+ * Link with the archive that `rt staticlib lent` writes. A slice is a pointer to its first element and the count of its elements.
+ *
+ * What a caller owes, and no proof can check:
+ * - No pointer is null, that of an empty slice included; it is never read there, but must not be null. Each is aligned for its type.
+ * - Behind each pointer lie as many elements as its count says, of memory that the caller may read and, where the parameter isn't const, write.
+ * - What one call may write overlaps nothing else that is lent to it. Slices that are only read may overlap each other.
+ * - Nothing else reads or writes that memory during the call.
  *
  * Each call answers document 01's refusal number, 0 for none: 1 to 7 for the task set file, 21 lent memory, 22 the trace, 23 the state, 20 a core
- * number; they are tried in this order. A refused call changes no lent byte. The definitions are in crates/lent/specs/Lent.antt. */
+ * number; they are tried in this order. A refused call stores nothing. Any bytes may be lent: nothing is required of their values. The
+ * definitions are in crates/lent/specs/Lent.antt. */
 #ifndef RIKZORD_H
 #define RIKZORD_H
 
 #include <stddef.h>
 #include <stdint.h>
 
-/* A core's registers. */
-struct rikzord_registers {
-    uint8_t mode;      /* 0 between cycles, 1 reading, 2 executing, 3 waiting to write, 4 writing, 5 stopped */
+/* A record of the core table: a core's registers and call stack. Every byte of it belongs to a field. Entries of the stack from the depth on
+ * are 0. Spare bytes are never judged; a call that is not refused leaves zeros in those of each record that it writes. */
+struct rikzord_core {
+    uint32_t time;     /* of the cycle's input record */
     uint16_t counter;  /* program counter */
     uint16_t offset;   /* data offset */
-    uint8_t depth;     /* open calls */
     uint16_t count;    /* instruction count of the cycle */
     uint16_t exchange; /* exchange number: bytes copied */
     uint16_t cycles;
+    uint8_t mode;      /* 0 between cycles, 1 reading, 2 executing, 3 waiting to write, 4 writing, 5 stopped */
+    uint8_t depth;     /* open calls */
     uint8_t flags;
-    uint32_t time;     /* of the cycle's input record */
-};
-
-/* A record of the core table: a core's registers and call stack. Entries from the depth on are 0. */
-struct rikzord_core {
-    struct rikzord_registers registers;
+    uint8_t spare[3];
     uint16_t places[16];  /* return places */
     uint16_t offsets[16]; /* the data offsets that go with them */
 };
+
+#if defined(__STDC_VERSION__) && __STDC_VERSION__ >= 201112L
+_Static_assert(sizeof(struct rikzord_core) == 84, "a record of the core table has 84 bytes, and no padding");
+#endif
 
 /* The semaphore's holder stands beside the table: 0 where it is free, k + 1 where core k holds it. */
 
@@ -41,7 +48,7 @@ uint8_t rikzord_check_file(const uint8_t *file, size_t file_length);
 uint8_t rikzord_fresh(const uint8_t *file, size_t file_length, struct rikzord_core *table, size_t table_length, uint8_t *holder,
                       uint8_t *buffer, size_t buffer_length, uint8_t *shared, size_t shared_length);
 
-/* One step of a core. The table has n records here and below (23). */
+/* One step of a core. The table has n records here and below (23); all n are written. */
 uint8_t rikzord_step(const uint8_t *file, size_t file_length, const uint8_t *trace, size_t trace_length, struct rikzord_core *table,
                      size_t table_length, uint8_t *holder, uint8_t *buffer, size_t buffer_length, uint8_t *shared, size_t shared_length,
                      uint8_t core);

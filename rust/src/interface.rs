@@ -164,6 +164,7 @@ impl<M: Machine> Machine for Stepwise<M> {
             return refusal::NO_SUCH_CORE;
         }
         *taken = 0;
+        reference::clear_spare(table);
         for &core in order {
             let mut taking = None;
             let number = self.0.step(file, trace, table, holder, buffer, shared, core, &mut taking);
@@ -185,6 +186,9 @@ impl<M: Machine> Machine for Stepwise<M> {
         let size = (0..cores).map(|k| u16::from_le_bytes([file[5 + 6 * k], file[6 + 6 * k]]) as usize).sum();
         // The memories play no part: every step that changes memory changes a register too.
         let (buffer, shared) = (vec![0; size], vec![0; reference::SHARED_SIZE]);
+        // Nor do spare bytes, which an accepted step clears.
+        let mut table = table.to_vec();
+        reference::clear_spare(&mut table);
         for on in 1..=cores {
             let (mut table_after, mut holder_after) = (table.to_vec(), holder);
             let tried = if (core as usize) < cores { (core as usize + on) % cores } else { core as usize };

@@ -297,6 +297,7 @@ fn fit_state(random: &mut Random, draft: &Draft, counts: &[u16]) -> (Vec<Core>, 
         r.count = draft.cores[k].limit.min(random.below(64) as u16);
         r.flags = if random.once_in(2) { flag::COLD_START } else { random.byte() & !flag::UNUSED };
         r.time = random.draw() as u32;
+        r.spare = [random.byte(), 0, random.byte()];
         if matches!(r.mode, mode::READING | mode::WRITING) {
             let most = exchange_bytes(draft, k, r.mode == mode::WRITING) as usize;
             r.exchange = if random.once_in(4) { most } else { random.between(0, most) } as u16;
@@ -398,6 +399,7 @@ pub fn command(random: &mut Random) -> Case {
     core.registers.depth = random.pick(&[0, 0, 15, 16]);
     core.registers.flags = random.byte() & !flag::UNUSED;
     core.registers.time = random.draw() as u32;
+    core.registers.spare = [0, random.byte(), 0];
     let mut buffer = memory(random, SIZE);
     let program = if random.once_in(5) {
         any_instruction(random, Program::new(), SIZE, &mut Vec::new())

@@ -170,24 +170,29 @@ pub fn takes_type(code: u8, kind: u8) -> bool {
 
 // ---- the state that a caller lends
 
+/// Bytes of a record that hold nothing. They are never judged; an accepted call that changes the table leaves zeros there.
+pub const SPARE: usize = 3;
+
+/// The fields stand so that no byte lies between them.
 #[repr(C)]
 #[derive(Clone, Copy, PartialEq, Eq, Debug, Default)]
 pub struct Registers {
-    pub mode: u8,
+    /// The time of the input record, as taken.
+    pub time: u32,
     /// The program counter.
     pub counter: u16,
     /// The data offset.
     pub offset: u16,
-    /// The number of calls under way.
-    pub depth: u8,
     /// The instruction count of the cycle.
     pub count: u16,
     /// The exchange number: bytes copied since the taking.
     pub exchange: u16,
     pub cycles: u16,
+    pub mode: u8,
+    /// The number of calls under way.
+    pub depth: u8,
     pub flags: u8,
-    /// The time of the input record, as taken.
-    pub time: u32,
+    pub spare: [u8; SPARE],
 }
 
 /// A record of the core table: registers and call stack. Stack entries from the depth on are 0.
@@ -200,6 +205,9 @@ pub struct Core {
     /// Data offsets to return to.
     pub offsets: [u16; CALL_DEPTH],
 }
+
+// Every byte of a record belongs to a field.
+const _: () = assert!(size_of::<Core>() == 4 + 5 * 2 + 3 + SPARE + 2 * CALL_DEPTH * 2);
 
 impl Core {
     pub fn fresh() -> Core {
@@ -995,6 +1003,7 @@ pub fn run(
         let inputs = load_trace(&set, trace)?;
         judge_state(&set, &inputs, table, *holder)?;
         demand(order.iter().all(|&core| (core as usize) < set.count), refusal::NO_SUCH_CORE)?;
+        clear_spare(table);
         let mut running = start(&set, &inputs, table, *holder, buffer, shared);
         let mut count = 0;
         for &core in order {
@@ -1007,6 +1016,13 @@ pub fn run(
         *taken = count;
         Ok(())
     }))
+}
+
+/// Zeros in the spare bytes of every record.
+pub fn clear_spare(table: &mut [Core]) {
+    for core in table {
+        core.registers.spare = [0; SPARE];
+    }
 }
 
 /// What was judged, made ready to step: the buffer cut into the cores' data, the cursor set where the exchange under way stands.

@@ -39,7 +39,10 @@ impl Plant {
         let mut plant = Plant {
             file: draft.bytes(),
             trace,
-            table: vec![Core { places: [9; 16], ..Core::default() }; draft.cores.len()],
+            table: vec![
+                Core { registers: Registers { spare: [9; SPARE], ..Registers::default() }, places: [9; 16], ..Core::default() };
+                draft.cores.len()
+            ],
             holder: 3,
             buffer: vec![7; draft.data_total()],
             shared: vec![7; SHARED_SIZE],
@@ -566,14 +569,35 @@ fn limit() {
 
 // ---- states and lent memory
 
-/// The layout that the C interface shares.
+/// The layout that the C interface shares, with no byte between two fields.
 #[test]
 fn layout_of_a_core() {
     use std::mem::{offset_of, size_of};
     assert_eq!((size_of::<Registers>(), size_of::<Core>(), offset_of!(Core, places), offset_of!(Core, offsets)), (20, 84, 20, 52));
-    let first = [offset_of!(Registers, mode), offset_of!(Registers, counter), offset_of!(Registers, offset), offset_of!(Registers, depth)];
-    let last = [offset_of!(Registers, exchange), offset_of!(Registers, cycles), offset_of!(Registers, flags), offset_of!(Registers, time)];
-    assert_eq!((first, offset_of!(Registers, count), last), ([0, 2, 4, 6], 8, [10, 12, 14, 16]));
+    let wide = [offset_of!(Registers, time), offset_of!(Registers, counter), offset_of!(Registers, offset), offset_of!(Registers, count)];
+    let middle =
+        [offset_of!(Registers, exchange), offset_of!(Registers, cycles), offset_of!(Registers, mode), offset_of!(Registers, depth)];
+    assert_eq!((wide, middle), ([0, 4, 6, 8], [10, 12, 14, 15]));
+    assert_eq!((offset_of!(Registers, flags), offset_of!(Registers, spare)), (16, 17));
+}
+
+/// Spare bytes: not judged, kept by a refused call, cleared by a step and by a run of no steps.
+#[test]
+fn spare_bytes() {
+    let draft = two_cores(Vec::new());
+    for machine in machines() {
+        let machine = &*machine;
+        let spared = |order: &[u8]| {
+            let mut plant = Plant::fresh(machine, &draft, 1);
+            for core in &mut plant.table {
+                core.registers.spare = [1, 2, 3];
+            }
+            (plant.run(machine, order), plant.table[0].registers.spare, plant.table[1].registers.spare)
+        };
+        assert_eq!(spared(&[2]), (20, [1, 2, 3], [1, 2, 3]));
+        assert_eq!(spared(&[]), (0, [0; SPARE], [0; SPARE]));
+        assert_eq!(spared(&[0]), (0, [0; SPARE], [0; SPARE]));
+    }
 }
 
 #[test]
