@@ -1,5 +1,5 @@
 -- Laws of the table as a state and back, and of what a call leaves of a table. In order: whole stretches; what a call by value left; calls on a
--- table copied out; calls on a lent table; the next core. Not here: that a refused call leaves all (Unchanged); a table's records back (Back).
+-- table copied out; calls on a lent table. Not here: the next core (Scanning); that a refused call leaves all (Unchanged); a table's records back (Back).
 -- Assumes nothing.
 use mathlib.Core.Path.{_≡_, refl, sym, ap, _∙_}
 use mathlib.Core.Logic.{_≢_}
@@ -21,12 +21,11 @@ use Rattle.taskset.specs.Judge.{judge}
 use Rattle.states.specs.declared.State.{State}
 use Rattle.runner.specs.declared.Ran.{Ran}
 use Rattle.runner.specs.Runs.{Left, left}
-use Rattle.machine.specs.declared.Next.{Next}
-use Rattle.machine.specs.Calls.{answerOf, tableOf, freshCall, runCall, stepCall, nextCall}
+use Rattle.machine.specs.Calls.{answerOf, tableOf, freshCall, runCall, stepCall}
 use Rattle.lent.specs.declared.Core.{Core}
 use Rattle.lent.specs.declared.Table.{Table}
 use Rattle.lent.specs.declared.After.{After}
-use Rattle.lent.specs.Lent.{loaded, held, acceptedOf, refusedOf, afterOf, holderAfter, takenAfter, tableLeft, onTable, saved, lent, written, stepTable, stepLent, runTable, runLent, takenTable, takenLent, freshTable, freshLent, numberOf, answered, foundAfter, nextTable, nextLent}
+use Rattle.lent.specs.Lent.{loaded, held, acceptedOf, refusedOf, afterOf, holderAfter, takenAfter, tableLeft, onTable, saved, lent, written, stepTable, stepLent, runTable, runLent, takenTable, takenLent, freshTable, freshLent}
 
 -- ---- whole stretches
 
@@ -143,26 +142,3 @@ pub fresh-written : (f : List ℕ) (ys : List Core) (holder : ℕ) (d sh : List 
 unfolding freshLent
 fresh-written f ys holder d sh x y ys′ holder′ d′ sh′ e₁ e₂ e₃ =
     ap (λ (l : List Core). lent (y .refusal) l holder′ d′ sh′ []) e₃ ∙ ap (written ys) (e₂ ∙ ap (λ (z : Table). freshTable f z holder d sh) e₁)
-
--- ---- the next core to move
-
-pub next-refused : (f t : List ℕ) (x : Table) (holder given found : ℕ) (s : State) (n : Next) (r : ℕ)
-    → s ≡ held x holder → n ≡ nextCall f t s given → r ≡ n .refusal → n .refusal ≢ 0 → answered r found ≡ nextTable f t x holder given found
-unfolding nextTable
-next-refused f t x holder given found s n r es en er ne =
-    let e : n ≡ nextCall f t (held x holder) given = en ∙ ap (λ (z : State). nextCall f t z given) es in
-    let same : found ≡ foundAfter found n = sym (pick-false _ _ _ (ne-eqb (n .refusal) 0 ne)) in
-    (λ i. answered (er i) (same i)) ∙ ap (λ (z : Next). answered (z .refusal) (foundAfter found z)) e
-
-pub next-found : (f t : List ℕ) (x : Table) (holder given found : ℕ) (s : State) (n : Next) (found′ : ℕ)
-    → s ≡ held x holder → n ≡ nextCall f t s given → n .refusal ≡ 0 → found′ ≡ numberOf (n .moving) → answered 0 found′ ≡ nextTable f t x holder given found
-unfolding nextTable
-next-found f t x holder given found s n found′ es en zero′ ef =
-    let e : n ≡ nextCall f t (held x holder) given = en ∙ ap (λ (z : State). nextCall f t z given) es in
-    let new : found′ ≡ foundAfter found n = ef ∙ sym (pick-true _ _ _ (eq-eqb (n .refusal) 0 zero′)) in
-    (λ i. answered (sym zero′ i) (new i)) ∙ ap (λ (z : Next). answered (z .refusal) (foundAfter found z)) e
-
-pub next-written : (f t : List ℕ) (ys : List Core) (holder given found found′ : ℕ) (x : Table) (r : ℕ)
-    → x ≡ loaded ys → answered r found′ ≡ nextTable f t x holder given found → answered r found′ ≡ nextLent f t ys holder given found
-unfolding nextLent
-next-written f t ys holder given found found′ x r e₁ e₂ = e₂ ∙ ap (λ (z : Table). nextTable f t z holder given found) e₁

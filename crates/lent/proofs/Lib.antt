@@ -3,4 +3,7 @@ pub mod Shared
 pub mod Laws
 pub mod Unchanged
 pub mod Back
+pub mod Scanning
+pub mod Calling
+pub mod Asking
 pub mod Lending

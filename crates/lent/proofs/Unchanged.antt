@@ -18,11 +18,10 @@ use Rattle.protocol.specs.declared.Registers.{Registers}
 use Rattle.states.specs.declared.State.{State}
 use Rattle.states.specs.Machine.{none}
 use Rattle.runner.specs.Runs.{Left, left}
-use Rattle.machine.specs.declared.Next.{Next}
-use Rattle.machine.specs.Calls.{answerOf, tableOf, freshRefusal, freshCall, runRefusal, runCall, stepRefusal, stepCall, nextRefusal, nextCall}
+use Rattle.machine.specs.Calls.{answerOf, tableOf, freshRefusal, freshCall, runRefusal, runCall, stepRefusal, stepCall, nextRefusal}
 use Rattle.lent.specs.declared.Core.{Core}
 use Rattle.lent.specs.declared.After.{After}
-use Rattle.lent.specs.Lent.{counted, loaded, held, refusedOf, onTable, saved, lent, written, stepTable, stepLent, runTable, runLent, takenAfter, takenTable, takenLent, freshTable, freshLent, answered, foundAfter, nextTable, nextLent, withRegisters, registersAfter, stepRegisters}
+use Rattle.lent.specs.Lent.{counted, loaded, held, refusedOf, onTable, saved, lent, written, stepTable, stepLent, runTable, runLent, takenAfter, takenTable, takenLent, freshTable, freshLent, answered, nextLent, withRegisters, registersAfter, stepRegisters}
 use Rattle.lent.proofs.Laws.{on-refused, short-refused}
 
 -- ---- a table after a refused call
@@ -70,10 +69,8 @@ fresh-short-refused f ys holder d sh e =
 
 pub next-core-refused : (f t : List ℕ) (ys : List Core) (holder given found : ℕ) → nextRefusal f t (held (loaded ys) holder) given ≢ 0
     → nextLent f t ys holder given found ≡ answered (nextRefusal f t (held (loaded ys) holder) given) found
-unfolding nextLent nextTable nextCall
-next-core-refused f t ys holder given found ne =
-    ap (λ (n : Next). answered (n .refusal) (foundAfter found n)) (pick-false _ _ _ (ne-eqb _ 0 ne))
-    ∙ ap (answered (nextRefusal f t (held (loaded ys) holder) given)) (pick-false _ _ _ (ne-eqb _ 0 ne))
+unfolding nextLent
+next-core-refused f t ys holder given found ne = pick-false _ _ _ (ne-eqb _ 0 ne)
 
 -- ---- the registers of one core
 

@@ -1,7 +1,7 @@
 -- The lent forms of the machine's calls: the core table is a lent list of records, and the semaphore's holder stands beside it. Each call is the
 -- one by value (crate machine, specs/Calls) on the state that the table holds; of a call that isn't refused the table's records are written back.
 -- In order: a table as a state, and back; what a call leaves; the calls; the next core to move; the registers of one core.
-use Prim.Native.Nat.{ℕ, _*_}
+use Prim.Native.Nat.{ℕ, zero, suc, _+_, _*_}
 use mathlib.Core.Bool.{Bool}
 use mathlib.Core.List.{List, [], _∷_}
 use lib.ListN.{length, getD, set, replicate}
@@ -13,15 +13,17 @@ use Rattle.records.specs.File.{cores}
 use Rattle.taskset.specs.Judge.{judge}
 use Rattle.states.specs.declared.State.{State}
 use Rattle.states.specs.Machine.{none}
+use Rattle.states.specs.Tasks.{taskAt}
 use Rattle.runner.specs.declared.Ran.{Ran}
 use Rattle.runner.specs.Runs.{Left, left}
 use Rattle.table.specs.declared.Moving.{Moving}
 use Rattle.table.specs.declared.Moving.the-variants.{Core as moving, Nothing}
-use Rattle.machine.specs.declared.Next.{Next}
-use Rattle.machine.specs.Calls.{answerOf, tableOf, freshCall, runCall, stepCall, nextCall}
+use Rattle.table.specs.Table.{canMove, roundFrom, nextMoving}
+use Rattle.machine.specs.Calls.{answerOf, tableOf, freshCall, runCall, stepCall, nextRefusal}
 use Rattle.lent.specs.declared.Core.{Core}
 use Rattle.lent.specs.declared.Table.{Table}
 use Rattle.lent.specs.declared.After.{After}
+use Rattle.lent.specs.declared.Ring.{Ring}
 
 -- ---- a table as a state, and back
 
@@ -203,7 +205,37 @@ freshTable f x holder d sh =
 unfoldable pub freshLent : List ℕ → List Core → ℕ → List ℕ → List ℕ → Lent
 freshLent f ys holder d sh = written ys (freshTable f (loaded ys) holder d sh)
 
--- ---- the next core to move
+-- ---- the next core to move: the lent records are scanned round the ring, each by the by-value test (crate table, specs/Table)
+
+-- the input records of the four places
+abbrev pub countsOf : List ℕ → List ℕ → List ℕ
+countsOf f t = taskAt f t 0 .count ∷ taskAt f t 1 .count ∷ taskAt f t 2 .count ∷ taskAt f t 3 .count ∷ []
+
+abbrev pub noRing : ℕ → ℕ → ℕ → Ring
+noRing number given holder = record { refusal = number; cores = 0; given = given; holder = holder; counts = replicate 4 0 }
+
+-- what the scan needs beside the records
+unfoldable pub ringOf : List ℕ → List ℕ → Table → ℕ → ℕ → Ring
+ringOf f t x holder given =
+    pick (eqb (nextRefusal f t (held x holder) given) 0)
+    (record { refusal = 0; cores = cores f; given = given; holder = holder; counts = countsOf f t })
+    (noRing (nextRefusal f t (held x holder) given) given holder)
+
+-- core number i + 1 after the given one
+abbrev pub placeAfter : Ring → ℕ → ℕ
+placeAfter r i = pick (eqb (r .cores) 0) 0 (roundFrom (r .cores) (r .given) (i + 1))
+
+-- core k with this record can move
+abbrev pub recordMoves : Ring → ℕ → Core → Bool
+recordMoves r k c = canMove (r .holder) (pick (ltb k 4) (getD (r .counts) k 0) 0) (registersIn c)
+
+-- the number of the first core, of so many from number i + 1 after the given one on, whose record says that it can move; 255 for none
+abbrev pub scanFrom : List Core → Ring → ℕ → ℕ → ℕ
+scanFrom ys r zero i = 255
+scanFrom ys r (suc m) i = pick (recordMoves r (placeAfter r i) (recordAt ys (placeAfter r i))) (placeAfter r i) (scanFrom ys r m (i + 1))
+
+abbrev pub scanned : List Core → Ring → ℕ
+scanned ys r = scanFrom ys r (r .cores) 0
 
 -- its number for C: 255 stands for none
 abbrev pub numberOf : Moving → ℕ
@@ -218,14 +250,15 @@ pub record Answered : Type 0 where
 abbrev pub answered : ℕ → ℕ → Answered
 answered r found = record { refusal = r; found = found }
 
-abbrev pub foundAfter : ℕ → Next → ℕ
-foundAfter found n = pick (eqb (n .refusal) 0) (numberOf (n .moving)) found
+abbrev pub ringAnswer : Ring → ℕ → ℕ → Answered
+ringAnswer r k found = pick (eqb (r .refusal) 0) (answered 0 k) (answered (r .refusal) found)
 
-unfoldable pub nextTable : List ℕ → List ℕ → Table → ℕ → ℕ → ℕ → Answered
-nextTable f t x holder given found = answered (nextCall f t (held x holder) given .refusal) (foundAfter found (nextCall f t (held x holder) given))
-
+-- the call: what the one by value answers (crate machine, specs/Calls) of the state that the table holds
 unfoldable pub nextLent : List ℕ → List ℕ → List Core → ℕ → ℕ → ℕ → Answered
-nextLent f t ys holder given found = nextTable f t (loaded ys) holder given found
+nextLent f t ys holder given found =
+    pick (eqb (nextRefusal f t (held (loaded ys) holder) given) 0)
+    (answered 0 (numberOf (nextMoving f t (held (loaded ys) holder) given)))
+    (answered (nextRefusal f t (held (loaded ys) holder) given) found)
 
 -- ---- the registers of one core, lent to its step beside the rest of the state
 

@@ -5,7 +5,6 @@
 use protocol::Registers;
 use runner::Ran;
 use states::State;
-use table::Moving;
 ghost use mathlib.Core.Path.{_≡_};
 ghost use mathlib.Core.List.{[], _∷_};
 ghost use Prim.Native.Nat.{_+_, _*_, _<_, _≤_};
@@ -14,7 +13,7 @@ ghost use Rattle.verdict.specs.Verdict.{next};
 ghost use Rattle.memory.specs.Memory.{splice, part};
 ghost use Rattle.taskset.specs.Judge.{judge};
 ghost use Rattle.runner.specs.Runs.{left};
-ghost use Rattle.lent.specs.Lent.{noCore, tableFrom, loaded, entries, counted, registersIn, recordWith, heldPlaces, heldOffsets, held, coreOf, recordAfter, acceptedOf, refusedOf, tableLeft, saved, lent, stepTable, stepLent, runTable, runLent, takenTable, takenLent, freshTable, freshLent, numberOf, answered, nextTable, nextLent, withRegisters, registersAfter, stepRegisters};
+ghost use Rattle.lent.specs.Lent.{noCore, tableFrom, loaded, entries, counted, registersIn, recordWith, heldPlaces, heldOffsets, held, coreOf, recordAfter, acceptedOf, refusedOf, tableLeft, saved, lent, stepTable, stepLent, runTable, runLent, takenTable, takenLent, freshTable, freshLent, ringOf, noRing, placeAfter, recordMoves, scanned, answered, ringAnswer, nextLent, withRegisters, registersAfter, stepRegisters};
 
 // A record of the core table: a core's registers and call stack, in 84 bytes of which each belongs to a field, so that what a call says of the
 // fields it says of every byte. Spare bytes are never judged, and a record that a call writes has zeros there.
@@ -249,13 +248,13 @@ fn step_table(
     ensures { λ r. ⌜ tableLeft r (now (holder .exit)) (now (buffer .exit)) (now (shared .exit)) [] ≡ stepTable (now (file .entry)) (now (trace .entry)) t (now (holder .entry)) (now (buffer .entry)) (now (shared .entry)) core ⌝ }
 {
     let s = state_of(t, *holder);
-    let r = machine::step(file, trace, s, buffer, shared, core);
-    if r.refusal != 0 {
-        return refused(t, r.refusal);
+    let stepped = machine::step(file, trace, s, buffer, shared, core);
+    if stepped.refusal != 0 {
+        return refused(t, stepped.refusal);
     }
-    let after = r.state;
-    *holder = after.holder;
-    accepted(t, after)
+    let next = stepped.state;
+    *holder = next.holder;
+    accepted(t, next)
 }
 
 fn run_table(
@@ -272,14 +271,14 @@ fn run_table(
     ensures { λ r. ⌜ (tableLeft r (now (holder .exit)) (now (buffer .exit)) (now (shared .exit)) (now (list .exit)) ≡ runTable (now (file .entry)) (now (trace .entry)) t (now (holder .entry)) (now (buffer .entry)) (now (shared .entry)) (now (order .entry)) (now (list .entry))) × (now (taken .exit) ≡ takenTable (now (file .entry)) (now (trace .entry)) t (now (holder .entry)) (now (buffer .entry)) (now (shared .entry)) (now (order .entry)) (now (list .entry)) (now (taken .entry))) ⌝ }
 {
     let s = state_of(t, *holder);
-    let r = machine::run(file, trace, s, buffer, shared, order, list);
-    if r.refusal != 0 {
-        return refused(t, r.refusal);
+    let ran = machine::run(file, trace, s, buffer, shared, order, list);
+    if ran.refusal != 0 {
+        return refused(t, ran.refusal);
     }
-    let after = r.state;
-    *holder = after.holder;
-    *taken = r.taken;
-    accepted(t, after)
+    let last = ran.state;
+    *holder = last.holder;
+    *taken = ran.taken;
+    accepted(t, last)
 }
 
 // The fresh state. A table of fewer than n records is too short.
@@ -295,13 +294,13 @@ fn fresh_table(
     if t.count < memory::byte_at(file, 4) {
         return refused(t, short_refusal(file));
     }
-    let r = machine::fresh(file, buffer, shared);
-    if r.refusal != 0 {
-        return refused(t, r.refusal);
+    let made = machine::fresh(file, buffer, shared);
+    if made.refusal != 0 {
+        return refused(t, made.refusal);
     }
-    let after = r.state;
-    *holder = after.holder;
-    accepted(t, after)
+    let begun = made.state;
+    *holder = begun.holder;
+    accepted(t, begun)
 }
 
 // The refusal where the table is too short: the file is judged first.
@@ -315,26 +314,92 @@ fn short_refusal(file: &[u8]) -> u8
     21
 }
 
-// The number of the core that moves next; 255 where there is none.
-fn number_of(m: Moving) -> u8
-    ensures { λ r. ⌜ r ≡ numberOf m ⌝ }
+// ---- the ring of cores, and the test of one record
+
+// What a scan of the table needs beside its records. Where the call is refused there are no cores to scan.
+pub struct Ring {
+    pub refusal: u8,
+    pub cores: u8,
+    pub given: u8,
+    pub holder: u8,
+    pub counts: [usize; 4], // the input records of each core
+}
+
+// Judges the call for the next core, on the table copied out, and gives what the scan needs.
+fn ring_of(file: &[u8], trace: &[u8], t: Table, holder: u8, given: u8) -> Ring
+    ensures { λ r. ⌜ r ≡ ringOf (now (file .entry)) (now (trace .entry)) t holder given ⌝ }
 {
-    match m {
-        Moving::Core(k) => k,
-        Moving::Nothing => 255,
+    let s = state_of(t, holder);
+    let loaded = taskset::load(file);
+    if loaded.refusal != 0 {
+        return no_ring(loaded.refusal, given, holder);
+    }
+    let layout = loaded.layout;
+    let prepared = states::prepare(file, trace, layout, s);
+    if prepared.refusal != 0 {
+        return no_ring(prepared.refusal, given, holder);
+    }
+    if layout.cores <= given as usize {
+        return no_ring(20, given, holder);
+    }
+    let tasks = prepared.tasks;
+    let counts = [
+        tasks[0].count,
+        tasks[1].count,
+        tasks[2].count,
+        tasks[3].count,
+    ];
+    Ring {
+        refusal: 0,
+        cores: layout.cores as u8,
+        given,
+        holder,
+        counts,
     }
 }
 
-fn next_table(file: &[u8], trace: &[u8], t: Table, holder: u8, given: u8, found: &mut u8) -> u8
-    ensures { λ r. ⌜ answered r (now (found .exit)) ≡ nextTable (now (file .entry)) (now (trace .entry)) t holder given (now (found .entry)) ⌝ }
+fn no_ring(number: u8, given: u8, holder: u8) -> Ring
+    ensures { λ r. ⌜ r ≡ noRing number given holder ⌝ }
 {
-    let s = state_of(t, holder);
-    let n = machine::next_core(file, trace, s, given);
-    if n.refusal != 0 {
-        return n.refusal;
+    let counts = [0usize; 4];
+    Ring {
+        refusal: number,
+        cores: 0,
+        given,
+        holder,
+        counts,
     }
-    let m = n.moving;
-    *found = number_of(m);
+}
+
+// Core number i + 1 after the given one, round the ring.
+fn place_after(r: Ring, i: u8) -> u8
+    ensures { λ k. ⌜ k ≡ placeAfter r i ⌝ }
+{
+    if r.cores == 0 {
+        return 0;
+    }
+    ((r.given as usize + (i as usize + 1)) % (r.cores as usize)) as u8
+}
+
+// Whether core k, which has this record, can move: the test by value.
+fn moves(r: Ring, k: u8, c: Core) -> bool
+    ensures { λ ok. ⌜ ok ≡ recordMoves r k c ⌝ }
+{
+    if 4 <= k {
+        return table::can_move(0, r.holder, registers_in(c));
+    }
+    let count = r.counts[k as usize];
+    table::can_move(count, r.holder, registers_in(c))
+}
+
+// The number of the core that moves next, where the call is not refused.
+fn found_in(r: Ring, k: u8, found: &mut u8) -> u8
+    ensures { λ x. ⌜ answered x (now (found .exit)) ≡ ringAnswer r k (now (found .entry)) ⌝ }
+{
+    if r.refusal != 0 {
+        return r.refusal;
+    }
+    *found = k;
     0
 }
 
@@ -434,23 +499,20 @@ pub fn step_registers(
 fn no_core() -> Core
     ensures { λ r. ⌜ r ≡ noCore ⌝ }
 {
-    let spare = [0u8; 3];
-    let places = [0u16; 16];
-    let offsets = [0u16; 16];
-    Core {
-        time: 0,
+    let registers = Registers {
+        mode: protocol::BETWEEN,
         counter: 0,
         offset: 0,
+        depth: 0,
         count: 0,
         exchange: 0,
         cycles: 0,
-        mode: protocol::BETWEEN,
-        depth: 0,
         flags: 0,
-        spare,
-        places,
-        offsets,
-    }
+        time: 0,
+    };
+    let places = [0u16; 16];
+    let offsets = [0u16; 16];
+    record_of(registers, places, offsets)
 }
 
 // How many records a table has, in one byte.
@@ -501,6 +563,24 @@ pub fn load(t: &[Core]) -> Table
     let c = get_or(t, 2, none);
     let d = get_or(t, 3, none);
     table_of(a, b, c, d, t.len())
+}
+
+// The scan round the ring: of the lent table's records, from the one after the given core to that core's own, the first whose core can move;
+// 255 where there is none.
+pub fn scan(t: &[Core], r: Ring) -> u8
+    ensures { λ x. ⌜ x ≡ scanned (now (t .entry)) r ⌝ }
+{
+    let none = no_core();
+    let mut i: u8 = 0;
+    while i < r.cores {
+        let k = place_after(r, i);
+        i += 1;
+        let c = get_or(t, k as usize, none);
+        if moves(r, k, c) {
+            return k;
+        }
+    }
+    255
 }
 
 // What a call leaves is written to the table: its first four records, as far as it has them. A refused call stores nothing.
@@ -588,7 +668,9 @@ pub extern "C" fn rikzord_next_core(
     ensures { λ r. ⌜ answered r (now (found .exit)) ≡ nextLent (now (file .entry)) (now (trace .entry)) (now (table .entry)) holder given (now (found .entry)) ⌝ }
 {
     let t = load(table);
-    next_table(file, trace, t, holder, given, found)
+    let ring = ring_of(file, trace, t, holder, given);
+    let k = scan(table, ring);
+    found_in(ring, k, found)
 }
 
 // The refusal number of a task set file alone.

@@ -46,11 +46,10 @@ use Rattle.lent.proofs.Core as T
 use Rattle.lent.proofs.Core.Laws as T′
 use Rattle.lent.proofs.Table as N
 use Rattle.lent.proofs.Table.Laws as N′
-use Rattle.lent.proofs.get_or as get-or
+use Rattle.lent.proofs.Asking.{R, GetOr, NoCore, typed, from-none, begins, asks}
 use Rattle.lent.proofs.get_or.Symbol as get-or-def
 use Rattle.lent.proofs.get_or.Symbol.{name as #lent·get-or}
 use Rattle.lent.proofs.get_or.Met as get-or-thm
-use Rattle.lent.proofs.no_core as no-core
 use Rattle.lent.proofs.no_core.Symbol as no-core-def
 use Rattle.lent.proofs.no_core.Symbol.{name as #lent·no-core}
 use Rattle.lent.proofs.no_core.Met as no-core-thm
@@ -63,9 +62,6 @@ use Rattle.lent.proofs.load as f
 use Rattle.lent.proofs.load.Statement as stated
 use Rattle.lent.proofs.load.Code as code
 
-abbrev R : RattleType
-R = T.the-row
-
 abbrev Arg : Type 0
 Arg = RefT (List Core) × Unit {0}
 
@@ -73,32 +69,17 @@ abbrev stayed : Stays (f.ended .signature .params) (f.ended .kept)
 stayed = (stay-none-slice (0 ∷ []) tt (plain (λ _. R)) yes, tt)
 
 module _ {M : Type 1} (𝓤 : URA M) (H : Heap 𝓤) (A : Atoms 𝓤) (at-mem : Memory → SProp 𝓤) (run : Routine → Fun 𝓤) where
-  -- the contracts that the proof cites
-  abbrev GetOr : Contract 𝓤
-  GetOr = tripleOf 𝓤 H A get-or.signature (get-or.spec 𝓤 H A at-mem run)
-
-  abbrev NoCore : Contract 𝓤
-  NoCore = tripleOf 𝓤 H A no-core.signature (no-core.spec 𝓤 H A at-mem run)
-
+  -- the contract that the proof cites beside those of `Asking`
   abbrev TableOf : Contract 𝓤
   TableOf = tripleOf 𝓤 H A table-of.signature (table-of.spec 𝓤 H A at-mem run)
 
-  -- of what each ensures, the clause alone: none has a last value
-  none-of : (r : Core) → ent 𝓤 (ensured 𝓤 H A no-core.ended (no-core.clauses 𝓤 H A at-mem run) tt tt tt r) (fact 𝓤 (r ≡ noCore))
-  none-of r = exE 𝓤 _ (λ ws. snd∗ 𝓤 (sem 𝓤 H A (lasts no-core.ended tt tt ws)) (fact 𝓤 (r ≡ noCore)))
-
-  got-of : (κ : Lft) (x : RefT (List Core)) (i : ℕ) (n r : Core) → ent 𝓤 (ensured 𝓤 H A get-or.ended (get-or.clauses 𝓤 H A at-mem run) (κ, tt) (x, (i, (n, tt))) tt r) (fact 𝓤 (r ≡ getD (x .now) i n))
-  got-of κ x i n r = exE 𝓤 _ (λ ws. snd∗ 𝓤 (sem 𝓤 H A (lasts get-or.ended (κ, tt) (x, (i, (n, tt))) ws)) (fact 𝓤 (r ≡ getD (x .now) i n)))
-
+  -- of what it ensures, the clause alone: it has no last value
   table-is : (c₀ c₁ c₂ c₃ : Core) (n : ℕ) (r : Table) → ent 𝓤 (ensured 𝓤 H A table-of.ended (table-of.clauses 𝓤 H A at-mem run) tt (c₀, (c₁, (c₂, (c₃, (n, tt))))) tt r) (fact 𝓤 (r ≡ tableFrom c₀ c₁ c₂ c₃ n))
   table-is c₀ c₁ c₂ c₃ n r = exE 𝓤 _ (λ ws. snd∗ 𝓤 (sem 𝓤 H A (lasts table-of.ended tt (c₀, (c₁, (c₂, (c₃, (n, tt))))) ws)) (fact 𝓤 (r ≡ tableFrom c₀ c₁ c₂ c₃ n)))
 
 module _ {M : Type 1} (𝓤 : URA M) (H : Heap 𝓤) (A : Atoms 𝓤) (W : Given 𝓤 H A) (at-mem : Memory → SProp 𝓤) (run : Routine → Fun 𝓤) (κ : Lft) (q : Share) (b o : ℕ) (γ : GName) (ys : List Core) (room : Room R (length ys)) where
-  abbrev x : RefT (List Core)
-  x = record { ptr = (b, o); name = γ; now = ys }
-
   abbrev a : Arg
-  a = (x, tt)
+  a = (record { ptr = (b, o); name = γ; now = ys }, tt)
 
   abbrev s : Val
   s = sliceVal (b, o) (length ys)
@@ -107,7 +88,7 @@ module _ {M : Type 1} (𝓤 : URA M) (H : Heap 𝓤) (A : Atoms 𝓤) (W : Given
   at = (s ∷ [], tt)
 
   abbrev Own : Fml
-  Own = ShrSlice (named 0) κ R .own x (s ∷ [])
+  Own = ShrSlice (named 0) κ R .own (a .0) (s ∷ [])
 
   abbrev Post : Val → SProp 𝓤
   Post = walkOf 𝓤 H A f.ended stayed (f.clauses 𝓤 H A at-mem run) .post (((κ, tt), (q, tt), tt, a, at), tt)
@@ -118,20 +99,7 @@ module _ {M : Type 1} (𝓤 : URA M) (H : Heap 𝓤) (A : Atoms 𝓤) (W : Given
       suffices ! _ (ends-at 𝓤 H A f.ended stayed (f.clauses 𝓤 H A at-mem run) W (((κ, tt), (q, tt), tt, a, at), tt) w r (tt, tt) (tt, tt)) $ says ! e $
       frame ! $ nothing ! $ move ! (1 ∷ 0 ∷ []) $ fjoin ! $ frame ! $ done !
 
-  -- what each callee's triple binds outside, and that the caller has what it asks
-  abbrev to-none : NoCore 𝓤 H A at-mem run .Ghost
-  to-none = ((tt, tt, tt, tt, tt), tt)
-
-  goes-none′ : ent 𝓤 (emp 𝓤) (NoCore 𝓤 H A at-mem run .pre to-none)
-  goes-none′ = qed W [] ∵ nothing ! $ nothing ! $ join ! $ frame ! $ done !
-
-  abbrev to-get : ℕ → Core → Val → GetOr 𝓤 H A at-mem run .Ghost
-  to-get i n u = (((κ, tt), (q, tt), tt, (x, (i, (n, tt))), (s ∷ [], (vint w64 i ∷ [], (u ∷ [], tt)))), tt)
-
-  goes-get : (i : ℕ) → i < 2 ^ 64 → (n : Core) (u : Val) → Is R n (u ∷ []) → ent 𝓤 (sep 𝓤 (sep 𝓤 (A .lft κ q) (sem 𝓤 H A ftrue)) (sem 𝓤 H A Own)) (GetOr 𝓤 H A at-mem run .pre (to-get i n u))
-  goes-get i i-fits n u n-is =
-      qed W ((‵ (flft κ q) ⊛ ‵ ftrue) ∷ ‵ Own ∷ []) ∵ nothing ! $ owned ! R (Is R) (LL.makes T.the-type T′.the-plain 𝓤 H A) n _ n-is $ fjoin ! $ owned ! usize (Is usize) (uint-makes 𝓤 H A W w64) i _ (refl, i-fits) $ fjoin ! $ move ! (2 ∷ 0 ∷ []) $ fjoin ! $ move ! (1 ∷ 0 ∷ []) $ join ! $ frame ! $ done !
-
+  -- what `table_of`'s triple binds outside, and that the caller has what it asks
   abbrev to-table : (c₀ c₁ c₂ c₃ : Core) (v₀ v₁ v₂ v₃ : Val) → TableOf 𝓤 H A at-mem run .Ghost
   to-table c₀ c₁ c₂ c₃ v₀ v₁ v₂ v₃ = ((tt, tt, tt, (c₀, (c₁, (c₂, (c₃, (length ys, tt))))), (v₀ ∷ [], (v₁ ∷ [], (v₂ ∷ [], (v₃ ∷ [], (vint w64 (length ys) ∷ [], tt)))))), tt)
 
@@ -142,18 +110,6 @@ module _ {M : Type 1} (𝓤 : URA M) (H : Heap 𝓤) (A : Atoms 𝓤) (W : Given
       owned ! R (Is R) (LL.makes T.the-type T′.the-plain 𝓤 H A) c₁ _ i₁ $ fjoin ! $ owned ! R (Is R) (LL.makes T.the-type T′.the-plain 𝓤 H A) c₀ _ i₀ $ fjoin ! $ nothing ! $ join ! $ frame ! $ done !
 
   module _ (C : Calls 𝓤 H) (Λ : Loops 𝓤 H) (fm : FmC 𝓤 H (W .laws) C) (known-get : Triple 𝓤 (C #lent·get-or) (GetOr 𝓤 H A at-mem run)) (known-none : Triple 𝓤 (C #lent·no-core) (NoCore 𝓤 H A at-mem run)) (known-table : Triple 𝓤 (C #lent·table-of) (TableOf 𝓤 H A at-mem run)) where
-    -- one call of `get_or`: a copy of the slice reference goes, and the token comes back
-    asks : {Γ : List (Item 𝓤)} {E : Env 𝓤 H} {xs : List Operand} {d : Place} {rest : Body} {p : Kit.Post 𝓤 H} (i : ℕ) → i < 2 ^ 64 → (n : Core) (u : Val) → Is R n (u ∷ [])
-        → Opds (Go {0}) W (raw (GetOr 𝓤 H A at-mem run .pre (to-get i n u)) ∷ ‵ Own ∷ Γ) E xs (s ∷ vint w64 i ∷ u ∷ [])
-        → ((r : Core) (v : Val) → r ≡ getD ys i n → Is R r (v ∷ []) → Sq W ((‵ (flft κ q) ⊛ ‵ ftrue) ∷ ‵ Own ∷ Γ) (lands C Λ E d v rest p))
-        → Sq W ((‵ (flft κ q) ⊛ ‵ ftrue) ∷ ‵ Own ∷ Γ) (runs C Λ E (seq (call #lent·get-or xs d) rest) p)
-    asks i i-fits n u n-is os k =
-        move ! (1 ∷ []) $ use1 W (‵ Own ⊛ ‵ Own) (shr-slice-copy 𝓤 H A W (named 0) κ R .twice x (s ∷ [])) $ split ! $ move ! (2 ∷ 0 ∷ []) $ use2 W (raw (GetOr 𝓤 H A at-mem run .pre (to-get i n u))) (goes-get i i-fits n u n-is) $
-        calls-at ! fm (GetOr 𝓤 H A at-mem run) known-get (to-get i n u) os (λ v.
-        use1 W (later (some (λ (r : Core). ((‵ (flft κ q) ⊛ ‵ ftrue) ⊛ ‵ (R .own r (v ∷ []))) ⊛ raw (ensured 𝓤 H A get-or.ended (get-or.clauses 𝓤 H A at-mem run) (κ, tt) (x, (i, (n, tt))) tt r)))) (id⊢ 𝓤 _) $ await ! tt $ pick ! (λ r.
-        split ! $ move ! (1 ∷ []) $ use1 W (raw (fact 𝓤 (r ≡ getD ys i n))) (got-of 𝓤 H A at-mem run κ x i n r) $ heard ! (r ≡ getD ys i n) (λ e.
-        split ! $ move ! (1 ∷ []) $ peeks ! R (Is R) (shows 𝓤 H A R) r (v ∷ []) (λ is. drop ! $ k r v e is))))
-
     walk : ent 𝓤 (onEntry 𝓤 H A f.signature (κ, tt) (q, tt) a at) (WpFn 𝓤 H C Λ code.function (s ∷ []) Post)
     walk =
         qed W ((‵ (flft κ q) ⊛ ‵ ftrue) ∷ ‵ (owns (ShrSlice (named 0) κ R ∷ []) a at) ∷ []) ∵ enter ! C Λ code.function (s ∷ []) _ $
@@ -162,15 +118,11 @@ module _ {M : Type 1} (𝓤 : URA M) (H : Heap 𝓤) (A : Atoms 𝓤) (W : Given
         -- [_7; …; _6; …; _5; …; _4; …; _3; …; _2; …; _1; …; room for _0; …; the token; what the parameters own]
         move ! (17 ∷ []) $ fsplit ! $ move ! (1 ∷ []) $ drop ! $ move ! (17 ∷ 0 ∷ []) $
         -- [the token; what t owns; _7; …; _6; …; _5; …; _4; …; _3; …; _2; …; _1; …; room for _0; …]
-        use0 W (raw (NoCore 𝓤 H A at-mem run .pre to-none)) goes-none′ $
-        calls-at ! fm (NoCore 𝓤 H A at-mem run) known-none to-none (no-more !) (λ u.
-        use1 W (later (some (λ (r : Core). (‵ ftrue ⊛ ‵ (R .own r (u ∷ []))) ⊛ raw (ensured 𝓤 H A no-core.ended (no-core.clauses 𝓤 H A at-mem run) tt tt tt r)))) (id⊢ 𝓤 _) $ await ! tt $ pick ! (λ n.
-        split ! $ move ! (1 ∷ []) $ use1 W (raw (fact 𝓤 (n ≡ noCore))) (none-of 𝓤 H A at-mem run n) $ heard ! (n ≡ noCore) (λ en.
-        split ! $ drop ! $ peeks ! R (Is R) (shows 𝓤 H A R) n (u ∷ []) (λ n-is. drop ! $ land ! (from ! (stop !)) (init ! 12 refl (typed n u n-is)) $
-        asks 0 (lit< tt) n u n-is (and-then ! (load ! (from ! (stop !)) (look ! 14 refl)) (and-then ! (lit ! tt) (and-then ! (load ! (from ! (stop !)) (look ! 12 refl)) (no-more !)))) (λ c₀ v₀ e₀ i₀. land ! (from ! (stop !)) (init ! 10 refl (typed c₀ v₀ i₀)) $
-        asks 1 (lit< tt) n u n-is (and-then ! (load ! (from ! (stop !)) (look ! 14 refl)) (and-then ! (lit ! tt) (and-then ! (load ! (from ! (stop !)) (look ! 12 refl)) (no-more !)))) (λ c₁ v₁ e₁ i₁. land ! (from ! (stop !)) (init ! 8 refl (typed c₁ v₁ i₁)) $
-        asks 2 (lit< tt) n u n-is (and-then ! (load ! (from ! (stop !)) (look ! 14 refl)) (and-then ! (lit ! tt) (and-then ! (load ! (from ! (stop !)) (look ! 12 refl)) (no-more !)))) (λ c₂ v₂ e₂ i₂. land ! (from ! (stop !)) (init ! 6 refl (typed c₂ v₂ i₂)) $
-        asks 3 (lit< tt) n u n-is (and-then ! (load ! (from ! (stop !)) (look ! 14 refl)) (and-then ! (lit ! tt) (and-then ! (load ! (from ! (stop !)) (look ! 12 refl)) (no-more !)))) (λ c₃ v₃ e₃ i₃. land ! (from ! (stop !)) (init ! 4 refl (typed c₃ v₃ i₃)) $
+        begins 𝓤 H A W at-mem run C Λ fm known-none (λ n u en n-is. land ! (from ! (stop !)) (init ! 12 refl (typed 𝓤 H A W at-mem run n u n-is)) $
+        asks 𝓤 H A W at-mem run κ q b o γ ys C Λ fm known-get 0 (lit< tt) n u n-is (and-then ! (load ! (from ! (stop !)) (look ! 14 refl)) (and-then ! (lit ! tt) (and-then ! (load ! (from ! (stop !)) (look ! 12 refl)) (no-more !)))) (λ c₀ v₀ e₀ i₀. land ! (from ! (stop !)) (init ! 10 refl (typed 𝓤 H A W at-mem run c₀ v₀ i₀)) $
+        asks 𝓤 H A W at-mem run κ q b o γ ys C Λ fm known-get 1 (lit< tt) n u n-is (and-then ! (load ! (from ! (stop !)) (look ! 14 refl)) (and-then ! (lit ! tt) (and-then ! (load ! (from ! (stop !)) (look ! 12 refl)) (no-more !)))) (λ c₁ v₁ e₁ i₁. land ! (from ! (stop !)) (init ! 8 refl (typed 𝓤 H A W at-mem run c₁ v₁ i₁)) $
+        asks 𝓤 H A W at-mem run κ q b o γ ys C Λ fm known-get 2 (lit< tt) n u n-is (and-then ! (load ! (from ! (stop !)) (look ! 14 refl)) (and-then ! (lit ! tt) (and-then ! (load ! (from ! (stop !)) (look ! 12 refl)) (no-more !)))) (λ c₂ v₂ e₂ i₂. land ! (from ! (stop !)) (init ! 6 refl (typed 𝓤 H A W at-mem run c₂ v₂ i₂)) $
+        asks 𝓤 H A W at-mem run κ q b o γ ys C Λ fm known-get 3 (lit< tt) n u n-is (and-then ! (load ! (from ! (stop !)) (look ! 14 refl)) (and-then ! (lit ! tt) (and-then ! (load ! (from ! (stop !)) (look ! 12 refl)) (no-more !)))) (λ c₃ v₃ e₃ i₃. land ! (from ! (stop !)) (init ! 4 refl (typed 𝓤 H A W at-mem run c₃ v₃ i₃)) $
         assigns ! (of-opd ! (load ! (from ! (fld ! refl (stop !))) (look-in ! 14 (sub ! 1 refl (whole !))))) (from ! (stop !)) (init ! 2 refl (tt, record { fits = room .0 })) $
         use0 W (raw (TableOf 𝓤 H A at-mem run .pre (to-table c₀ c₁ c₂ c₃ v₀ v₁ v₂ v₃))) (goes-table c₀ c₁ c₂ c₃ v₀ v₁ v₂ v₃ i₀ i₁ i₂ i₃) $
         -- [what `table_of` asks; the token; what t owns; _7; …; _6; …; _5; …; _4; …; _3; …; _2; …; _1; …; room for _0; …]
@@ -183,13 +135,7 @@ module _ {M : Type 1} (𝓤 : URA M) (H : Heap 𝓤) (A : Atoms 𝓤) (W : Given
         land ! (from ! (stop !)) (init ! 17 refl (LL.lawful N.the-type N′.the-laws 𝓤 H A W .typed r _ is .0)) $
         returns ! (look ! 17 refl) $ forget ! 3 refl $ forget ! 5 refl $ forget ! 7 refl $ forget ! 9 refl $ forget ! 11 refl $ forget ! 13 refl $ forget ! 15 refl $ forget ! 17 refl $
         move ! (17 ∷ 18 ∷ []) $ free1 ! $ move ! (15 ∷ 16 ∷ []) $ free1 ! $ move ! (13 ∷ 14 ∷ []) $ free1 ! $ move ! (11 ∷ 12 ∷ []) $ free1 ! $ move ! (9 ∷ 10 ∷ []) $ free1 ! $ move ! (7 ∷ 8 ∷ []) $ free1 ! $ move ! (5 ∷ 6 ∷ []) $ free1 ! $ move ! (3 ∷ 4 ∷ []) $ free1 ! $ free0 ! $
-        keep ! (1 ∷ 2 ∷ 0 ∷ []) $ by ! (exits r w (e ∙ λ k. tableFrom (from-none c₀ n 0 en e₀ k) (from-none c₁ n 1 en e₁ k) (from-none c₂ n 2 en e₂ k) (from-none c₃ n 3 en e₃ k) (length ys)))))))))))))))))))))))
-      where
-        from-none : (c n : Core) (i : ℕ) → n ≡ noCore → c ≡ getD ys i n → c ≡ recordAt ys i
-        from-none c n i en e = e ∙ ap (λ (m : Core). getD ys i m) en
-
-        typed : (c : Core) (v : Val) → Is R c (v ∷ []) → Holds (hasTy T′.mir v) × WT v
-        typed c v is = LL.lawful T.the-type T′.the-laws 𝓤 H A W .typed c (v ∷ []) is .0
+        keep ! (1 ∷ 2 ∷ 0 ∷ []) $ by ! (exits r w (e ∙ λ k. tableFrom (from-none ys c₀ n 0 en e₀ k) (from-none ys c₁ n 1 en e₁ k) (from-none ys c₂ n 2 en e₂ k) (from-none ys c₃ n 3 en e₃ k) (length ys))))))))))))))))))))
 
 module _ {M : Type 1} (𝓤 : URA M) (H : Heap 𝓤) (A : Atoms 𝓤) (W : Given 𝓤 H A) (at-mem : Memory → SProp 𝓤) (run : Routine → Fun 𝓤) where
   walks : (C : Calls 𝓤 H) (Λ : Loops 𝓤 H) → FmC 𝓤 H (W .laws) C → Triple 𝓤 (C #lent·get-or) (GetOr 𝓤 H A at-mem run) → Triple 𝓤 (C #lent·no-core) (NoCore 𝓤 H A at-mem run) → Triple 𝓤 (C #lent·table-of) (TableOf 𝓤 H A at-mem run)

@@ -1,0 +1,87 @@
+-- Calls on a lent core table one after another, each with the table, the semaphore's holder and the memories that the one before left, refused ones
+-- too; and step calls that are lent the registers of their core. They are the calls of crate machine (specs/Calling), made over the C interface.
+-- In order: a call and what it leaves; lists of calls; the steps that they count as; the claim; steps with lent registers.
+-- `lent-interleaved` of proofs/Calling proves `LentInterleaved`, which is demand 3 of every list of lent calls; `registers-leave` proves
+-- `RegistersLeave`. Not here: what each call is for every input (specs/Lent); that a refused call leaves all (proofs/Unchanged).
+use mathlib.Core.Path.{_≡_}
+use mathlib.Core.List.{List, [], _∷_, _++_}
+use Prim.Native.Nat.{ℕ}
+use lib.Dec.{eqb}
+use lib.ListN.{take, drop}
+use Rattle.verdict.specs.Verdict.{pick}
+use Rattle.protocol.specs.declared.Registers.{Registers}
+use Rattle.protocol.specs.State.{State as Whole}
+use Rattle.protocol.specs.Step.{run}
+use Rattle.protocol.specs.Fresh.{fresh}
+use Rattle.records.specs.File.{cores}
+use Rattle.taskset.specs.Task.{sizesOf}
+use Rattle.states.specs.Task.{taskOf}
+use Rattle.states.specs.Machine.{none, stateOf}
+use Rattle.runner.specs.Runs.{Left}
+use Rattle.machine.specs.Calling.{Lending, lentOf, replaced, Call, stepping, running, restored, leaves, stepsIn}
+use Rattle.machine.specs.Interleaving.{MachineInterleaved}
+use Rattle.lent.specs.declared.Core.{Core}
+use Rattle.lent.specs.Lent.{loaded, held, Lent, lent, stepLent, runLent, freshLent, registersAfter, stepRegisters}
+
+-- ---- a call, and what it leaves
+
+-- a call that lends the first so many records of the table, which is 23 unless these are n
+pub data LentCall : Type 0 where
+  over : ℕ → Call → LentCall
+
+-- y is what a call left that was lent so many records of the table that x has, and these parts of its memories
+abbrev pub restoredLent : ℕ → Lending → Lending → Lent → Lent → Lent
+restoredLent rows a b x y =
+    lent (y .refusal) (y .table ++ drop rows (x .table)) (y .holder) (replaced a (x .memory) (y .memory)) (replaced b (x .shared) (y .shared)) (y .order)
+
+-- what a call leaves that is made with what the one before left
+abbrev pub leavesLent : List ℕ → List ℕ → LentCall → Lent → Lent
+leavesLent f t (over rows (stepping a b k)) x =
+    restoredLent rows a b x (stepLent f t (take rows (x .table)) (x .holder) (lentOf a (x .memory)) (lentOf b (x .shared)) k)
+leavesLent f t (over rows (running a b order list)) x =
+    restoredLent rows a b x (runLent f t (take rows (x .table)) (x .holder) (lentOf a (x .memory)) (lentOf b (x .shared)) order list)
+
+-- ---- lists of calls
+
+abbrev pub lentCalls : List ℕ → List ℕ → List LentCall → Lent → Lent
+lentCalls f t [] x = x
+lentCalls f t (c ∷ cs) x = lentCalls f t cs (leavesLent f t c x)
+
+-- the state that the table's first n records hold, with the holder and the lent memories
+abbrev pub wholeLent : List ℕ → Lent → Whole
+wholeLent f x = stateOf f (held (loaded (take (cores f) (x .table))) (x .holder)) (x .memory) (x .shared)
+
+-- ---- the steps that calls count as: "A refused call changes nothing and is no taking; a run counts as its steps."
+
+abbrev pub callOf : LentCall → Call
+callOf (over rows c) = c
+
+abbrev pub countsLent : List ℕ → List ℕ → LentCall → Lent → List ℕ
+countsLent f t c x = pick (eqb (leavesLent f t c x .refusal) 0) (stepsIn (callOf c)) []
+
+abbrev pub lentStepsOf : List ℕ → List ℕ → List LentCall → Lent → List ℕ
+lentStepsOf f t [] x = []
+lentStepsOf f t (c ∷ cs) x = countsLent f t c x ++ lentStepsOf f t cs (leavesLent f t c x)
+
+-- ---- the claim: the calls cs, from what `rikzord_fresh` left that was lent the table ys, a holder and the memories d and sh
+
+pub record LentInterleaved (f t : List ℕ) (ys : List Core) (holder : ℕ) (d sh : List ℕ) (cs : List LentCall) : Type 0 where
+  -- what they leave in the table and the memories is what the steps that they count as make of the fresh state
+  pub steps : wholeLent f (lentCalls f t cs (freshLent f ys holder d sh)) ≡ run (taskOf f t) (lentStepsOf f t cs (freshLent f ys holder d sh)) (fresh (sizesOf f))
+  -- and of those steps demand 3 holds, both parts
+  pub interleaved : MachineInterleaved f t (lentStepsOf f t cs (freshLent f ys holder d sh))
+
+-- ---- a step call that is lent the registers of its core, as they stand in the state
+
+-- the registers that are lent for core k
+abbrev pub lentRegisters : Left → ℕ → Registers
+lentRegisters x k = registersAfter (x .answer .state) k none
+
+abbrev pub leavesRegisters : List ℕ → List ℕ → Lending → Lending → ℕ → Left → Left
+leavesRegisters f t a b k x = restored a b x (stepRegisters f t (x .answer .state) (lentRegisters x k) (lentOf a (x .memory)) (lentOf b (x .shared)) k)
+
+-- Such a call leaves what the step call by value leaves, and in the lent registers those of the state: so it may stand for that step call in any
+-- list of calls, and demand 3 holds of the list
+pub record RegistersLeave (f t : List ℕ) (a b : Lending) (k : ℕ) (x : Left) : Type 0 where
+  pub leaves-same : leavesRegisters f t a b k x ≡ leaves f t (stepping a b k) x
+  pub registers-same : registersAfter (leavesRegisters f t a b k x .answer .state) k (lentRegisters x k) ≡ lentRegisters (leaves f t (stepping a b k) x) k
