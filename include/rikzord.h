@@ -64,4 +64,11 @@ uint8_t rikzord_run(const uint8_t *file, size_t file_length, const uint8_t *trac
 uint8_t rikzord_next_core(const uint8_t *file, size_t file_length, const uint8_t *trace, size_t trace_length, const struct rikzord_core *table,
                           size_t table_length, uint8_t holder, uint8_t given, uint8_t *found);
 
+/* Beside the machine: the lowest reading over the holding time. A run has records of six bytes, a TIME in milliseconds and an INT, low byte
+ * first; times don't fall. For each record the smallest reading among the records up to it whose time is at least its own time minus `span` goes to
+ * `answers`, an INT of two bytes each; bytes past the answers stay. Answers, tried in this order: 28 where `span` is not 1 to 600,000; 29 where there
+ * are fewer places than records (a cut record counts); 30 where a time is below the one before or the run is cut inside a record. The definitions
+ * are in crates/holding/specs/Holding.antt. */
+uint8_t rikzord_lowest(const uint8_t *run, size_t run_length, uint32_t span, uint8_t *answers, size_t answers_length);
+
 #endif

@@ -13,6 +13,7 @@ ghost use Rattle.verdict.specs.Verdict.{next};
 ghost use Rattle.memory.specs.Memory.{splice, part};
 ghost use Rattle.taskset.specs.Judge.{judge};
 ghost use Rattle.runner.specs.Runs.{left};
+ghost use Rattle.holding.specs.Holding.{lowestRefusal, answersAfter};
 ghost use Rattle.lent.specs.Lent.{noCore, tableFrom, loaded, entries, counted, registersIn, recordWith, heldPlaces, heldOffsets, held, coreOf, recordAfter, acceptedOf, refusedOf, tableLeft, saved, lent, stepTable, stepLent, runTable, runLent, takenTable, takenLent, freshTable, freshLent, ringOf, noRing, placeAfter, recordMoves, scanned, answered, ringAnswer, nextLent, withRegisters, registersAfter, stepRegisters};
 
 // A record of the core table: a core's registers and call stack, in 84 bytes of which each belongs to a field, so that what a call says of the
@@ -679,4 +680,14 @@ pub extern "C" fn rikzord_check_file(file: &[u8]) -> u8
     ensures { λ r. ⌜ r ≡ judge (now (file .entry)) ⌝ }
 {
     machine::check_file(file)
+}
+
+// ---- beside the machine: the lowest reading over the holding time
+
+// For each record of `run`, a TIME and an INT in six bytes, the lowest reading of the last `span` milliseconds goes to `answers` (crate holding).
+#[no_mangle]
+pub extern "C" fn rikzord_lowest(run: &[u8], span: u32, answers: &mut [u8]) -> u8
+    ensures { λ r. ⌜ (r ≡ lowestRefusal (now (run .entry)) span (length (now (answers .entry)))) × (now (answers .exit) ≡ answersAfter (now (run .entry)) span (now (answers .entry))) ⌝ }
+{
+    holding::lowest(run, span, answers)
 }
