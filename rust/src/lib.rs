@@ -1,10 +1,12 @@
 //! An independent machine of document 01 in Rust, and what compares and times it against another one.
 //!
 //! `reference` is the machine; it shares no code with the proved one. `interface` says what a machine offers and `linked` is the proved one behind
-//! its C interface. `draft` writes task set files, `random` makes cases from them, `comparison` runs two machines on the cases.
+//! its C interface. `draft` writes task set files, `random` makes cases from them, `comparison` runs two machines on the cases. `holding` has the
+//! lowest reading over the holding time, which stands beside the machine, with its own comparison.
 
 pub mod comparison;
 pub mod draft;
+pub mod holding;
 pub mod interface;
 #[cfg(feature = "linked")]
 pub mod linked;

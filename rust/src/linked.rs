@@ -68,6 +68,8 @@ extern "C" {
         core: u8,
         next: *mut u8,
     ) -> u8;
+
+    fn rikzord_lowest(run: *const u8, run_len: usize, span: u32, answers: *mut u8, answers_len: usize) -> u8;
 }
 
 /// The machine of `liblent.a`.
@@ -184,4 +186,10 @@ impl Machine for Linked {
             (number, _) => Next::Refused(number),
         }
     }
+}
+
+/// The lowest reading over the holding time, of `liblent.a`.
+pub fn lowest(run: &[u8], span: u32, answers: &mut [u8]) -> u8 {
+    // Safety: as above.
+    unsafe { rikzord_lowest(run.as_ptr(), run.len(), span, answers.as_mut_ptr(), answers.len()) }
 }

@@ -4,6 +4,7 @@
 //! `bench [rounds]`
 
 use rikzord_comparison::draft::{Code, CoreRecord, Draft, Program, Variable};
+use rikzord_comparison::holding::{self, Lowest, Record};
 use rikzord_comparison::interface::{Machine, Reference};
 use rikzord_comparison::reference::command::*;
 use rikzord_comparison::reference::types::*;
@@ -41,6 +42,45 @@ fn main() {
         least.round(round, |_| judge(&Reference, &file), |_| judge(&second, &file));
     }
     least.report(&format!("judging {} bytes, a byte", file.len()), FILES * file.len());
+    #[cfg(feature = "linked")]
+    let second = rikzord_comparison::linked::lowest;
+    #[cfg(not(feature = "linked"))]
+    let second = holding::lowest;
+    let times = [10, 10_000].map(|window| lowest(window, rounds.min(3), second));
+    println!(
+        "lowest: a record with 10,000 in its window takes {:.2} of the time of one with 10",
+        times[1].as_secs_f64() / times[0].as_secs_f64()
+    );
+}
+
+/// Times the lowest reading over the holding time on a run with so many records in each window. The reference looks at each record of a window,
+/// so that it is a yardstick of the answers alone.
+fn lowest(window: usize, rounds: usize, second: Lowest) -> Duration {
+    const RECORDS: usize = 50_000;
+    const STEP: i32 = 20;
+    let reading = |i: usize| (i.wrapping_mul(2_654_435_761) >> 7) as i16;
+    let records: Vec<Record> = (0..RECORDS).map(|i| Record { time: STEP * i as i32, reading: reading(i) }).collect();
+    let run = holding::run_of(&records);
+    let span = STEP as u32 * (window as u32 - 1);
+    let (mut of_a, mut of_b) = (vec![0; 2 * RECORDS], vec![0; 2 * RECORDS]);
+    let timed = |lowest: Lowest, answers: &mut [u8]| {
+        let start = Instant::now();
+        let number = lowest(black_box(&run), span, answers);
+        let time = start.elapsed();
+        assert_eq!(number, holding::NONE);
+        time
+    };
+    let mut least = Least::new(1);
+    for round in 0..rounds {
+        least.round(round, |_| timed(holding::lowest, &mut of_a), |_| timed(second, &mut of_b));
+        assert!(of_a == of_b, "the answers differ");
+    }
+    // A call is short beside the reference's, so that it is made more often.
+    for _ in 0..50 {
+        least.0[0][1] = least.0[0][1].min(timed(second, &mut of_b));
+    }
+    least.report(&format!("lowest of {window} records, a record"), RECORDS);
+    least.0[0][1]
 }
 
 /// The least time of each call, for both machines. The same call does the same work in every round, so that what is left is the work.

@@ -3,6 +3,7 @@
 //! `compare [rounds [seed]]`
 
 use rikzord_comparison::comparison::compare;
+use rikzord_comparison::holding;
 use rikzord_comparison::interface::{Reference, Stepwise};
 
 fn main() {
@@ -16,7 +17,12 @@ fn main() {
     #[cfg(feature = "linked")]
     compare(&Reference, &Stepwise(rikzord_comparison::linked::Linked), seed as u64, rounds / 10);
     tally.print();
-    let missing = tally.missing();
+    #[cfg(feature = "linked")]
+    let lowest = holding::compare(holding::lowest, rikzord_comparison::linked::lowest, seed as u64, 10 * rounds);
+    #[cfg(not(feature = "linked"))]
+    let lowest = holding::compare(holding::lowest, holding::lowest, seed as u64, rounds);
+    lowest.print();
+    let missing = [tally.missing(), lowest.missing()].concat();
     assert!(missing.is_empty(), "never came: {missing:?}");
     println!("{rounds} rounds: the reference and {second} agree");
 }
