@@ -10,3 +10,7 @@ pub mod Bytes
 pub mod Instance
 pub mod Interleaving
 pub mod Example
+pub mod Commute
+pub mod Order
+pub mod Cycles
+pub mod Tests

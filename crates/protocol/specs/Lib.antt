@@ -8,3 +8,4 @@ pub mod History
 pub mod Laws
 pub mod Fresh
 pub mod Interleaving
+pub mod Cycles
