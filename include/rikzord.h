@@ -71,4 +71,10 @@ uint8_t rikzord_next_core(const uint8_t *file, size_t file_length, const uint8_t
  * are in crates/holding/specs/Holding.antt. */
 uint8_t rikzord_lowest(const uint8_t *run, size_t run_length, uint32_t span, uint8_t *answers, size_t answers_length);
 
+/* Beside the machine: whether every run of a task set's cores that ends between cycles ends as an order of whole cycles, as far as the variables
+ * tell. Draw a line between two cores when one reads a variable that the other writes. `lines` becomes 0 where no two cores read each other and the
+ * lines form no ring, which is where this is proved; 1 where two cores read each other; 2 where no two do and the lines form a ring. Answers the
+ * file's refusal number, and leaves `lines` then. The definitions are in crates/cycles/specs/Check.antt. */
+uint8_t rikzord_check_cycles(const uint8_t *file, size_t file_length, uint8_t *lines);
+
 #endif

@@ -13,6 +13,7 @@ ghost use Rattle.verdict.specs.Verdict.{next};
 ghost use Rattle.memory.specs.Memory.{splice, part};
 ghost use Rattle.taskset.specs.Judge.{judge};
 ghost use Rattle.runner.specs.Runs.{left};
+ghost use Rattle.cycles.specs.Check.{linesOf, refusalOf, kindOf};
 ghost use Rattle.holding.specs.Holding.{lowestRefusal, answersAfter};
 ghost use Rattle.lent.specs.Lent.{noCore, tableFrom, loaded, entries, counted, registersIn, recordWith, heldPlaces, heldOffsets, held, coreOf, recordAfter, acceptedOf, refusedOf, tableLeft, saved, lent, stepTable, stepLent, runTable, runLent, takenTable, takenLent, freshTable, freshLent, ringOf, noRing, placeAfter, recordMoves, scanned, answered, ringAnswer, nextLent, withRegisters, registersAfter, stepRegisters};
 
@@ -690,4 +691,17 @@ pub extern "C" fn rikzord_lowest(run: &[u8], span: u32, answers: &mut [u8]) -> u
     ensures { λ r. ⌜ (r ≡ lowestRefusal (now (run .entry)) span (length (now (answers .entry)))) × (now (answers .exit) ≡ answersAfter (now (run .entry)) span (now (answers .entry))) ⌝ }
 {
     holding::lowest(run, span, answers)
+}
+
+// ---- beside the machine: whether runs end as orders of whole cycles
+
+// The test of a task set file's lines (crate cycles). `lines` becomes 0 where no two cores read each other and no lines form a ring, 1 where two
+// cores read each other, 2 where there is a ring alone.
+#[no_mangle]
+pub extern "C" fn rikzord_check_cycles(file: &[u8], lines: &mut u8) -> u8
+    ensures { λ r. ⌜ (r ≡ refusalOf (linesOf (now (file .entry)))) × (now (lines .exit) ≡ kindOf (now (lines .entry)) (linesOf (now (file .entry)))) ⌝ }
+{
+    let answer = cycles::check_cycles(file);
+    *lines = cycles::kind_of(*lines, answer);
+    cycles::refusal_of(answer)
 }

@@ -143,7 +143,7 @@ module _ (f t : List ℕ) (ok : Set f t) (x : Left) (w : Lendable f t x) where
   unfolding heldRefusal
   held = next-none _ _ (ok .trace) (not-refused f t ok (x .answer .state) (x .memory) (x .shared) (w .sized) (w .count, w .fit))
 
-  step-granted : (k : ℕ) → k < cores f → stepCall f t (x .answer .state) (x .memory) (x .shared) k ≡ stepped f t (x .answer .state) (x .memory) (x .shared) k
+  pub step-granted : (k : ℕ) → k < cores f → stepCall f t (x .answer .state) (x .memory) (x .shared) k ≡ stepped f t (x .answer .state) (x .memory) (x .shared) k
   unfolding stepCall stepRefusal
   step-granted k l = pick-true _ _ _ (eq-eqb _ _ (refuse-none f t (x .answer .state) _ _ true _ (ok .file) fits refl held (lt-ltb k (cores f) l)))
 
@@ -361,7 +361,7 @@ module _ (f t : List ℕ) (bytes : (i : ℕ) → getD f i 0 < 256) (trace-bytes 
     pub fresh-whole : cores f ≤ 4 → wholeOf f (freshCall f d sh) ≡ fresh (sizesOf f)
     fresh-whole few = ap (wholeOf f) fresh-zeroed ∙ fresh-state f few
 
-    fresh-lendable : Set f t → Lendable f t (freshCall f d sh)
+    pub fresh-lendable : Set f t → Lendable f t (freshCall f d sh)
     unfolding tableOf
     fresh-lendable ok = subst (Lendable f t) (sym fresh-zeroed) record {
       count = refl;

@@ -1,0 +1,5 @@
+pub mod Serial
+pub mod Check
+pub mod Rings
+pub mod Files
+pub mod Shown
