@@ -80,6 +80,11 @@ int main(void) {
     expect(taken == 2 && list[0] == 0 && list[1] == 16 && list[2] == 9, "its takings; bytes after those stay");
     expect(rikzord_next_core(task, sizeof task, trace, sizeof trace, table, 1, holder, 0, &found) == 0 && found == 255, "no core moves");
 
+    /* the lines between its cores: of one core there are none */
+    uint8_t lines = 77;
+    expect(rikzord_check_cycles(task, 3, &lines) == 1 && lines == 77, "a refused check leaves its byte");
+    expect(rikzord_check_cycles(task, sizeof task, &lines) == 0 && lines == 0, "the lines are free");
+
     printf("core mode cycles flags count\n");
     printf("0 %u %u %u %u\n", table[0].mode, table[0].cycles, table[0].flags, table[0].count);
     printf("order");

@@ -4,6 +4,7 @@
 //! its core. A core table where no core can move answers `NOTHING`.
 
 use crate::interface::{Machine, Next};
+use crate::lines::Lines;
 use crate::reference::{mode, refusal, Core, WRITING_MARK};
 
 const NOTHING: u8 = 255;
@@ -70,6 +71,8 @@ extern "C" {
     ) -> u8;
 
     fn rikzord_lowest(run: *const u8, run_len: usize, span: u32, answers: *mut u8, answers_len: usize) -> u8;
+
+    fn rikzord_check_cycles(file: *const u8, file_len: usize, lines: *mut u8) -> u8;
 }
 
 /// The machine of `liblent.a`.
@@ -192,4 +195,19 @@ impl Machine for Linked {
 pub fn lowest(run: &[u8], span: u32, answers: &mut [u8]) -> u8 {
     // Safety: as above.
     unsafe { rikzord_lowest(run.as_ptr(), run.len(), span, answers.as_mut_ptr(), answers.len()) }
+}
+
+/// The lines between cores, of `liblent.a`. A refused call leaves the byte.
+pub fn check_cycles(file: &[u8]) -> Lines {
+    const UNTOUCHED: u8 = 77;
+    let mut lines = UNTOUCHED;
+    // Safety: as above.
+    let number = unsafe { rikzord_check_cycles(file.as_ptr(), file.len(), &mut lines) };
+    match (number, lines) {
+        (refusal::NONE, 0) => Lines::Free,
+        (refusal::NONE, 1) => Lines::EachOther,
+        (refusal::NONE, 2) => Lines::Ringed,
+        (1.., UNTOUCHED) => Lines::Refused(number),
+        _ => panic!("the call answers {number} and {lines}"),
+    }
 }

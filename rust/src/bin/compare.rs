@@ -5,6 +5,7 @@
 use rikzord_comparison::comparison::compare;
 use rikzord_comparison::holding;
 use rikzord_comparison::interface::{Reference, Stepwise};
+use rikzord_comparison::lines;
 
 fn main() {
     let mut numbers = std::env::args().skip(1).map(|number| number.parse().expect("a number"));
@@ -22,7 +23,12 @@ fn main() {
     #[cfg(not(feature = "linked"))]
     let lowest = holding::compare(holding::lowest, holding::lowest, seed as u64, rounds);
     lowest.print();
-    let missing = [tally.missing(), lowest.missing()].concat();
+    #[cfg(feature = "linked")]
+    let lines = lines::compare(lines::check, rikzord_comparison::linked::check_cycles, seed as u64, rounds);
+    #[cfg(not(feature = "linked"))]
+    let lines = lines::compare(lines::check, lines::check, seed as u64, rounds);
+    lines.print();
+    let missing = [tally.missing(), lowest.missing(), lines.missing()].concat();
     assert!(missing.is_empty(), "never came: {missing:?}");
     println!("{rounds} rounds: the reference and {second} agree");
 }
