@@ -1,4 +1,5 @@
--- The test of the condition. In order: a walk over the variables; that the answer is exact; what each return of the test shows. Assumes nothing.
+-- The test of the condition. In order: a walk over the variables; that the answer is exact; what each return of the test shows. Not
+-- here: pairs and rings as the code tries them (`Rings`). Assumes nothing.
 use mathlib.Core.Path.{_≡_, refl, sym, ap, _∙_, subst}
 use mathlib.Core.Bool.{Bool, true, false, not}
 use mathlib.Core.List.{List}
@@ -8,6 +9,7 @@ use native.Mathlib.Omega.{arith}
 use lib.Dec.{T, eqb}
 use borrow.Author.Tests.{eq-eqb, ne-eqb, eqb-true, eqb-false}
 use Rattle.verdict.specs.Verdict.{pick, both, either}
+use Rattle.verdict.proofs.Truth.{holds, tested, fails, either-skip, either-stop, not-not}
 use Rattle.verdict.proofs.Verdict.{absurd-bool}
 use Rattle.protocol.specs.Variables.{Variable, readsIt, writesIt}
 use Rattle.protocol.specs.Cycles.{readsFrom, lineBetween, OneWay, NoRing, oneWay, noRing}
@@ -16,10 +18,9 @@ use Rattle.records.specs.File.{variables, variableAt}
 use Rattle.taskset.specs.Judge.{judge}
 use Rattle.taskset.specs.Task.{listed, variablesOf}
 use Rattle.cycles.specs.Serial.{Ringless}
-use Rattle.cycles.specs.Check.{linesOf, refusalOf, kindOf, Checked}
+use Rattle.cycles.specs.Check.{linesOf, linesRefusal, linesByte, Checked}
 use Rattle.cycles.specs.declared.Lines.{Lines}
 use Rattle.cycles.specs.declared.Lines.the-variants.{Refused, Free, EachOther, Ringed}
-use Rattle.cycles.proofs.Rings.{either-skip, either-stop, not-not}
 
 -- ---- a walk over the variables
 
@@ -29,13 +30,13 @@ module _ (f : List ℕ) (r w : ℕ) where
   passes i = both (readsIt r (variableAt f i)) (writesIt w (variableAt f i))
 
   -- none of the first i is such a one
-  pub record Looking (i : ℕ) : Type 0 where
+  pub record NoneBefore (i : ℕ) : Type 0 where
     pub inside : i ≤ variables f
     pub rest : readsFrom (variablesOf f) r w ≡ readsFrom (listed (variableAt f) (variables f - i) i) r w
 
-  pub looking-none : Looking 0
+  pub none-at-first : NoneBefore 0
   unfolding variablesOf
-  looking-none =
+  none-at-first =
       let e : variables f ≡ variables f - 0 = omega arith in
       record { inside = omega arith; rest = ap (λ (n : ℕ). readsFrom (listed (variableAt f) n 0) r w) e }
 
@@ -46,15 +47,15 @@ module _ (f : List ℕ) (r w : ℕ) where
       ap (λ (n : ℕ). readsFrom (listed (variableAt f) n i) r w) e
       ∙ ap (λ (n : ℕ). either (passes i) (readsFrom (listed (variableAt f) (variables f - (i + 1)) n) r w)) (sym (add-one i))
 
-  pub looking-found : (i : ℕ) → Looking i → i < variables f → passes i ≡ true → true ≡ readsFrom (variablesOf f) r w
-  looking-found i l h e = either-stop _ e ∙ sym (here i h) ∙ sym (l .rest)
+  pub found-here : (i : ℕ) → NoneBefore i → i < variables f → passes i ≡ true → true ≡ readsFrom (variablesOf f) r w
+  found-here i l h e = either-stop _ e ∙ sym (here i h) ∙ sym (l .rest)
 
-  pub looking-more : (i : ℕ) → Looking i → i < variables f → passes i ≡ false → Looking (i + 1)
-  looking-more i l h e = record { inside = omega arith; rest = l .rest ∙ here i h ∙ sym (either-skip e refl) }
+  pub none-here : (i : ℕ) → NoneBefore i → i < variables f → passes i ≡ false → NoneBefore (i + 1)
+  none-here i l h e = record { inside = omega arith; rest = l .rest ∙ here i h ∙ sym (either-skip e refl) }
 
-  pub looking-end : (i : ℕ) → Looking i → variables f ≤ i → false ≡ readsFrom (variablesOf f) r w
+  pub none-at-all : (i : ℕ) → NoneBefore i → variables f ≤ i → false ≡ readsFrom (variablesOf f) r w
   unfolding listed
-  looking-end i l h =
+  none-at-all i l h =
       let e : variables f - i ≡ 0 = omega arith in
       sym (l .rest ∙ ap (λ (n : ℕ). readsFrom (listed (variableAt f) n i) r w) e)
 
@@ -66,7 +67,7 @@ answer accepted one none n = pick accepted (pick one (pick none Free Ringed) Eac
 
 -- a number for each case, so that cases differ as numbers do
 unfoldable case : Lines → ℕ
-case x = kindOf 3 x
+case x = linesByte 3 x
 
 free-tests : (a o n : Bool) (m : ℕ) → case (answer a o n m) ≡ 0 → (a ≡ true) × (o ≡ true) × (n ≡ true)
 unfolding answer pick case
@@ -96,20 +97,6 @@ refused-tests true true false m e = absurd (let z : ⊥ = omega arith in z)
 refused-tests true false n m e = absurd (let z : ⊥ = omega arith in z)
 refused-tests false o n m e = refl
 
-holds : (b : Bool) → T b → b ≡ true
-holds true h = refl
-holds false h = absurd h
-
-fails : (b : Bool) → (T b → ⊥) → b ≡ false
-fails true h = absurd (h tt)
-fails false h = refl
-
-of-true : (b : Bool) → b ≡ true → T b
-of-true b e = subst T (sym e) tt
-
-not-true : (b : Bool) → b ≡ false → T b → ⊥
-not-true b e h = subst T e h
-
 module _ (f : List ℕ) where
   abbrev vs : List Variable
   vs = variablesOf f
@@ -129,10 +116,10 @@ module _ (f : List ℕ) where
 
   -- the tests are those of the definitions
   one-holds : one ≡ true → OneWay (readsFrom vs)
-  one-holds e = one-way (readsFrom vs) (low-reads vs) (of-true one e)
+  one-holds e = one-way (readsFrom vs) (low-reads vs) (tested one e)
 
   none-holds : none ≡ true → NoRing (lineBetween vs)
-  none-holds e = no-ring (lineBetween vs) (low-lines vs) (of-true none e)
+  none-holds e = no-ring (lineBetween vs) (low-lines vs) (tested none e)
 
   one-true : OneWay (readsFrom vs) → one ≡ true
   one-true h = holds one (way-one (readsFrom vs) h)
@@ -152,7 +139,7 @@ module _ (f : List ℕ) where
   checked = record {
     refused = λ n. (
       λ e. let a : eqb (judge f) 0 ≡ false = refused-tests (eqb (judge f) 0) one none (judge f) (case-of (Refused n) e) in
-          let q : judge f ≡ n = ap refusalOf (sym (is-answer ∙ ap (λ (b : Bool). told b one none) a) ∙ e) in
+          let q : judge f ≡ n = ap linesRefusal (sym (is-answer ∙ ap (λ (b : Bool). told b one none) a) ∙ e) in
           (q, λ z. eqb-false (judge f) 0 a (q ∙ z)),
       λ h. is-answer ∙ ap (λ (b : Bool). told b one none) (ne-eqb (judge f) 0 (λ z. h .1 (sym (h .0) ∙ z))) ∙ ap Refused (h .0),
     );

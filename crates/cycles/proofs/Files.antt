@@ -1,5 +1,6 @@
 -- The files of specs/Files by computation: they are accepted, their traces are sound, and what their steps come to.
--- In order: what computes; a core of the ring; the listing; the ring; the open ring. Assumes nothing.
+-- In order: what computes; a core of the ring; the listing; the ring; the open ring. Not here: orders of whole cycles
+-- of the ring (`Ring`). Assumes nothing.
 use mathlib.Core.Path.{_≡_, refl, sym, _∙_}
 use mathlib.Core.Logic.{inl, inr}
 use mathlib.Core.List.{[], _∷_}
@@ -29,7 +30,7 @@ use Rattle.taskset.specs.Trace.{tracePlace, traceRefusal}
 use Rattle.taskset.specs.Task.{listed, sizesOf, variablesOf, sampleAt, samplesOf}
 use Rattle.states.specs.Task.{taskOf}
 use Rattle.cycles.specs.Files.{listingFile, listingTrace, listingSteps, ringFile, openFile, ringTrace, ringSteps, openSteps}
-use Rattle.cycles.specs.Shown.{after, Listing}
+use Rattle.cycles.specs.Shown.{stateAfter, Listing}
 
 -- ---- what computes, on an `unfolding` line
 
@@ -44,15 +45,15 @@ unfolding files pick next unless first part valueLE readLE takes layoutOf length
 judging = tt
 
 -- the cores move, with NOT and RETURN for instructions
-unfoldable pub moving : Unit {0}
+unfoldable pub steps-compute : Unit {0}
 unfolding files pick part valueLE readLE bytesLE splice listed sizesOf variablesOf sampleAt samplesOf codePlace tracePlace readsIt writesIt layoutOf lengthOf typedAt instructionAt instructionLength widthOf typed patternOf stored onBits NOT result resultType resultWidth secondWidth command zeroDivisor beyond performed placeOf dataPart meaning executed applied limited instructionBy warm advanced cycleEnded readAcquired byteCopied readReleased writeAcquired writeReleased readTaken readNext readDone writeTaken writeNext writeDone step takingOf wholeOne cycle taskOf
-moving = tt
+steps-compute = tt
 
 -- ---- a core of the ring
 
 -- after its cycle, with what it read and what it wrote
-abbrev pub ended : ℕ → ℕ → Core
-ended input output = record {
+abbrev pub ringCore : ℕ → ℕ → Core
+ringCore input output = record {
   registers = record { mode = 0; counter = 6; offset = 0; depth = 0; count = 2; exchange = 0; cycles = 1; flags = 0; time = 0 };
   stack = record { places = replicate 16 0; offsets = replicate 16 0 };
   memory = input ∷ output ∷ [];
@@ -68,13 +69,13 @@ listing-sound : traceRefusal listingFile listingTrace ≡ 0
 unfolding judging
 listing-sound = refl
 
-listing-between : Between (after listingFile listingTrace listingSteps)
-unfolding moving
+listing-between : Between (stateAfter listingFile listingTrace listingSteps)
+unfolding steps-compute
 listing-between zero = inl refl
 listing-between (suc k) = inr refl
 
 pub listing-shown : Listing
-unfolding moving
+unfolding steps-compute
 listing-shown = record { accepted = listing-accepted; sound = listing-sound; between = listing-between; cycles-done = refl; flags = refl; counted = refl; taken = refl }
 
 -- ---- the ring
@@ -88,7 +89,7 @@ unfolding judging
 ring-sound = refl
 
 pub ring-one-way : T (oneWay (readsFrom (variablesOf ringFile)))
-unfolding moving
+unfolding steps-compute
 ring-one-way = tt
 
 -- ---- the open ring
@@ -102,29 +103,29 @@ unfolding judging
 open-sound = refl
 
 pub open-one-way : T (oneWay (readsFrom (variablesOf openFile)))
-unfolding moving
+unfolding steps-compute
 open-one-way = tt
 
 pub open-ringless : T (noRing (lineBetween (variablesOf openFile)))
-unfolding moving
+unfolding steps-compute
 open-ringless = tt
 
 -- cores 0 and 1 have written 1 to shared memory; core 2's place 1 is no variable
 openEnd : State
-openEnd = record { plant = record { cores = ended 0 1 ∷ ended 0 1 ∷ ended 0 1 ∷ []; shared = 1 ∷ 1 ∷ replicate 1022 0 }; holder = 0 }
+openEnd = record { plant = record { cores = ringCore 0 1 ∷ ringCore 0 1 ∷ ringCore 0 1 ∷ []; shared = 1 ∷ 1 ∷ replicate 1022 0 }; holder = 0 }
 
-open-mixed : after openFile ringTrace ringSteps ≡ openEnd
-unfolding moving openEnd
+open-mixed : stateAfter openFile ringTrace ringSteps ≡ openEnd
+unfolding steps-compute openEnd
 open-mixed = refl
 
-open-in-order : after openFile ringTrace openSteps ≡ openEnd
-unfolding moving openEnd
+open-in-order : stateAfter openFile ringTrace openSteps ≡ openEnd
+unfolding steps-compute openEnd
 open-in-order = refl
 
-pub open-one-by-one : after openFile ringTrace openSteps ≡ after openFile ringTrace ringSteps
+pub open-one-by-one : stateAfter openFile ringTrace openSteps ≡ stateAfter openFile ringTrace ringSteps
 open-one-by-one = open-in-order ∙ sym open-mixed
 
-pub open-between : Between (after openFile ringTrace ringSteps)
+pub open-between : Between (stateAfter openFile ringTrace ringSteps)
 unfolding openEnd
 open-between zero = inl (rw open-mixed)
 open-between (suc zero) = inl (rw open-mixed)

@@ -1,5 +1,6 @@
 -- The tests of crate protocol, specs/Cycles, as the code makes them: by pairs of cores, and by the seven rings of four cores.
--- In order: chains of tests; a relation of four cores as twelve truth values; pairs; rings. Assumes nothing.
+-- In order: a relation of four cores as truth values; pairs; rings. Not here: that the tests are those of the definitions (crate protocol, proofs/Tests).
+-- Assumes nothing.
 use mathlib.Core.Path.{_≡_, refl, sym, ap, _∙_}
 use mathlib.Core.Bool.{Bool, true, false, not}
 use mathlib.Core.List.{List, [], _∷_}
@@ -9,38 +10,9 @@ use lib.ListN.{getD}
 use Rattle.verdict.specs.Verdict.{both, either}
 use Rattle.protocol.specs.Variables.{Variable}
 use Rattle.protocol.specs.Cycles.{readsFrom, lineBetween, every, oneWay, noRing}
+use Rattle.verdict.proofs.Truth.{both-swap, either-swap, not-not}
 use Rattle.verdict.proofs.Verdict.{both-true}
 use Rattle.cycles.specs.Rings.{closed}
-
--- ---- chains of tests
-
-pub either-skip : {a b r : Bool} → a ≡ false → r ≡ b → r ≡ either a b
-either-skip {b = b} e q = q ∙ ap (λ (x : Bool). either x b) (sym e)
-
-pub either-stop : {a : Bool} (b : Bool) → a ≡ true → true ≡ either a b
-either-stop b e = ap (λ (x : Bool). either x b) (sym e)
-
-pub both-skip : {a b r : Bool} → a ≡ true → r ≡ b → r ≡ both a b
-both-skip {b = b} e q = q ∙ ap (λ (x : Bool). both x b) (sym e)
-
-pub both-stop : {a : Bool} (b : Bool) → a ≡ false → false ≡ both a b
-both-stop b e = ap (λ (x : Bool). both x b) (sym e)
-
-both-swap : (a b : Bool) → both a b ≡ both b a
-both-swap true true = refl
-both-swap true false = refl
-both-swap false true = refl
-both-swap false false = refl
-
-either-swap : (a b : Bool) → either a b ≡ either b a
-either-swap true true = refl
-either-swap true false = refl
-either-swap false true = refl
-either-swap false false = refl
-
-pub not-not : (a : Bool) → not (not a) ≡ a
-not-not true = refl
-not-not false = refl
 
 -- ---- a relation of four cores
 

@@ -1,5 +1,5 @@
 -- Document 02, 2.9, of the real machine: crate protocol's theorem, with its hypotheses met by acceptance and by document 01's instructions.
--- In order: the theorem; the conditions as tests; whole cycles as steps; of calls. Assumes nothing.
+-- In order: the theorem; the conditions as tests; whole cycles as steps; of calls. Not here: the test of a file's lines (`Check`). Assumes nothing.
 use mathlib.Core.Path.{_≡_, refl, sym, ap, _∙_, subst}
 use mathlib.Core.Bool.{Bool, true, false}
 use mathlib.Core.List.{List, [], _∷_}

@@ -1,4 +1,4 @@
--- The listing, the ring and the open ring: all that specs/Shown says of them. Assumes nothing.
+-- The listing, the ring and the open ring: all that specs/Shown says of them, put together from `Files` and `Ring`. Assumes nothing.
 use mathlib.Core.Path.{_≡_, refl, sym, ap, _∙_}
 use mathlib.Core.Logic.{inl, inr}
 use mathlib.Core.List.{[], _∷_}
@@ -12,30 +12,30 @@ use Rattle.taskset.specs.Task.{sizesOf, variablesOf}
 use Rattle.states.specs.Task.{taskOf}
 use Rattle.cycles.specs.Serial.{Ringless}
 use Rattle.cycles.specs.Files.{ringFile, openFile, ringTrace, ringSteps}
-use Rattle.cycles.specs.Shown.{after, InRing, Open, Shown}
+use Rattle.cycles.specs.Shown.{stateAfter, InRing, Open, Shown}
 use Rattle.cycles.proofs.Serial.{serial-machine, by-tests}
-use Rattle.cycles.proofs.Files.{moving, listing-shown, ring-accepted, ring-sound, ring-one-way, open-accepted, open-sound, open-one-way, open-ringless, open-between, open-one-by-one}
+use Rattle.cycles.proofs.Files.{steps-compute, listing-shown, ring-accepted, ring-sound, ring-one-way, open-accepted, open-sound, open-one-way, open-ringless, open-between, open-one-by-one}
 use Rattle.cycles.proofs.Ring.{nothing, wrote1, plant, no-order}
 
 -- ---- the ring
 
 ring-start : fresh (sizesOf ringFile) .plant ≡ plant nothing nothing nothing
-unfolding moving
+unfolding steps-compute
 ring-start = refl
 
 -- each core has written 1
-ring-end : after ringFile ringTrace ringSteps .plant ≡ plant wrote1 wrote1 wrote1
-unfolding moving
+ring-end : stateAfter ringFile ringTrace ringSteps .plant ≡ plant wrote1 wrote1 wrote1
+unfolding steps-compute
 ring-end = refl
 
-ring-between : Between (after ringFile ringTrace ringSteps)
+ring-between : Between (stateAfter ringFile ringTrace ringSteps)
 ring-between zero = inl (rw ring-end)
 ring-between (suc zero) = inl (rw ring-end)
 ring-between (suc (suc zero)) = inl (rw ring-end)
 ring-between (suc (suc (suc k))) = inr (rw ring-end)
 
 ring-closes : Ring (lineBetween (variablesOf ringFile)) (0 ∷ 1 ∷ 2 ∷ [])
-unfolding moving
+unfolding steps-compute
 ring-closes = ring-of (lineBetween (variablesOf ringFile)) 0 (1 ∷ 2 ∷ []) tt
 
 ring-shown : InRing

@@ -1,5 +1,6 @@
 -- A whole cycle is steps of its core alone: from a state at rest, a core with a record left comes to rest again, by one reading and at most one
--- writing. In order: a core alone; writing; execution; reading; a cycle; orders of cycles. Assumes nothing.
+-- writing. In order: a core alone; writing; execution; reading; a cycle; orders of cycles. Not here: which order a run ends
+-- as (crate protocol, proofs/Cycles). Assumes nothing.
 use mathlib.Core.Path.{_≡_, refl, sym, ap, _∙_, subst}
 use mathlib.Core.Logic.{_≢_, _⊎_, inl, inr}
 use mathlib.Core.List.{List, [], _∷_, _++_}

@@ -25,18 +25,18 @@ linesOf f =
 -- ---- its numbers
 
 -- the refusal number, 0 for none
-abbrev pub refusalOf : Lines → ℕ
-refusalOf (Refused n) = n
-refusalOf Free = 0
-refusalOf EachOther = 0
-refusalOf Ringed = 0
+abbrev pub linesRefusal : Lines → ℕ
+linesRefusal (Refused n) = n
+linesRefusal Free = 0
+linesRefusal EachOther = 0
+linesRefusal Ringed = 0
 
 -- the byte that says which, where x stood in it; a refused call leaves it
-abbrev pub kindOf : ℕ → Lines → ℕ
-kindOf x (Refused n) = x
-kindOf x Free = 0
-kindOf x EachOther = 1
-kindOf x Ringed = 2
+abbrev pub linesByte : ℕ → Lines → ℕ
+linesByte x (Refused n) = x
+linesByte x Free = 0
+linesByte x EachOther = 1
+linesByte x Ringed = 2
 
 -- ---- what it says
 

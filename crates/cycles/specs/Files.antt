@@ -1,4 +1,5 @@
 -- Task set files byte by byte, with traces and orders of steps. In order: document 01's listing; three cores in a ring; the same ring, open.
+-- Not here: what is shown of them (specs/Shown).
 use mathlib.Core.List.{List, [], _∷_, _++_}
 use Prim.Native.Nat.{ℕ}
 use lib.ListN.{replicate}

@@ -1,4 +1,4 @@
--- What the inner functions of the test promise; a reader of the claim needs only specs/Check.
+-- What the inner functions of the test promise; a reader of the claim needs only specs/Check. Not here: what a ring is (crate protocol, specs/Cycles).
 use mathlib.Core.Bool.{Bool}
 use Rattle.verdict.specs.Verdict.{both, either}
 

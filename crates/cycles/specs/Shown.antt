@@ -1,5 +1,6 @@
 -- What is shown of the files of specs/Files: they are accepted, so that the theorems on accepted files say something; the ring, for which no order of
--- whole cycles does; and the open ring, for which one does. `shown` of proofs/Shown proves all three.
+-- whole cycles does; and the open ring, for which one does. `shown` of proofs/Shown proves all three. Not here: the files
+-- themselves (specs/Files), and the theorem on every file (specs/Serial).
 use mathlib.Core.Path.{_≡_}
 use mathlib.Core.Logic.{_≢_}
 use mathlib.Core.List.{List, [], _∷_, map}
@@ -18,17 +19,17 @@ use Rattle.cycles.specs.Serial.{Ringless, MachineSerial}
 use Rattle.cycles.specs.Files.{listingFile, listingTrace, listingSteps, ringFile, openFile, ringTrace, ringSteps, openSteps}
 
 -- the state after the steps ks from the fresh state
-abbrev pub after : List ℕ → List ℕ → List ℕ → State
-after f t ks = run (taskOf f t) ks (fresh (sizesOf f))
+abbrev pub stateAfter : List ℕ → List ℕ → List ℕ → State
+stateAfter f t ks = run (taskOf f t) ks (fresh (sizesOf f))
 
 -- document 01's listing prints "0 0 1 0 1" and "order 0r 0w"
 pub record Listing : Type 0 where
   pub accepted : judge listingFile ≡ 0
   pub sound : traceRefusal listingFile listingTrace ≡ 0
-  pub between : Between (after listingFile listingTrace listingSteps)
-  pub cycles-done : core (after listingFile listingTrace listingSteps .plant) 0 .registers .cycles ≡ 1
-  pub flags : core (after listingFile listingTrace listingSteps .plant) 0 .registers .flags ≡ 0
-  pub counted : core (after listingFile listingTrace listingSteps .plant) 0 .registers .count ≡ 1
+  pub between : Between (stateAfter listingFile listingTrace listingSteps)
+  pub cycles-done : core (stateAfter listingFile listingTrace listingSteps .plant) 0 .registers .cycles ≡ 1
+  pub flags : core (stateAfter listingFile listingTrace listingSteps .plant) 0 .registers .flags ≡ 0
+  pub counted : core (stateAfter listingFile listingTrace listingSteps .plant) 0 .registers .count ≡ 1
   pub taken : takings (taskOf listingFile listingTrace) listingSteps (fresh (sizesOf listingFile)) ≡ reading 0 ∷ writing 0 ∷ []
 
 -- Three cores in a ring, no two of which read each other, and a run that no order of whole cycles matches
@@ -38,21 +39,21 @@ pub record InRing : Type 0 where
   pub one-way : OneWay (readsFrom (variablesOf ringFile))
   pub ring : Ring (lineBetween (variablesOf ringFile)) (0 ∷ 1 ∷ 2 ∷ [])
   -- every core ends between cycles, and has written NOT of a start value
-  pub modes : map mode (after ringFile ringTrace ringSteps .plant .cores) ≡ 0 ∷ 0 ∷ 0 ∷ []
-  pub between : Between (after ringFile ringTrace ringSteps)
-  pub wrote : value (after ringFile ringTrace ringSteps .plant .shared) 0 3 ≡ 1 ∷ 1 ∷ 1 ∷ []
+  pub modes : map mode (stateAfter ringFile ringTrace ringSteps .plant .cores) ≡ 0 ∷ 0 ∷ 0 ∷ []
+  pub between : Between (stateAfter ringFile ringTrace ringSteps)
+  pub wrote : value (stateAfter ringFile ringTrace ringSteps .plant .shared) 0 3 ≡ 1 ∷ 1 ∷ 1 ∷ []
   -- whole cycles in any order, as many as one likes, end differently
-  pub no-order : (order : List ℕ) → cycles (taskOf ringFile ringTrace) order (fresh (sizesOf ringFile) .plant) ≢ after ringFile ringTrace ringSteps .plant
+  pub no-order : (order : List ℕ) → cycles (taskOf ringFile ringTrace) order (fresh (sizesOf ringFile) .plant) ≢ stateAfter ringFile ringTrace ringSteps .plant
 
 -- The ring with one variable fewer: the same steps end as an order of whole cycles
 pub record Open : Type 0 where
   pub accepted : judge openFile ≡ 0
   pub sound : traceRefusal openFile ringTrace ≡ 0
   pub ringless : Ringless openFile
-  pub between : Between (after openFile ringTrace ringSteps)
+  pub between : Between (stateAfter openFile ringTrace ringSteps)
   pub serial : MachineSerial openFile ringTrace ringSteps
   -- such an order, step by step
-  pub one-by-one : after openFile ringTrace openSteps ≡ after openFile ringTrace ringSteps
+  pub one-by-one : stateAfter openFile ringTrace openSteps ≡ stateAfter openFile ringTrace ringSteps
 
 pub record Shown : Type 0 where
   pub listing : Listing

@@ -11,7 +11,7 @@ ghost use Rattle.protocol.specs.Cycles.{readsFrom, lineBetween, oneWay, noRing}
 ghost use Rattle.records.specs.File.{variableIn};
 ghost use Rattle.taskset.specs.Judge.{judge};
 ghost use Rattle.taskset.specs.Task.{variablesOf};
-ghost use Rattle.cycles.specs.Check.{linesOf, refusalOf, kindOf};
+ghost use Rattle.cycles.specs.Check.{linesOf, linesRefusal, linesByte};
 ghost use Rattle.cycles.specs.Rings.{closed};
 
 // A variable's record has 12 bytes, a core's 6.
@@ -186,8 +186,8 @@ pub fn check_cycles(file: &[u8]) -> Lines
 // ---- its numbers
 
 // The refusal number of an answer, 0 for none.
-pub fn refusal_of(lines: Lines) -> u8
-    ensures { λ x. ⌜ x ≡ refusalOf lines ⌝ }
+pub fn lines_refusal(lines: Lines) -> u8
+    ensures { λ x. ⌜ x ≡ linesRefusal lines ⌝ }
 {
     match lines {
         Lines::Refused(n) => n,
@@ -198,8 +198,8 @@ pub fn refusal_of(lines: Lines) -> u8
 }
 
 // The byte that says which, where `before` stood in it: 0 free, 1 cores that read each other, 2 a ring. A refusal leaves it.
-pub fn kind_of(before: u8, lines: Lines) -> u8
-    ensures { λ x. ⌜ x ≡ kindOf before lines ⌝ }
+pub fn lines_byte(before: u8, lines: Lines) -> u8
+    ensures { λ x. ⌜ x ≡ linesByte before lines ⌝ }
 {
     match lines {
         Lines::Refused(n) => before,

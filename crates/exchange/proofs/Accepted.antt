@@ -10,7 +10,7 @@ use Rattle.verdict.specs.Items.{OneOf}
 use Rattle.protocol.specs.Variables.{Variable, readsIt, writesIt}
 use Rattle.records.specs.File.{variableAt}
 use Rattle.records.specs.Records.{named}
-use Rattle.records.proofs.Exact.{either-left, either-right}
+use Rattle.verdict.proofs.Truth.{either-left, either-right}
 use Rattle.taskset.specs.Judge.{judge}
 use Rattle.taskset.proofs.Exact.{keeps-rules, records-inside}
 use Rattle.exchange.specs.Exchange.{namedBy}

@@ -13,7 +13,7 @@ ghost use Rattle.verdict.specs.Verdict.{next};
 ghost use Rattle.memory.specs.Memory.{splice, part};
 ghost use Rattle.taskset.specs.Judge.{judge};
 ghost use Rattle.runner.specs.Runs.{left};
-ghost use Rattle.cycles.specs.Check.{linesOf, refusalOf, kindOf};
+ghost use Rattle.cycles.specs.Check.{linesOf, linesRefusal, linesByte};
 ghost use Rattle.holding.specs.Holding.{lowestRefusal, answersAfter};
 ghost use Rattle.lent.specs.Lent.{noCore, tableFrom, loaded, entries, counted, registersIn, recordWith, heldPlaces, heldOffsets, held, coreOf, recordAfter, acceptedOf, refusedOf, tableLeft, saved, lent, stepTable, stepLent, runTable, runLent, takenTable, takenLent, freshTable, freshLent, ringOf, noRing, placeAfter, recordMoves, scanned, answered, ringAnswer, nextLent, withRegisters, registersAfter, stepRegisters};
 
@@ -699,9 +699,9 @@ pub extern "C" fn rikzord_lowest(run: &[u8], span: u32, answers: &mut [u8]) -> u
 // cores read each other, 2 where there is a ring alone.
 #[no_mangle]
 pub extern "C" fn rikzord_check_cycles(file: &[u8], lines: &mut u8) -> u8
-    ensures { λ r. ⌜ (r ≡ refusalOf (linesOf (now (file .entry)))) × (now (lines .exit) ≡ kindOf (now (lines .entry)) (linesOf (now (file .entry)))) ⌝ }
+    ensures { λ r. ⌜ (r ≡ linesRefusal (linesOf (now (file .entry)))) × (now (lines .exit) ≡ linesByte (now (lines .entry)) (linesOf (now (file .entry)))) ⌝ }
 {
     let answer = cycles::check_cycles(file);
-    *lines = cycles::kind_of(*lines, answer);
-    cycles::refusal_of(answer)
+    *lines = cycles::lines_byte(*lines, answer);
+    cycles::lines_refusal(answer)
 }

@@ -1,5 +1,6 @@
 -- Exchanges of different cores can change places, but for a reading and a writing whose bytes it reads.
--- In order: copies; one form for both kinds of exchange; the three changes of places; what the variables say of the bytes. Assumes nothing.
+-- In order: copies; one form for both kinds of exchange; the three changes of places; what the variables say of the bytes. Not here: which
+-- exchanges a list of takings brings next to each other (`Order`). Assumes nothing.
 use mathlib.Core.Path.{_≡_, refl, sym, ap, _∙_}
 use mathlib.Core.Logic.{_≢_, _⊎_, inl, inr}
 use mathlib.Core.Bool.{Bool, true, false}
@@ -8,6 +9,7 @@ use Prim.Native.Nat.{ℕ, zero, suc}
 use lib.Dec.{T, eqb}
 use lib.ListN.{getD, set, drop}
 use lib.Seq.{getD-set-other, set-getD, set-comm}
+use Rattle.verdict.proofs.Truth.{of-both, either-left, either-right}
 use Rattle.protocol.specs.State.{Core, Plant, State, Task, Move, Sample, absent, core}
 use Rattle.protocol.specs.Step.{Taking, reading, writing, copy, readTaken, readDone, writeDone}
 use Rattle.protocol.specs.Whole.{execute, wholeRead, wholeWrite, wholeOne}
@@ -159,18 +161,6 @@ moves-turned named from to (v ∷ vs) m h = go (λ i. moves-turned named from to
     go : (In m (moves named from to vs) → In (turned m) (moves named to from vs)) → In m (pick (named v) (span (v .width) (from v) (to v)) []) ⊎ In m (moves named from to vs) → In (turned m) (moves named to from (v ∷ vs))
     go f (inl i) = in-left (turned m) (pick (named v) (span (v .width) (to v) (from v)) []) (moves named to from vs) (pick-turned (named v) (v .width) (from v) (to v) m i)
     go f (inr i) = in-right (turned m) (pick (named v) (span (v .width) (to v) (from v)) []) (moves named to from vs) (f i)
-
-pub either-left : (a b : Bool) → T a → T (either a b)
-either-left true b h = tt
-either-left false b h = absurd h
-
-pub either-right : (a b : Bool) → T b → T (either a b)
-either-right true b h = tt
-either-right false b h = h
-
-pub of-both : (a b : Bool) → T a → T b → T (both a b)
-of-both true b x y = y
-of-both false b x y = absurd x
 
 reads-it : (vs : List Variable) (r w : ℕ) (v : Variable) → In v vs → T (readsIt r v) → T (writesIt w v) → T (readsFrom vs r w)
 reads-it [] r w v i a b = absurd i

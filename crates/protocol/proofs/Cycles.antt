@@ -1,6 +1,6 @@
 -- Document 02, 2.9, of every list of steps: its takings are brought into whole cycles, one cycle after another.
 -- In order: readings and writings alternate; each reading finds its core ready; from takings to an order of cycles; the semaphore; the theorem.
--- Assumes nothing.
+-- Not here: real files and calls (crate cycles). Assumes nothing.
 use mathlib.Core.Path.{_≡_, refl, sym, ap, _∙_, subst}
 use mathlib.Core.Logic.{_≢_, _⊎_, inl, inr}
 use mathlib.Core.Bool.{Bool, true, false}

@@ -1,5 +1,5 @@
 -- A list of takings in which each core's readings and writings alternate, where no two cores read each other and the lines form no ring,
--- begins with a whole cycle, up to changes of places. Assumes nothing.
+-- begins with a whole cycle, up to changes of places. Not here: why exchanges can change places (`Commute`). Assumes nothing.
 use mathlib.Core.Path.{_≡_, refl, sym, ap, _∙_, subst}
 use mathlib.Core.Logic.{_≢_, _⊎_, inl, inr}
 use mathlib.Core.Bool.{Bool, true, false, not}
@@ -10,11 +10,12 @@ use native.Mathlib.Decide.{ℕ-discrete}
 use native.Mathlib.Omega.{arith}
 use lib.Dec.{T, eqb}
 use lib.ListN.{length}
+use Rattle.verdict.proofs.Truth.{either-left, either-right}
 use Rattle.protocol.specs.Step.{Taking, reading, writing}
 use Rattle.verdict.specs.Verdict.{pick, either}
 use Rattle.protocol.specs.Variables.{In}
 use Rattle.protocol.specs.Cycles.{OneWay, Different, Closes, NoRing, begun, howOften}
-use Rattle.protocol.proofs.Commute.{by, either-left, either-right}
+use Rattle.protocol.proofs.Commute.{by}
 
 -- core k's next taking: a reading where it is between cycles (false), else a writing
 abbrev pub due : Bool → ℕ → Taking

@@ -1,5 +1,5 @@
--- The tests of specs/Cycles say of at most four cores what the definitions say of any number. In order: tests put together; lines join cores below 4;
--- one way; rings. Assumes nothing.
+-- The tests of specs/Cycles say of at most four cores what the definitions say of any number. In order: a test of each core; lines join cores below 4;
+-- one way; rings. Not here: the tests as code makes them (crate cycles, proofs/Rings). Assumes nothing.
 use mathlib.Core.Path.{_≡_, refl, subst}
 use mathlib.Core.Logic.{_≢_, _⊎_, inl, inr}
 use mathlib.Core.Bool.{Bool, true, false, not}
@@ -9,20 +9,12 @@ use native.Mathlib.Omega.{arith}
 use lib.Dec.{T, eqb, eqb→eq, eqb-refl, ltb, ltb→lt, not-T, T-not}
 use lib.ListN.{length}
 use Rattle.verdict.specs.Verdict.{both, either}
+use Rattle.verdict.proofs.Truth.{both-of, of-both, either-of}
 use Rattle.protocol.specs.Variables.{In, Variable, readsIt, writesIt}
 use Rattle.protocol.specs.Cycles.{readsFrom, lineBetween, OneWay, Different, Closes, NoRing, every, oneWay, among, different, closes, noRing}
-use Rattle.protocol.proofs.Commute.{of-both}
 use Rattle.protocol.proofs.Order.{remove}
 
--- ---- tests put together
-
-both-of : (a b : Bool) → T (both a b) → T a × T b
-both-of true b h = (tt, h)
-both-of false b h = absurd h
-
-pub either-of : (a b : Bool) → T (either a b) → T a ⊎ T b
-either-of true b h = inl tt
-either-of false b h = inr h
+-- ---- a test of each core
 
 pub every-of : (f : ℕ → Bool) → T (every f) → (k : ℕ) → k < 4 → T (f k)
 every-of f h zero l = both-of (f 0) (both (f 1) (both (f 2) (f 3))) h .0

@@ -10,6 +10,7 @@ use native.Mathlib.Omega.{arith}
 use borrow.Author.Tests.{lt-ltb, le-leb, eq-eqb, ltb-true, ltb-false, leb-true, eqb-true, eqb-false}
 use lib.Dec.{T, ltb, leb, eqb, lit<}
 use Rattle.verdict.specs.Verdict.{pick, both, either, within}
+use Rattle.verdict.proofs.Truth.{holds, tested, fails, either-left, either-right}
 use Rattle.verdict.proofs.Verdict.{absurd-bool, both-true, both-not, inside, inside-true}
 use Rattle.protocol.specs.Variables.{Variable, local, readsIt, writesIt, Clear}
 use Rattle.code.specs.Code.{isWidth}
@@ -19,25 +20,6 @@ use Rattle.records.specs.Records.{coreOk, bit, oneWriter, named, placeOk
 use Rattle.records.specs.Rules.{CoreRules, Writer, VariableRules, Apart}
 
 -- ---- tests and bits
-
-pub holds : (b : Bool) → T b → b ≡ true
-holds true t = refl
-holds false t = absurd t
-
-pub tested : (b : Bool) → b ≡ true → T b
-tested b e = subst T (sym e) tt
-
-fails : (b : Bool) → (T b → ⊥) → b ≡ false
-fails true h = absurd (h tt)
-fails false h = refl
-
-pub either-left : (a b : Bool) → T a → T (either a b)
-either-left true b t = tt
-either-left false b t = absurd t
-
-pub either-right : (a b : Bool) → T b → T (either a b)
-either-right true b t = tt
-either-right false b t = t
 
 either-none : (a b : Bool) → either a b ≡ false → (a ≡ false) × (b ≡ false)
 either-none true b e = absurd-bool (sym e)

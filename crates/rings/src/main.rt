@@ -13,8 +13,8 @@ fn case(label: &[u8], file: &[u8]) {
     let lines = cycles::check_cycles(file);
     text(label);
     text(b":");
-    number(cycles::refusal_of(lines));
-    number(cycles::kind_of(77, lines));
+    number(cycles::lines_refusal(lines));
+    number(cycles::lines_byte(77, lines));
     text(b"\n");
 }
 

@@ -21,7 +21,7 @@ use Rattle.code.proofs.Exact.{accepted-code}
 use Rattle.records.specs.File.{cores, dataSize, variables, recordPlace, variableAt}
 use Rattle.records.specs.Records.{named}
 use Rattle.records.specs.Rules.{CoreRules, VariableRules}
-use Rattle.records.proofs.Exact.{either-left}
+use Rattle.verdict.proofs.Truth.{either-left}
 use Rattle.taskset.specs.Judge.{codePlace, codeOf, judge}
 use Rattle.taskset.specs.Layout.{basePlace, coreAt, coreLayout, layoutOf, noLayout, loadOf}
 use Rattle.taskset.specs.Rules.{WellFormed}

@@ -1,2 +1,3 @@
+pub mod Truth
 pub mod Verdict
 pub mod Items

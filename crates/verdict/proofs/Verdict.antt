@@ -1,12 +1,13 @@
 -- Laws of `specs/Verdict`. Callers prove by these, never by unfolding `next`, `unless`, `first` or `pick`.
 -- In order: `pick`; a chain of items, forward (what a return shows) and backward (what acceptance says); tests; a loop over items.
--- Assumes nothing.
+-- Not here: truth values, and tests as properties (`Truth`). Assumes nothing.
 use mathlib.Core.Path.{_≡_, refl, sym, ap, _∙_, subst}
 use mathlib.Core.Bool.{Bool, true, false}
 use Prim.Native.Nat.{ℕ, zero, suc, _+_, _-_, _≤_, _<_}
 use native.Mathlib.Omega.{arith}
 use borrow.Author.Tests.{eqb-true, eqb-false, leb-true, le-leb}
 use lib.Dec.{T, eqb, leb}
+use Rattle.verdict.proofs.Truth.{holds, fails, both-of}
 use Rattle.verdict.specs.Verdict.{pick, both, either, within, upto, next, unless, first}
 
 pub absurd-bool {ℓ} : {A : Type ℓ} → false ≡ true → A
@@ -111,23 +112,19 @@ outside lo hi x h = both-not _ _ (λ a b. h (leb-true _ _ a) (leb-true _ _ b))
 
 -- ---- a computed test of each number below n holds of one: how a table's rule is proved
 
-both-l : (a b : Bool) → T (both a b) → T a
-both-l true b t = tt
-both-l false b t = t
-
-both-r : (a b : Bool) → T (both a b) → T b
-both-r true b t = t
-both-r false b t = absurd t
-
 pub below : (f : ℕ → Bool) (n : ℕ) → T (upto f n) → (k : ℕ) → k < n → T (f k)
 below f zero t k h = absurd (let z : ⊥ = omega arith in z)
-below f (suc n) t k h = go (below f n (both-r (f n) (upto f n) t) k) (eqb k n) refl
+below f (suc n) t k h = go (below f n (both-of (f n) (upto f n) t .1) k) (eqb k n) refl
   where
     go : (k < n → T (f k)) → (b : Bool) → eqb k n ≡ b → T (f k)
-    go ih true e = rw (eqb-true k n e) (both-l (f n) (upto f n) t)
+    go ih true e = rw (eqb-true k n e) (both-of (f n) (upto f n) t .0)
     go ih false e =
         let q : (k ≡ n → ⊥) = eqb-false k n e in
         ih (omega arith)
+
+-- where it fails of one, it fails
+pub upto-not : (f : ℕ → Bool) (n k : ℕ) → k < n → f k ≡ false → upto f n ≡ false
+upto-not f n k h e = fails (upto f n) (λ t. absurd-bool (sym e ∙ holds (f k) (below f n t k h)))
 
 -- ---- a loop over the items s .. n: what is left from i on is what was asked
 

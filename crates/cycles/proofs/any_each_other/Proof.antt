@@ -3,7 +3,8 @@ use mathlib.Core.Path.{sym, _∙_}
 use borrow.Author.Needs.{needs}
 use Rattle.protocol.specs.Cycles.{readsFrom}
 use Rattle.taskset.specs.Task.{variablesOf}
-use Rattle.cycles.proofs.Rings.{either-skip, either-stop, one-way-pairs}
+use Rattle.cycles.proofs.Rings.{one-way-pairs}
+use Rattle.verdict.proofs.Truth.{either-skip, either-stop}
 use Rattle.cycles.proofs.any_each_other.Statement.{statement}
 use Rattle.cycles.proofs.any_each_other.Tie as tie
 

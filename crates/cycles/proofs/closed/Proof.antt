@@ -1,7 +1,7 @@
 -- `cycles::closed` meets its contract: the rings are tried in turn. Assumes nothing.
 use mathlib.Core.Path.{sym, _∙_}
 use borrow.Author.Needs.{needs}
-use Rattle.cycles.proofs.Rings.{either-skip, either-stop}
+use Rattle.verdict.proofs.Truth.{either-skip, either-stop}
 use Rattle.cycles.proofs.closed.Statement.{statement}
 use Rattle.cycles.proofs.closed.Tie as tie
 

@@ -1,6 +1,6 @@
 -- `cycles::four` meets its contract. Assumes nothing.
 use borrow.Author.Needs.{needs}
-use Rattle.cycles.proofs.Rings.{both-skip}
+use Rattle.verdict.proofs.Truth.{both-skip}
 use Rattle.cycles.proofs.four.Statement.{statement}
 use Rattle.cycles.proofs.four.Tie as tie
 

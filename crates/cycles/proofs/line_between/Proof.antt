@@ -1,7 +1,7 @@
 -- `cycles::line_between` meets its contract. Assumes nothing.
 use mathlib.Core.Path.{sym, _∙_}
 use borrow.Author.Needs.{needs}
-use Rattle.cycles.proofs.Rings.{either-skip, either-stop}
+use Rattle.verdict.proofs.Truth.{either-skip, either-stop}
 use Rattle.cycles.proofs.line_between.Statement.{statement}
 use Rattle.cycles.proofs.line_between.Tie as tie
 

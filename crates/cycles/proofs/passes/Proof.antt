@@ -1,7 +1,7 @@
 -- `cycles::passes` meets its contract. Assumes nothing.
 use mathlib.Core.Path.{sym, _∙_}
 use borrow.Author.Needs.{needs}
-use Rattle.cycles.proofs.Rings.{both-skip, both-stop}
+use Rattle.verdict.proofs.Truth.{both-skip, both-stop}
 use Rattle.cycles.proofs.passes.Statement.{statement}
 use Rattle.cycles.proofs.passes.Tie as tie
 

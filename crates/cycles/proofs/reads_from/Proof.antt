@@ -8,12 +8,12 @@ use Rattle.verdict.specs.Verdict.{both}
 use Rattle.protocol.specs.Variables.{readsIt, writesIt}
 use Rattle.records.specs.File.{countPlace, variables, variableIn}
 use Rattle.taskset.proofs.Accepted.{record-in-file}
-use Rattle.cycles.proofs.Check.{passes, Looking, looking-none, looking-found, looking-more, looking-end}
+use Rattle.cycles.proofs.Check.{passes, NoneBefore, none-at-first, found-here, none-here, none-at-all}
 use Rattle.cycles.proofs.reads_from.Statement.{statement}
 use Rattle.cycles.proofs.reads_from.Tie as tie
 
 abbrev Inv-loop : tie.InvT-loop
-Inv-loop file r w at n i₀ i = (at ≡ countPlace file) × (n ≡ variables file) × Looking file r w i
+Inv-loop file r w at n i₀ i = (at ≡ countPlace file) × (n ≡ variables file) × NoneBefore file r w i
 
 abbrev μ-loop : tie.MeasureT-loop
 μ-loop file r w at n i₀ i = n - i
@@ -22,7 +22,7 @@ loop-holds : tie.Need-loop-holds Inv-loop μ-loop
 loop-holds c =
     let file = c .before .before .before .args .file .now in
     let at : 5 + 6 * c .before .byte-at .result ≡ countPlace file = ap (λ (n : ℕ). 5 + 6 * n) (c .before .byte-at .ensures) in
-    (at, c .byte-at2 .ensures ∙ ap (λ (p : ℕ). getD file p 0) at, looking-none file (c .before .before .before .args .r) (c .before .before .before .args .w))
+    (at, c .byte-at2 .ensures ∙ ap (λ (p : ℕ). getD file p 0) at, none-at-first file (c .before .before .before .args .r) (c .before .before .before .args .w))
 
 add-passes : tie.Need-add-passes Inv-loop μ-loop
 add-passes c = omega (arith, record-in-file (c .before .before .before .before .before .args .file .now) (c .before .before .before .before .before .pre .0) (c .before .loop .i) (omega arith))
@@ -45,7 +45,7 @@ returns c =
     let file = start .args .file .now in
     let tried : c .before .passes .result ≡ passes file (start .args .r) (start .args .w) (looped .i) =
     c .before .passes .ensures ∙ ap (λ (p : ℕ). both (readsIt (start .args .r) (variableIn file (p + 1 + 12 * looped .i))) (writesIt (start .args .w) (variableIn file (p + 1 + 12 * looped .i)))) (looped .inv .0) in
-    looking-found file (start .args .r) (start .args .w) (looped .i) (looped .inv .2) (omega arith) (sym tried ∙ c .if1 .taken)
+    found-here file (start .args .r) (start .args .w) (looped .i) (looped .inv .2) (omega arith) (sym tried ∙ c .if1 .taken)
 
 add-i : tie.Need-add-i Inv-loop μ-loop
 add-i c = omega arith
@@ -60,12 +60,12 @@ loop-again c =
     let file = start .args .file .now in
     let tried : c .before .passes .result ≡ passes file (start .args .r) (start .args .w) (looped .i) =
     c .before .passes .ensures ∙ ap (λ (p : ℕ). both (readsIt (start .args .r) (variableIn file (p + 1 + 12 * looped .i))) (writesIt (start .args .w) (variableIn file (p + 1 + 12 * looped .i)))) (looped .inv .0) in
-    (looped .inv .0, looped .inv .1, looking-more file (start .args .r) (start .args .w) (looped .i) (looped .inv .2) (omega arith) (sym tried ∙ c .if1 .left))
+    (looped .inv .0, looped .inv .1, none-here file (start .args .r) (start .args .w) (looped .i) (looped .inv .2) (omega arith) (sym tried ∙ c .if1 .left))
 
 returns-2 : tie.Need-returns-2 Inv-loop μ-loop
 returns-2 c =
     let args = c .before .before .before .before .before .args in
-    looking-end (args .file .now) (args .r) (args .w) (c .before .loop .i) (c .before .loop .inv .2) (omega arith)
+    none-at-all (args .file .now) (args .r) (args .w) (c .before .loop .i) (c .before .loop .inv .2) (omega arith)
 
 pub reads-from-spec : {M : Type 1} → statement M
 reads-from-spec =
