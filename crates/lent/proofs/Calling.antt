@@ -1,18 +1,18 @@
 -- Calls on a lent table one after another: a call is the steps that it counts as, of the state that the table holds, and leaves a table that can be
 -- lent to the next. In order: a table that holds a state; a refused call; an accepted one; lists of calls; the fresh state; demand 3 of every list;
--- steps with lent registers. Assumes nothing.
+-- steps with lent registers; the same list by value. Assumes nothing.
 use mathlib.Core.Path.{_≡_, refl, sym, ap, ap₂, _∙_, subst}
 use mathlib.Core.Logic.{_≢_}
 use mathlib.Core.Bool.{Bool, true, false}
-use mathlib.Core.List.{List, [], _∷_, _++_}
+use mathlib.Core.List.{List, [], _∷_, _++_, map}
 use Prim.Native.Nat.{ℕ, zero, suc, _+_, _*_, _≤_, _<_}
 use native.Mathlib.Omega.{arith}
 use borrow.Author.Tests.{lt-ltb, leb-true, leb-false, ltb-true, ltb-false, eq-eqb, ne-eqb, eqb-true, eqb-false}
 use lib.Dec.{eqb, leb, ltb}
 use lib.Seq.{take-at, take-all, getD-set-same, getD-set-other, getD-take, set-getD, set-out}
 use lib.ListN.{length, getD, set, replicate, take, drop, length-take, length-append, length-set, take-append-drop, length-replicate, List·getD-eq-default}
-use Rattle.verdict.specs.Verdict.{pick, next}
-use Rattle.verdict.proofs.Verdict.{pick-true, pick-false, next-zero, unless-zero, both-true, absurd-bool}
+use Rattle.verdict.specs.Verdict.{pick, both, next, unless}
+use Rattle.verdict.proofs.Verdict.{pick-true, pick-false, by-pick, next-none, next-zero, unless-zero, both-true, absurd-bool}
 use Rattle.memory.specs.Memory.{splice, part, total, split}
 use Rattle.memory.proofs.Laws.{length-splice, length-part}
 use Rattle.protocol.specs.declared.Registers.{Registers}
@@ -24,26 +24,30 @@ use Rattle.records.specs.File.{cores}
 use Rattle.taskset.specs.Judge.{judge}
 use Rattle.taskset.specs.Trace.{traceRefusal}
 use Rattle.taskset.specs.Task.{listed, sizesOf}
+use Rattle.taskset.proofs.Accepted.{length-listed}
 use Rattle.states.specs.declared.State.{State}
 use Rattle.states.specs.Task.{taskOf}
 use Rattle.states.specs.Set.{Set}
-use Rattle.states.specs.Machine.{none, coreIn, stateIn, Sized, stateOf}
+use Rattle.states.specs.Machine.{none, coreIn, stateIn, Sized, stateOf, heldAfter, dataOf}
 use Rattle.states.specs.Fit.{Fit}
+use Rattle.states.specs.Preparing.{heldRefusal}
 use Rattle.states.proofs.Accepted.{accepted-set}
-use Rattle.states.proofs.Exactly.{fit-accepted}
+use Rattle.states.proofs.Exactly.{fit-accepted, not-refused}
 use Rattle.states.proofs.Fresh.{fresh-fit}
 use Rattle.states.proofs.Tables.{listed-same}
-use Rattle.runner.specs.Runs.{Left, left, ranCall}
+use Rattle.runner.specs.Runs.{Left, left, allBelow, ranCall}
+use Rattle.runner.proofs.Running.{shared-in}
+use Rattle.runner.proofs.End.{data-back}
 use Rattle.machine.specs.Calls.{lentFits, callRefusal, answerOf, tableOf, freshRefusal, freshCall, runRefusal, runCall, stepRefusal, stepCall}
-use Rattle.machine.specs.Calling.{Lending, entire, front, lentOf, replaced, Call, stepping, running, restored, leaves, wholeOf, stepsIn, countsAs}
+use Rattle.machine.specs.Calling.{Lending, entire, front, lentOf, replaced, Call, stepping, running, restored, leaves, calls, wholeOf, stepsIn, countsAs}
 use Rattle.machine.proofs.Interleaving.{interleaved-machine}
 use Rattle.machine.proofs.Calls.{granted}
-use Rattle.machine.proofs.Calling.{Lendable, Counted, step-counted, run-counted, fresh-state}
+use Rattle.machine.proofs.Calling.{Lendable, Counted, step-counted, run-counted, call-counted, fresh-state, calls-interleaved}
 use Rattle.lent.specs.declared.Core.{Core}
 use Rattle.lent.specs.declared.Table.{Table}
 use Rattle.lent.specs.declared.After.{After}
 use Rattle.lent.specs.Lent.{registersIn, noCore, recordAt, counted, loaded, entries, heldPlaces, heldOffsets, held, coreOf, recordAfter, acceptedOf, TableLeft, onTable, stored, Lent, lent, written, stepTable, stepLent, runTable, runLent, freshTable, freshLent, withRegisters, registersAfter, stepRegisters}
-use Rattle.lent.specs.Calling.{LentCall, over, restoredLent, leavesLent, lentCalls, wholeLent, countsLent, lentStepsOf, LentInterleaved, lentRegisters, leavesRegisters, RegistersLeave}
+use Rattle.lent.specs.Calling.{LentCall, over, restoredLent, leavesLent, lentCalls, wholeLent, countsLent, lentStepsOf, LentInterleaved, lentRegisters, leavesRegisters, RegistersLeave, MixedCall, by-value, with-registers, asCall, leavesMixed, mixedCalls, MixedInterleaved, Same, SameCalls, no-call, one-call}
 use Rattle.lent.proofs.Laws.{on-accepted, short-refused}
 use Rattle.lent.proofs.Unchanged.{refused-lent, fresh-refused, fresh-short-refused}
 use Rattle.lent.proofs.Back.{Sixteen, unspared, comes-back}
@@ -330,6 +334,11 @@ module _ (f : List ℕ) (ys : List Core) (holder : ℕ) (d sh : List ℕ) (e : f
       ∙ ap (written ys) (on-accepted (loaded ys) holder (answerOf 0 (tableOf (cores f) 4)) (replicate (length d) 0) (replicate (length sh) 0) [] refl)
       ∙ ap (λ (l : List Core). lent 0 l 0 (replicate (length d) 0) (replicate (length sh) 0) []) (pick-true _ _ _ refl)
 
+  -- what the call by value leaves
+  value-left : freshCall f d sh ≡ left (answerOf 0 (tableOf (cores f) 4)) (replicate (length d) 0) (replicate (length sh) 0) []
+  unfolding freshCall
+  value-left = pick-true _ _ _ (eq-eqb _ 0 fresh-granted)
+
   fresh-fits : (length d ≡ total (sizesOf f)) × (length sh ≡ 1024)
   unfolding freshRefusal lentFits
   fresh-fits =
@@ -431,3 +440,116 @@ registers-leave f t a b k x four =
         → registersAfter (leaves f t (stepping a b k) x .answer .state) k (lentRegisters x k) ≡ lentRegisters (leaves f t (stepping a b k) x) k
     own true e = pick-true _ _ _ e ∙ sym (pick-true _ _ _ e)
     own false e = pick-false _ _ _ e ∙ pick-false _ _ _ e ∙ sym (pick-false _ _ _ e)
+
+-- a state's four registers stay four
+four-kept : (f t : List ℕ) (c : Call) (x : Left) → length (x .answer .state .cores) ≡ 4 → length (leaves f t c x .answer .state .cores) ≡ 4
+unfolding stepCall runCall ranCall heldAfter
+four-kept f t (stepping a b k) x four = by-pick (λ (y : Left). length (y .answer .state .cores) ≡ 4) (eqb (stepRefusal f t (x .answer .state) (lentOf a (x .memory)) (lentOf b (x .shared)) k) 0) _ _ (λ e. length-listed _ 4 0) (λ e. four)
+four-kept f t (running a b order list) x four = by-pick (λ (y : Left). length (y .answer .state .cores) ≡ 4) (eqb (runRefusal f t (x .answer .state) (lentOf a (x .memory)) (lentOf b (x .shared)) order list) 0) _ _ (λ e. length-listed _ 4 0) (λ e. four)
+
+four-fresh : (f d sh : List ℕ) → length (freshCall f d sh .answer .state .cores) ≡ 4
+unfolding freshCall tableOf
+four-fresh f d sh = by-pick (λ (y : Left). length (y .answer .state .cores) ≡ 4) (eqb (freshRefusal f (length d) (length sh)) 0) _ _ (λ e. refl) (λ e. refl)
+
+mixed-same : (f t : List ℕ) (cs : List MixedCall) (x : Left) → length (x .answer .state .cores) ≡ 4 → mixedCalls f t cs x ≡ calls f t (map asCall cs) x
+mixed-same f t [] x four = refl
+mixed-same f t (by-value c ∷ cs) x four = mixed-same f t cs (leaves f t c x) (four-kept f t c x four)
+mixed-same f t (with-registers a b k ∷ cs) x four =
+    ap (mixedCalls f t cs) (registers-leave f t a b k x four .leaves-same) ∙ mixed-same f t cs (leaves f t (stepping a b k) x) (four-kept f t (stepping a b k) x four)
+
+pub mixed-interleaved : (f t : List ℕ) → ((i : ℕ) → getD f i 0 < 256) → ((i : ℕ) → getD t i 0 < 256) → (d sh : List ℕ)
+    → freshRefusal f (length d) (length sh) ≡ 0 → traceRefusal f t ≡ 0 → (cs : List MixedCall) → MixedInterleaved f t d sh cs
+mixed-interleaved f t bytes trace-bytes d sh e sound cs = record {
+  same = mixed-same f t cs (freshCall f d sh) (four-fresh f d sh);
+  interleaved = calls-interleaved f t bytes trace-bytes d sh e sound (map asCall cs);
+}
+
+-- ---- the same list by value
+
+-- the number that a call gets that is made with what can be lent: file, trace and state are sound
+module _ (f t : List ℕ) (ok : Set f t) (x : Left) (w : Lendable f t x) where
+  number-is : (buffer shared : ℕ) (room named : Bool) → callRefusal f t (x .answer .state) buffer shared room named ≡ next (unless (both (lentFits f buffer shared) room) 21) (unless named 20)
+  unfolding callRefusal heldRefusal next
+  number-is buffer shared room named =
+      let sound : heldRefusal f t (x .answer .state) ≡ 0 = next-none _ _ (ok .trace) (not-refused f t ok (x .answer .state) (x .memory) (x .shared) (w .sized) (w .count, w .fit)) in
+      ap (λ (n : ℕ). next n (next (unless (both (lentFits f buffer shared) room) 21) (next (heldRefusal f t (x .answer .state)) (unless named 20)))) (ok .file)
+      ∙ ap (λ (n : ℕ). next (unless (both (lentFits f buffer shared) room) 21) (next n (unless named 20))) sound
+
+-- the number of what a call by value left
+step-number : (f t : List ℕ) (h : State) (d sh : List ℕ) (k : ℕ) → stepCall f t h d sh k .answer .refusal ≡ stepRefusal f t h d sh k
+unfolding stepCall
+step-number f t h d sh k = by-pick (λ (l : Left). l .answer .refusal ≡ stepRefusal f t h d sh k) (eqb (stepRefusal f t h d sh k) 0) _ _ (λ e. sym (eqb-true _ _ e)) (λ e. refl)
+
+run-number : (f t : List ℕ) (h : State) (d sh order list : List ℕ) → runCall f t h d sh order list .answer .refusal ≡ runRefusal f t h d sh order list
+unfolding runCall ranCall
+run-number f t h d sh order list = by-pick (λ (l : Left). l .answer .refusal ≡ runRefusal f t h d sh order list) (eqb (runRefusal f t h d sh order list) 0) _ _ (λ e. sym (eqb-true _ _ e)) (λ e. refl)
+
+-- the number of what a call left on a table
+table-number : (ys : List Core) (holder : ℕ) (l : Left) → written ys (onTable (loaded ys) holder l) .refusal ≡ l .answer .refusal
+table-number ys holder l = by-pick (λ (x : After). x .refusal ≡ l .answer .refusal) (eqb (l .answer .refusal) 0) _ _ (λ e. sym (eqb-true _ _ e)) (λ e. refl)
+
+-- two that can be lent on have the same memories where they hold the same state
+same-of : (f t : List ℕ) (x : Lent) → Ready f t x → (y : Left) → Lendable f t y → wholeLent f x ≡ wholeOf f y → Same f x y
+same-of f t x w y v e =
+    let h = byValue f x .answer .state in
+    let s = y .answer .state in
+    record {
+      whole = e;
+      memory =
+          sym (data-back f (h .cores) (h .places) (h .offsets) (h .holder) (x .memory) (x .shared) (w .lendable .sized .memory))
+          ∙ ap dataOf e
+          ∙ data-back f (s .cores) (s .places) (s .offsets) (s .holder) (y .memory) (y .shared) (v .sized .memory);
+      shared =
+          sym (shared-in f (h .cores) (h .places) (h .offsets) (h .holder) (x .memory) (x .shared))
+          ∙ ap (λ (z : Whole). z .plant .shared) e
+          ∙ shared-in f (s .cores) (s .places) (s .offsets) (s .holder) (y .memory) (y .shared);
+    }
+
+module _ (f t : List ℕ) (ok : Set f t) (x : Lent) (w : Ready f t x) (y : Left) (v : Lendable f t y) (same : Same f x y) where
+  same-number : (a b : Lending) (room named : Bool)
+      → callRefusal f t (byValue f x .answer .state) (length (lentOf a (x .memory))) (length (lentOf b (x .shared))) room named
+      ≡ callRefusal f t (y .answer .state) (length (lentOf a (y .memory))) (length (lentOf b (y .shared))) room named
+  same-number a b room named =
+      number-is f t ok (byValue f x) (w .lendable) _ _ room named
+      ∙ ap₂ (λ (m n : List ℕ). next (unless (both (lentFits f (length (lentOf a m)) (length (lentOf b n))) room) 21) (unless named 20)) (same .memory) (same .shared)
+      ∙ sym (number-is f t ok y v _ _ room named)
+
+  pub one-number : (c : Call) → leavesLent f t (over (cores f) c) x .refusal ≡ leaves f t c y .answer .refusal
+  unfolding stepLent stepTable runLent runTable stepRefusal runRefusal
+  one-number (stepping a b k) =
+      table-number (take (cores f) (x .table)) (x .holder) (stepCall f t (byValue f x .answer .state) (lentOf a (x .memory)) (lentOf b (x .shared)) k)
+      ∙ step-number f t (byValue f x .answer .state) (lentOf a (x .memory)) (lentOf b (x .shared)) k
+      ∙ same-number a b true (ltb k (cores f))
+      ∙ sym (step-number f t (y .answer .state) (lentOf a (y .memory)) (lentOf b (y .shared)) k)
+  one-number (running a b order list) =
+      table-number (take (cores f) (x .table)) (x .holder) (runCall f t (byValue f x .answer .state) (lentOf a (x .memory)) (lentOf b (x .shared)) order list)
+      ∙ run-number f t (byValue f x .answer .state) (lentOf a (x .memory)) (lentOf b (x .shared)) order list
+      ∙ same-number a b (leb (length order) (length list)) (allBelow (cores f) order)
+      ∙ sym (run-number f t (y .answer .state) (lentOf a (y .memory)) (lentOf b (y .shared)) order list)
+
+  one-same : (c : Call) → Same f (leavesLent f t (over (cores f) c) x) (leaves f t c y)
+  one-same c =
+      let m = lent-counted f t ok x w (over (cores f) c) in
+      let n = call-counted f t ok y v c in
+      same-of f t (leavesLent f t (over (cores f) c) x) (m .ready) (leaves f t c y) (n .lendable)
+      (m .whole
+      ∙ ap₂ (λ (r : ℕ) (z : Whole). run (taskOf f t) (pick (eqb r 0) (stepsIn c) []) z) (one-number c) (same .whole)
+      ∙ sym (n .whole))
+
+pub same-calls : (f t : List ℕ) → Set f t → (cs : List Call) (x : Lent) → Ready f t x → (y : Left) → Lendable f t y → Same f x y → SameCalls f t cs x y
+same-calls f t ok [] x w y v same = no-call same
+same-calls f t ok (c ∷ cs) x w y v same =
+    one-call same (one-number f t ok x w y v same c)
+    (same-calls f t ok cs (leavesLent f t (over (cores f) c) x) (lent-counted f t ok x w (over (cores f) c) .ready) (leaves f t c y) (call-counted f t ok y v c .lendable) (one-same f t ok x w y v same c))
+
+pub lent-by-value : (f t : List ℕ) → ((i : ℕ) → getD f i 0 < 256) → ((i : ℕ) → getD t i 0 < 256) → (ys : List Core) (holder : ℕ) (d sh : List ℕ)
+    → freshLent f ys holder d sh .refusal ≡ 0 → traceRefusal f t ≡ 0 → (cs : List Call) → SameCalls f t cs (freshLent f ys holder d sh) (freshCall f d sh)
+unfolding freshRefusal
+lent-by-value f t bytes trace-bytes ys holder d sh e sound cs =
+    let granted-fresh = fresh-granted f ys holder d sh e in
+    let ok : Set f t = accepted-set f t bytes trace-bytes (next-zero _ _ granted-fresh .0) sound in
+    let ready = fresh-ready f ys holder d sh e t ok in
+    let lends = subst (Lendable f t) (sym (value-left f ys holder d sh e)) (value-lendable f ys holder d sh e t ok) in
+    same-calls f t ok cs (freshLent f ys holder d sh) ready (freshCall f d sh) lends
+    (same-of f t (freshLent f ys holder d sh) ready (freshCall f d sh) lends
+    (lent-fresh f ys holder d sh e t ok ∙ sym (ap (wholeOf f) (value-left f ys holder d sh e) ∙ value-fresh f ys holder d sh e t ok)))

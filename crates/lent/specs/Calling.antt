@@ -1,10 +1,10 @@
 -- Calls on a lent core table one after another, each with the table, the semaphore's holder and the memories that the one before left, refused ones
 -- too; and step calls that are lent the registers of their core. They are the calls of crate machine (specs/Calling), made over the C interface.
--- In order: a call and what it leaves; lists of calls; the steps that they count as; the claim; steps with lent registers.
--- `lent-interleaved` of proofs/Calling proves `LentInterleaved`, which is demand 3 of every list of lent calls; `registers-leave` proves
--- `RegistersLeave`. Not here: what each call is for every input (specs/Lent); that a refused call leaves all (proofs/Unchanged).
+-- In order: a call and what it leaves; lists of calls; the steps that they count as; the claim; steps with lent registers; the same list by value.
+-- `lent-interleaved` of proofs/Calling proves `LentInterleaved`, which is demand 3 of every list of lent calls; `mixed-interleaved` proves
+-- `MixedInterleaved`, by `registers-leave`, and `lent-by-value` proves `SameCalls`. Not here: what each call is for every input (specs/Lent); that a refused call leaves all (proofs/Unchanged).
 use mathlib.Core.Path.{_≡_}
-use mathlib.Core.List.{List, [], _∷_, _++_}
+use mathlib.Core.List.{List, [], _∷_, _++_, map}
 use Prim.Native.Nat.{ℕ}
 use lib.Dec.{eqb}
 use lib.ListN.{take, drop}
@@ -18,7 +18,8 @@ use Rattle.taskset.specs.Task.{sizesOf}
 use Rattle.states.specs.Task.{taskOf}
 use Rattle.states.specs.Machine.{none, stateOf}
 use Rattle.runner.specs.Runs.{Left}
-use Rattle.machine.specs.Calling.{Lending, lentOf, replaced, Call, stepping, running, restored, leaves, stepsIn}
+use Rattle.machine.specs.Calling.{Lending, lentOf, replaced, Call, stepping, running, restored, leaves, calls, wholeOf, stepsIn, CallsInterleaved}
+use Rattle.machine.specs.Calls.{freshCall}
 use Rattle.machine.specs.Interleaving.{MachineInterleaved}
 use Rattle.lent.specs.declared.Core.{Core}
 use Rattle.lent.specs.Lent.{loaded, held, Lent, lent, stepLent, runLent, freshLent, registersAfter, stepRegisters}
@@ -80,8 +81,43 @@ lentRegisters x k = registersAfter (x .answer .state) k none
 abbrev pub leavesRegisters : List ℕ → List ℕ → Lending → Lending → ℕ → Left → Left
 leavesRegisters f t a b k x = restored a b x (stepRegisters f t (x .answer .state) (lentRegisters x k) (lentOf a (x .memory)) (lentOf b (x .shared)) k)
 
--- Such a call leaves what the step call by value leaves, and in the lent registers those of the state: so it may stand for that step call in any
--- list of calls, and demand 3 holds of the list
+-- It leaves what the step call by value leaves, and in the lent registers those of the state
 pub record RegistersLeave (f t : List ℕ) (a b : Lending) (k : ℕ) (x : Left) : Type 0 where
   pub leaves-same : leavesRegisters f t a b k x ≡ leaves f t (stepping a b k) x
   pub registers-same : registersAfter (leavesRegisters f t a b k x .answer .state) k (lentRegisters x k) ≡ lentRegisters (leaves f t (stepping a b k) x) k
+
+-- calls by value, and among them steps that are lent their core's registers
+pub data MixedCall : Type 0 where
+  by-value : Call → MixedCall
+  with-registers : Lending → Lending → ℕ → MixedCall
+
+abbrev pub asCall : MixedCall → Call
+asCall (by-value c) = c
+asCall (with-registers a b k) = stepping a b k
+
+abbrev pub leavesMixed : List ℕ → List ℕ → MixedCall → Left → Left
+leavesMixed f t (by-value c) x = leaves f t c x
+leavesMixed f t (with-registers a b k) x = leavesRegisters f t a b k x
+
+abbrev pub mixedCalls : List ℕ → List ℕ → List MixedCall → Left → Left
+mixedCalls f t [] x = x
+mixedCalls f t (c ∷ cs) x = mixedCalls f t cs (leavesMixed f t c x)
+
+-- Every list of them leaves what the list by value leaves, of which demand 3 holds
+pub record MixedInterleaved (f t d sh : List ℕ) (cs : List MixedCall) : Type 0 where
+  pub same : mixedCalls f t cs (freshCall f d sh) ≡ calls f t (map asCall cs) (freshCall f d sh)
+  pub interleaved : CallsInterleaved f t d sh (map asCall cs)
+
+-- ---- the same list by value
+
+-- What x has is what y has: the table's first n records hold the state, and the memories are the same. `lent-by-value` proves it of the calls cs over
+-- the lent table and by value, each list from its call for the fresh state; and that each call answers the same number.
+pub record Same (f : List ℕ) (x : Lent) (y : Left) : Type 0 where
+  pub whole : wholeLent f x ≡ wholeOf f y
+  pub memory : x .memory ≡ y .memory
+  pub shared : x .shared ≡ y .shared
+
+pub data SameCalls (f t : List ℕ) : List Call → Lent → Left → Type 0 where
+  no-call : {x : Lent} {y : Left} → Same f x y → SameCalls f t [] x y
+  one-call : {c : Call} {cs : List Call} {x : Lent} {y : Left} → Same f x y → leavesLent f t (over (cores f) c) x .refusal ≡ leaves f t c y .answer .refusal
+      → SameCalls f t cs (leavesLent f t (over (cores f) c) x) (leaves f t c y) → SameCalls f t (c ∷ cs) x y
