@@ -10,7 +10,6 @@ use lib.ListN.{length, replicate}
 use Rattle.memory.specs.Memory.{splice, part}
 use Rattle.memory.proofs.Laws.{length-splice, part-splice-below, part-splice-same}
 use Rattle.lent.specs.declared.Core.{Core}
-use Rattle.lent.specs.declared.Table.{Table}
 use Rattle.lent.specs.Lent.{registersIn, recordWith, recordAt, loaded, entries, heldPlaces, heldOffsets, held, coreOf}
 
 -- ---- one stack of four

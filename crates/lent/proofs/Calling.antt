@@ -1,6 +1,6 @@
 -- Calls on a lent table one after another: a call is the steps that it counts as, of the state that the table holds, and leaves a table that can be
 -- lent to the next. In order: a table that holds a state; a refused call; an accepted one; lists of calls; the fresh state; demand 3 of every list;
--- steps with lent registers; the same list by value. Assumes nothing.
+-- steps with lent registers; the same list by value; a run's takings. Assumes nothing.
 use mathlib.Core.Path.{_≡_, refl, sym, ap, ap₂, _∙_, subst}
 use mathlib.Core.Logic.{_≢_}
 use mathlib.Core.Bool.{Bool, true, false}
@@ -10,25 +10,25 @@ use native.Mathlib.Omega.{arith}
 use borrow.Author.Tests.{lt-ltb, leb-true, leb-false, ltb-true, ltb-false, eq-eqb, ne-eqb, eqb-true, eqb-false}
 use lib.Dec.{eqb, leb, ltb}
 use lib.Seq.{take-at, take-all, getD-set-same, getD-set-other, getD-take, set-getD, set-out}
-use lib.ListN.{length, getD, set, replicate, take, drop, length-take, length-append, length-set, take-append-drop, length-replicate, List·getD-eq-default}
+use lib.ListN.{length, getD, set, replicate, take, drop, length-take, length-append, length-set, take-append-drop, length-replicate, length-map, List·getD-eq-default}
 use Rattle.verdict.specs.Verdict.{pick, both, next, unless}
-use Rattle.verdict.proofs.Verdict.{pick-true, pick-false, by-pick, next-none, next-zero, unless-zero, both-true, absurd-bool}
+use Rattle.verdict.proofs.Verdict.{pick-true, pick-false, by-pick, next-none, next-zero, unless-zero, both-true}
 use Rattle.memory.specs.Memory.{splice, part, total, split}
 use Rattle.memory.proofs.Laws.{length-splice, length-part}
 use Rattle.protocol.specs.declared.Registers.{Registers}
 use Rattle.protocol.specs.State.{Core as Place, State as Whole}
-use Rattle.protocol.specs.Step.{run}
+use Rattle.protocol.specs.Step.{run, takings, encoded}
 use Rattle.protocol.specs.Fresh.{fresh}
 use Rattle.protocol.proofs.Steps.{run-append}
 use Rattle.records.specs.File.{cores}
 use Rattle.taskset.specs.Judge.{judge}
 use Rattle.taskset.specs.Trace.{traceRefusal}
-use Rattle.taskset.specs.Task.{listed, sizesOf}
+use Rattle.taskset.specs.Task.{sizesOf}
 use Rattle.taskset.proofs.Accepted.{length-listed}
 use Rattle.states.specs.declared.State.{State}
 use Rattle.states.specs.Task.{taskOf}
 use Rattle.states.specs.Set.{Set}
-use Rattle.states.specs.Machine.{none, coreIn, stateIn, Sized, stateOf, heldAfter, dataOf}
+use Rattle.states.specs.Machine.{none, coreIn, stateIn, stateOf, heldAfter, dataOf}
 use Rattle.states.specs.Fit.{Fit}
 use Rattle.states.specs.Preparing.{heldRefusal}
 use Rattle.states.proofs.Accepted.{accepted-set}
@@ -39,15 +39,14 @@ use Rattle.runner.specs.Runs.{Left, left, allBelow, ranCall}
 use Rattle.runner.proofs.Running.{shared-in}
 use Rattle.runner.proofs.End.{data-back}
 use Rattle.machine.specs.Calls.{lentFits, callRefusal, answerOf, tableOf, freshRefusal, freshCall, runRefusal, runCall, stepRefusal, stepCall}
-use Rattle.machine.specs.Calling.{Lending, entire, front, lentOf, replaced, Call, stepping, running, restored, leaves, calls, wholeOf, stepsIn, countsAs}
+use Rattle.machine.specs.Calling.{Lending, entire, front, lentOf, replaced, Call, stepping, running, restored, leaves, calls, wholeOf, stepsIn}
 use Rattle.machine.proofs.Interleaving.{interleaved-machine}
 use Rattle.machine.proofs.Calls.{granted}
 use Rattle.machine.proofs.Calling.{Lendable, Counted, step-counted, run-counted, call-counted, fresh-state, calls-interleaved}
 use Rattle.lent.specs.declared.Core.{Core}
-use Rattle.lent.specs.declared.Table.{Table}
 use Rattle.lent.specs.declared.After.{After}
-use Rattle.lent.specs.Lent.{registersIn, noCore, recordAt, counted, loaded, entries, heldPlaces, heldOffsets, held, coreOf, recordAfter, acceptedOf, TableLeft, onTable, stored, Lent, lent, written, stepTable, stepLent, runTable, runLent, freshTable, freshLent, withRegisters, registersAfter, stepRegisters}
-use Rattle.lent.specs.Calling.{LentCall, over, restoredLent, leavesLent, lentCalls, wholeLent, countsLent, lentStepsOf, LentInterleaved, lentRegisters, leavesRegisters, RegistersLeave, MixedCall, by-value, with-registers, asCall, leavesMixed, mixedCalls, MixedInterleaved, Same, SameCalls, no-call, one-call}
+use Rattle.lent.specs.Lent.{registersIn, noCore, recordAt, counted, loaded, entries, heldPlaces, heldOffsets, held, coreOf, recordAfter, acceptedOf, TableLeft, onTable, stored, Lent, lent, written, stepTable, stepLent, runTable, runLent, takenTable, takenLent, freshTable, freshLent, withRegisters, registersAfter, stepRegisters}
+use Rattle.lent.specs.Calling.{LentCall, over, restoredLent, leavesLent, lentCalls, wholeLent, countsLent, lentStepsOf, LentInterleaved, lentRegisters, leavesRegisters, RegistersLeave, MixedCall, by-value, with-registers, asCall, mixedCalls, MixedInterleaved, Same, SameCalls, no-call, one-call, RunLentListed}
 use Rattle.lent.proofs.Laws.{on-accepted, short-refused}
 use Rattle.lent.proofs.Unchanged.{refused-lent, fresh-refused, fresh-short-refused}
 use Rattle.lent.proofs.Back.{Sixteen, unspared, comes-back}
@@ -553,3 +552,25 @@ lent-by-value f t bytes trace-bytes ys holder d sh e sound cs =
     same-calls f t ok cs (freshLent f ys holder d sh) ready (freshCall f d sh) lends
     (same-of f t (freshLent f ys holder d sh) ready (freshCall f d sh) lends
     (lent-fresh f ys holder d sh e t ok ∙ sym (ap (wholeOf f) (value-left f ys holder d sh e) ∙ value-fresh f ys holder d sh e t ok)))
+
+-- ---- the takings of a run over a lent table
+
+-- what a run by value that is not refused wrote
+ran-is : (f t : List ℕ) (h : State) (d sh order list : List ℕ) → runRefusal f t h d sh order list ≡ 0
+    → (runCall f t h d sh order list .order ≡ splice list 0 (map encoded (takings (taskOf f t) order (stateOf f h d sh))))
+    × (runCall f t h d sh order list .answer .taken ≡ length (takings (taskOf f t) order (stateOf f h d sh)))
+unfolding runCall ranCall
+ran-is f t h d sh order list z =
+    let q : runCall f t h d sh order list ≡ ranCall f t h d sh order list = pick-true _ _ _ (eq-eqb _ 0 z) in
+    (ap (λ (l : Left). l .order) q, ap (λ (l : Left). l .answer .taken) q ∙ length-map (takings (taskOf f t) order (stateOf f h d sh)) encoded)
+
+pub run-listed : (f t : List ℕ) (ys : List Core) (holder : ℕ) (d sh order list : List ℕ) (taken : ℕ) → runLent f t ys holder d sh order list .refusal ≡ 0 → RunLentListed f t ys holder d sh order list taken
+unfolding runLent runTable takenLent takenTable
+run-listed f t ys holder d sh order list taken e =
+    let h = held (loaded ys) holder in
+    let accepted : runCall f t h d sh order list .answer .refusal ≡ 0 = sym (table-number ys holder (runCall f t h d sh order list)) ∙ e in
+    let ran = ran-is f t h d sh order list (sym (run-number f t h d sh order list) ∙ accepted) in
+    record {
+      listed = ran .0;
+      counted = pick-true _ _ _ (eq-eqb _ 0 accepted) ∙ ran .1;
+    }

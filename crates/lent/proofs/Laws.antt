@@ -1,18 +1,16 @@
 -- Laws of the table as a state and back, and of what a call leaves of a table. In order: whole stretches; what a call by value left; calls on a
 -- table copied out; calls on a lent table. Not here: the next core (Scanning); that a refused call leaves all (Unchanged); a table's records back (Back).
 -- Assumes nothing.
-use mathlib.Core.Path.{_≡_, refl, sym, ap, _∙_}
+use mathlib.Core.Path.{_≡_, sym, ap, _∙_}
 use mathlib.Core.Logic.{_≢_}
-use mathlib.Core.Bool.{Bool, true, false}
 use mathlib.Core.List.{List, [], _∷_, _++_, append-nil}
 use Prim.Native.Nat.{ℕ, zero, suc, _+_, _≤_, _<_}
 use native.Mathlib.Nat.{suc-ne-zero, zero-add}
 use native.Mathlib.Omega.{arith}
-use lib.Dec.{eqb}
-use lib.ListN.{length, take, drop, getD, set}
+use lib.ListN.{length, drop}
 use lib.Seq.{take-all, drop-length}
 use borrow.Author.Tests.{eq-eqb, ne-eqb, le-leb, lt-leb}
-use Rattle.verdict.specs.Verdict.{pick, both, next}
+use Rattle.verdict.specs.Verdict.{next}
 use Rattle.memory.specs.Memory.{splice, part}
 use Rattle.memory.proofs.Laws.{splice-is}
 use Rattle.verdict.proofs.Verdict.{pick-true, pick-false}

@@ -1,6 +1,6 @@
 -- The scan of a lent table round the ring: what it needs beside the records, and that it finds what the scan of the state that the table holds
 -- finds. In order: the ring; one record; the scan; the scan turn by turn; the call. Not here: what the answer says of steps (crate table, Next). Assumes nothing.
-use mathlib.Core.Path.{_≡_, refl, sym, ap, _∙_, subst}
+use mathlib.Core.Path.{_≡_, refl, sym, ap, _∙_}
 use mathlib.Core.Logic.{_≢_}
 use mathlib.Core.Bool.{Bool, true, false}
 use mathlib.Core.List.{List, [], _∷_}
@@ -21,7 +21,6 @@ use Rattle.states.specs.declared.State.{State}
 use Rattle.states.specs.declared.CoreTask.{CoreTask}
 use Rattle.states.specs.Machine.{none}
 use Rattle.states.specs.Tasks.{coreTask, taskAt, tasksOf, noTask}
-use Rattle.table.specs.declared.Moving.{Moving}
 use Rattle.table.specs.declared.Moving.the-variants.{Core as moving}
 use Rattle.table.specs.Table.{canMove, moves, roundFrom, firstMoving, nextMoving}
 use Rattle.machine.specs.Calls.{nextRefusal}

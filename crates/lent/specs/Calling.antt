@@ -1,17 +1,18 @@
 -- Calls on a lent core table one after another, each with the table, the semaphore's holder and the memories that the one before left, refused ones
 -- too; and step calls that are lent the registers of their core. They are the calls of crate machine (specs/Calling), made over the C interface.
--- In order: a call and what it leaves; lists of calls; the steps that they count as; the claim; steps with lent registers; the same list by value.
+-- In order: a call and what it leaves; lists of calls; the steps that they count as; the claim; steps with lent registers; the same list by value; a run's takings.
 -- `lent-interleaved` of proofs/Calling proves `LentInterleaved`, which is demand 3 of every list of lent calls; `mixed-interleaved` proves
--- `MixedInterleaved`, by `registers-leave`, and `lent-by-value` proves `SameCalls`. Not here: what each call is for every input (specs/Lent); that a refused call leaves all (proofs/Unchanged).
+-- `MixedInterleaved`, by `registers-leave`, `lent-by-value` proves `SameCalls`, `run-listed` `RunLentListed`. Not here: what each call is for every input (specs/Lent); that a refused call leaves all (proofs/Unchanged).
 use mathlib.Core.Path.{_≡_}
 use mathlib.Core.List.{List, [], _∷_, _++_, map}
 use Prim.Native.Nat.{ℕ}
 use lib.Dec.{eqb}
-use lib.ListN.{take, drop}
+use lib.ListN.{length, take, drop}
 use Rattle.verdict.specs.Verdict.{pick}
+use Rattle.memory.specs.Memory.{splice}
 use Rattle.protocol.specs.declared.Registers.{Registers}
 use Rattle.protocol.specs.State.{State as Whole}
-use Rattle.protocol.specs.Step.{run}
+use Rattle.protocol.specs.Step.{run, takings, encoded}
 use Rattle.protocol.specs.Fresh.{fresh}
 use Rattle.records.specs.File.{cores}
 use Rattle.taskset.specs.Task.{sizesOf}
@@ -22,7 +23,7 @@ use Rattle.machine.specs.Calling.{Lending, lentOf, replaced, Call, stepping, ru
 use Rattle.machine.specs.Calls.{freshCall}
 use Rattle.machine.specs.Interleaving.{MachineInterleaved}
 use Rattle.lent.specs.declared.Core.{Core}
-use Rattle.lent.specs.Lent.{loaded, held, Lent, lent, stepLent, runLent, freshLent, registersAfter, stepRegisters}
+use Rattle.lent.specs.Lent.{loaded, held, Lent, lent, stepLent, runLent, takenLent, freshLent, registersAfter, stepRegisters}
 
 -- ---- a call, and what it leaves
 
@@ -121,3 +122,10 @@ pub data SameCalls (f t : List ℕ) : List Call → Lent → Left → Type 0 whe
   no-call : {x : Lent} {y : Left} → Same f x y → SameCalls f t [] x y
   one-call : {c : Call} {cs : List Call} {x : Lent} {y : Left} → Same f x y → leavesLent f t (over (cores f) c) x .refusal ≡ leaves f t c y .answer .refusal
       → SameCalls f t cs (leavesLent f t (over (cores f) c) x) (leaves f t c y) → SameCalls f t (c ∷ cs) x y
+
+-- ---- the takings of a run over a lent table
+
+-- A run that is not refused writes its takings to the front of the order list, and how many there are
+pub record RunLentListed (f t : List ℕ) (ys : List Core) (holder : ℕ) (d sh order list : List ℕ) (taken : ℕ) : Type 0 where
+  pub listed : runLent f t ys holder d sh order list .order ≡ splice list 0 (map encoded (takings (taskOf f t) order (stateOf f (held (loaded ys) holder) d sh)))
+  pub counted : takenLent f t ys holder d sh order list taken ≡ length (takings (taskOf f t) order (stateOf f (held (loaded ys) holder) d sh))

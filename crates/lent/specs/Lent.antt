@@ -1,12 +1,13 @@
 -- The lent forms of the machine's calls: the core table is a lent list of records, and the semaphore's holder stands beside it. Each call is the
 -- one by value (crate machine, specs/Calls) on the state that the table holds; of a call that isn't refused the table's records are written back.
--- In order: a table as a state, and back; what a call leaves; the calls; the next core to move; the registers of one core.
+-- In order: a table as a state, and back; what a call leaves; the calls; the next core to move; the registers of one core. Not here: calls one
+-- after another (Calling).
 use Prim.Native.Nat.{ℕ, zero, suc, _+_, _*_}
 use mathlib.Core.Bool.{Bool}
 use mathlib.Core.List.{List, [], _∷_}
 use lib.ListN.{length, getD, set, replicate}
 use lib.Dec.{ltb, leb, eqb}
-use Rattle.verdict.specs.Verdict.{pick, both, next}
+use Rattle.verdict.specs.Verdict.{pick, next}
 use Rattle.memory.specs.Memory.{splice, part}
 use Rattle.protocol.specs.declared.Registers.{Registers}
 use Rattle.records.specs.File.{cores}

@@ -3,9 +3,6 @@ use borrow.Author.Needs.{needs}
 use mathlib.Core.Path.{refl}
 use Rattle.lent.proofs.accepted.Statement.{statement}
 use Rattle.lent.proofs.accepted.Tie as tie
-use Rattle.lent.proofs.accepted.Reads as reads
-use Rattle.lent.proofs.accepted.Lts as lts
-use Rattle.lent.proofs.record_after.Reads as record-after-reads
 
 record-after-requires : tie.Need-record-after-requires
 record-after-requires c κs = search needs

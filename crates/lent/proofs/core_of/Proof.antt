@@ -4,9 +4,6 @@ use mathlib.Core.Path.{refl}
 use Rattle.lent.specs.Lent.{coreOf}
 use Rattle.lent.proofs.core_of.Statement.{statement}
 use Rattle.lent.proofs.core_of.Tie as tie
-use Rattle.lent.proofs.core_of.Reads as reads
-use Rattle.lent.proofs.core_of.Lts as lts
-use Rattle.lent.proofs.stack_of.Reads as stack-of-reads
 
 mul-registers : tie.Need-mul-registers
 mul-registers c = search needs

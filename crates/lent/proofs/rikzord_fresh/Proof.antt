@@ -25,7 +25,7 @@ use types.Tokens.{lft-new, lft-end}
 use sound.WpLaws.{FmC, fmOf, WpFn-mono}
 use denote.RattleType.{owns}
 use denote.Laws.{Is, shows}
-use denote.Plain.{Nothing, uint-vals, uint-tells, uint-makes}
+use denote.Plain.{Nothing, uint-makes}
 use denote.Builtin.{u8}
 use denote.Ref.{RefT, MutRef, ptr-vals, mut-tells}
 use denote.Slice.{sliceVal, MutSlice, ShrSlice, Room, finally, slice-vals, mut-slice-tells, shr-slice-tells, shr-slice-copy}
@@ -38,13 +38,11 @@ use denote.Triple.Call.{calls-at}
 use denote.Triple.Clauses.{ensured, lasts}
 use denote.Triple.Spec.{Meets, tripleOf}
 use denote.Triple.Table.{entered, cited}
-use denote.Triple.Walked.{says, Stays, gave-slice, gave-ref, stay-none-slice, stay-none, walkOf, AllGo, goes-gave-slice, goes-gave-ref, goes-none-slice, goes-none, Walks, ends-at, walked, walk-meets}
+use denote.Triple.Walked.{says, Stays, gave-slice, gave-ref, stay-none-slice, walkOf, AllGo, goes-gave-slice, goes-gave-ref, goes-none-slice, Walks, ends-at, walked, walk-meets}
 use denote.Exit.{yes}
 use Rattle.lent.specs.declared.Core.{Core}
 use Rattle.lent.specs.declared.Table.{Table}
 use Rattle.lent.specs.declared.After.{After}
-use Rattle.lent.proofs.Core as T
-use Rattle.lent.proofs.Core.Laws as T′
 use Rattle.lent.proofs.Table as F
 use Rattle.lent.proofs.Table.Laws as F′
 use Rattle.lent.proofs.After as N

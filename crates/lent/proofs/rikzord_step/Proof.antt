@@ -43,8 +43,6 @@ use denote.Exit.{yes}
 use Rattle.lent.specs.declared.Core.{Core}
 use Rattle.lent.specs.declared.Table.{Table}
 use Rattle.lent.specs.declared.After.{After}
-use Rattle.lent.proofs.Core as T
-use Rattle.lent.proofs.Core.Laws as T′
 use Rattle.lent.proofs.Table as F
 use Rattle.lent.proofs.Table.Laws as F′
 use Rattle.lent.proofs.After as N

@@ -4,10 +4,6 @@ use mathlib.Core.Path.{refl}
 use Rattle.lent.specs.Lent.{held}
 use Rattle.lent.proofs.state_of.Statement.{statement}
 use Rattle.lent.proofs.state_of.Tie as tie
-use Rattle.lent.proofs.state_of.Reads as reads
-use Rattle.lent.proofs.state_of.Lts as lts
-use Rattle.lent.proofs.offsets_of.Reads as offsets-of-reads
-use Rattle.lent.proofs.places_of.Reads as places-of-reads
 
 element-copy-out-a : tie.Need-element-copy-out-a
 element-copy-out-a c = search needs
