@@ -1,5 +1,6 @@
 pub mod Again
 pub mod Shared
+pub mod Outcomes
 pub mod Laws
 pub mod Unchanged
 pub mod Back

@@ -3,12 +3,12 @@
 -- test by value says whether it is the one.
 -- Assumes nothing.
 use mathlib.Core.Path.{_≡_, refl, _∙_, ap}
-use mathlib.Core.Bool.{Bool, true, false, not}
+use mathlib.Core.Bool.{Bool, true, false}
 use mathlib.Core.WellFounded.{WellFounded, InvImage·accessible}
 use Prim.Native.Nat.{ℕ, _+_, _<_, _≤_, _^_}
 use native.Mathlib.Omega.{arith}
 use mathlib.Core.List.{List, [], _∷_}
-use lib.Dec.{T as Holds, lit<, ltb}
+use lib.Dec.{lit<, ltb}
 use lib.WfN.{Nat·lt-wfRel}
 use lib.ListN.{length, getD}
 use borrow.Author.Tests.{ltb-true, ltb-false}
@@ -52,6 +52,7 @@ use Rattle.lent.proofs.Core as T
 use Rattle.lent.proofs.Core.Laws as T′
 use Rattle.lent.proofs.Ring as Q
 use Rattle.lent.proofs.Ring.Laws as Q′
+use Rattle.lent.proofs.Outcomes.{holds, fails}
 use Rattle.lent.proofs.Asking.{R, GetOr, NoCore, typed, from-none, begins, asks}
 use Rattle.lent.proofs.Scanning.{Turn, toGo, turn-first, turn-found, turn-next, turn-less, turn-last}
 use Rattle.lent.proofs.get_or.Symbol as get-or-def
@@ -89,14 +90,6 @@ abbrev τ : ℕ → Ty
 
 abbrev mach-ring : Ring → Val
 mach-ring r = LL.tuple-val Q.the-type Q′.the-laws (Q.the-type .to r)
-
-holds : (b : Bool) → Holds b → b ≡ true
-holds true h = refl
-holds false h = absurd h
-
-fails : (b : Bool) → Holds (not b) → b ≡ false
-fails true h = absurd h
-fails false h = refl
 
 module _ {M : Type 1} (𝓤 : URA M) (H : Heap 𝓤) (A : Atoms 𝓤) (at-mem : Memory → SProp 𝓤) (run : Routine → Fun 𝓤) where
   -- the contracts that the proof cites beside those of `Asking`
