@@ -17,7 +17,7 @@ use Rattle.records.specs.File.{cores, corePlace, countPlace, variables, recordP
 use Rattle.records.specs.Records.{present, coreRefusal, variableRefusal, overlap, pairRefusal, overlapRefusal}
 use Rattle.records.specs.Rules.{CoreRules, VariableRules, Apart}
 use Rattle.records.proofs.Exact.{core-rules, core-ok, variable-rules, variable-ok, apart, overlap-not}
-use Rattle.taskset.specs.Judge.{isMark, headRefusal, variablesRefusal, codePlace, codeOf, codeRefusal, sectionRefusal, codesRefusal, judge}
+use Rattle.taskset.specs.Judge.{isMark, headRefusal, variablesRefusal, codePlace, fileEnd, codeOf, codeRefusal, sectionRefusal, codesRefusal, judge}
 use Rattle.taskset.specs.Rules.{WellFormed}
 
 -- ---- the mark
@@ -126,13 +126,13 @@ section f p z =
 
 record Codes (f : List ℕ) : Type 0 where
   sections : first (codeRefusal f) (cores f - 0) 0 ≡ 0
-  ends : codePlace f (cores f) ≡ length f
+  ends : fileEnd f ≡ length f
 
 all-codes : (f : List ℕ) → codesRefusal f ≡ 0 → Codes f
 unfolding codesRefusal
 all-codes f z =
     let a = next-zero (first (codeRefusal f) (cores f - 0) 0) _ z in
-    record { sections = a .0; ends = eqb-true _ _ (unless-zero _ 0 (a .1)) }
+    record { sections = a .0; ends = eqb-true _ _ (unless-zero _ 23 (a .1)) }
 
 pub keeps-rules : (f : List ℕ) → judge f ≡ 0 → WellFormed f
 keeps-rules f z =
@@ -178,7 +178,7 @@ code-up f k (suc d) =
     let e : k + suc d ≡ suc (k + d) = omega arith in
     rw e (omega arith)
 
-module _ (f : List ℕ) (e : codePlace f (cores f) ≡ length f) where
+module _ (f : List ℕ) (e : fileEnd f ≡ length f) where
   -- core k's code begins in the file, and ends in it
   pub code-starts : (k : ℕ) → k ≤ cores f → codePlace f k ≤ length f
   code-starts k h =
@@ -242,7 +242,7 @@ module _ (f : List ℕ) (w : WellFormed f) where
       next-none _ _ (here f (codePlace f k + 2) (omega (arith, code-inside f (w .ends) k h)))
       (next-none _ _ (yes _ 6 (inside 1 8192 (word f (codePlace f k)) (w .some-code k h) (w .most-code k h)))
       (next-none _ _ (here f (codePlace f k + 2 + word f (codePlace f k)) (code-inside f (w .ends) k h)) (accepted-code (codeOf f k) (w .code-rules k h))))))
-      (yes _ 1 (eq-eqb _ _ (w .ends)))
+      (yes _ 24 (eq-eqb _ _ (w .ends)))
 
   pub accepts : judge f ≡ 0
   unfolding judge

@@ -4,3 +4,4 @@ pub mod Ordered
 pub mod Accepted
 pub mod Records
 pub mod Traced
+pub mod Transit

@@ -19,7 +19,7 @@ use Rattle.code.proofs.Exact.{code-judged}
 use Rattle.records.specs.File.{cores, corePlace, countPlace, variables, recordPlace, variableAt}
 use Rattle.records.specs.Records.{present, coreOk, coreRefusal, variableOk, variableRefusal, overlap, pairRefusal, overlapRefusal}
 use Rattle.records.proofs.Exact.{core-rules, core-ok, variable-rules, variable-ok, overlap-not}
-use Rattle.taskset.specs.Judge.{isMark, headRefusal, variablesRefusal, codePlace, codeIn, codeRefusal, sectionRefusal, codesRefusal, judge}
+use Rattle.taskset.specs.Judge.{isMark, headRefusal, variablesRefusal, codePlace, fileEnd, codeIn, codeRefusal, sectionRefusal, codesRefusal, judge}
 use Rattle.taskset.specs.Rules.{NoOverlap}
 use Rattle.taskset.specs.Items.{Present, coreItems, variableItems, lengthItems, fileItems}
 use Rattle.taskset.proofs.Exact.{mark-is, is-mark, pair-at, none}
@@ -89,7 +89,7 @@ flat : (f : List ℕ)
     (next (first (variableRefusal f) (variables f - 0) 0)
     (next (first (overlapRefusal f) (variables f - 0) 0)
     (next (first (codeRefusal f) (cores f - 0) 0)
-    (unless (eqb (codePlace f (cores f)) (length f)) 1)))))))
+    (unless (eqb (fileEnd f) (length f)) 24)))))))
 unfolding judge headRefusal variablesRefusal codesRefusal
 flat f = simp next-both
 
@@ -104,7 +104,7 @@ in-order f =
     (λ _. judges-both (all (variableItems f) (variableRefusal f) (variables f) (variable f))
     (λ _. judges-both (overlaps f)
     (λ _. judges-both (all _ (codeRefusal f) (cores f) (λ k. section f (codePlace f k)))
-    (λ _. judges-end (judges-one 0 (eqb (codePlace f (cores f)) (length f)) (eqb-true _ _) (eq-eqb _ _))))))))))
+    (λ _. judges-end (judges-one 23 (eqb (fileEnd f) (length f)) (eqb-true _ _) (eq-eqb _ _))))))))))
 
 pub judged-in-order : (f : List ℕ) → First (fileItems f) (judge f)
 judged-in-order f = judged (in-order f)

@@ -1,6 +1,6 @@
 -- Document 01: "The file is judged front to back: presence of each item (1), then the item; an item is the mark, a count or length, a core's
 -- three numbers, a variable's record or a core's code. Overlap follows the last variable; targets follow that core's instructions; leftover
--- bytes come last." A line below is an item with its rules and their numbers, in that order; the rules are those of `Rules`, and of the same
+-- bytes come last." Document 02, 2.2: they are 24, and 1 is a file cut short. A line below is an item with its rules and their numbers, in that order; the rules are those of `Rules`, and of the same
 -- files of the crates `records` and `code`. Not here: how a loader computes the number (`Judge`).
 use Prim.Native.Nat.{ℕ, _+_, _≤_}
 use mathlib.Core.Path.{_≡_}
@@ -11,7 +11,7 @@ use Rattle.memory.specs.Memory.{word}
 use Rattle.code.specs.Rules.{codeItems}
 use Rattle.records.specs.File.{cores, corePlace, countPlace, variables, recordPlace, variableAt}
 use Rattle.records.specs.Rules.{CoreRules, VariableRules}
-use Rattle.taskset.specs.Judge.{codePlace, codeOf}
+use Rattle.taskset.specs.Judge.{codePlace, fileEnd, codeOf}
 use Rattle.taskset.specs.Rules.{Mark, NoOverlap}
 
 -- the file has n bytes at least
@@ -38,5 +38,5 @@ fileItems f =
     ∷ forEach (numbers (variables f) 0) (variableItems f)
     ∷ (item 5 (NoOverlap f) ∷ [])  -- overlap follows the last variable
     ∷ forEach (numbers (cores f) 0) (λ k. inTurn (lengthItems f (codePlace f k) ∷ codeItems (codeOf f k) ∷ []))
-    ∷ (item 1 (codePlace f (cores f) ≡ length f) ∷ [])  -- leftover bytes come last
+    ∷ (item 24 (fileEnd f ≡ length f) ∷ [])  -- leftover bytes come last
     ∷ [])

@@ -34,7 +34,7 @@ variablesRefusal f =
 
 -- ---- code
 
--- where the length of core k's code stands; at the number of cores, where the file has to end
+-- where the length of core k's code stands; at the number of cores, where the code of the last one ends
 unfoldable pub codePlace : List ℕ → ℕ → ℕ
 codePlace f zero = recordPlace f (variables f)
 codePlace f (suc k) = codePlace f k + 2 + word f (codePlace f k)
@@ -47,6 +47,10 @@ codeIn f p = part f (p + 2) (word f p)
 abbrev pub codeOf : List ℕ → ℕ → List ℕ
 codeOf f k = codeIn f (codePlace f k)
 
+-- where the last section ends, and with it the file
+abbrev pub fileEnd : List ℕ → ℕ
+fileEnd f = codePlace f (cores f)
+
 -- a length and a code: length 1..8,192, presence, then the code itself
 unfoldable pub sectionRefusal : List ℕ → ℕ → ℕ
 sectionRefusal f p =
@@ -56,9 +60,9 @@ sectionRefusal f p =
 abbrev pub codeRefusal : List ℕ → ℕ → ℕ
 codeRefusal f k = sectionRefusal f (codePlace f k)
 
--- the code of each core, and then nothing is left
+-- the code of each core, and then nothing follows (24, document 02, 2.2)
 unfoldable pub codesRefusal : List ℕ → ℕ
-codesRefusal f = next (first (codeRefusal f) (cores f - 0) 0) (unless (eqb (codePlace f (cores f)) (length f)) 1)
+codesRefusal f = next (first (codeRefusal f) (cores f - 0) 0) (unless (eqb (fileEnd f) (length f)) 24)
 
 -- ---- the whole file
 

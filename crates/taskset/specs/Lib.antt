@@ -4,3 +4,4 @@ pub mod Trace
 pub mod Rules
 pub mod Items
 pub mod Task
+pub mod Transit

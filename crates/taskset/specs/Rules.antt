@@ -8,7 +8,7 @@ use Rattle.memory.specs.Memory.{word}
 use Rattle.code.specs.Rules.{WellFormedCode}
 use Rattle.records.specs.File.{cores, inputSize, variables, variableAt}
 use Rattle.records.specs.Rules.{CoreRules, VariableRules, Apart}
-use Rattle.taskset.specs.Judge.{codePlace, codeOf}
+use Rattle.taskset.specs.Judge.{codePlace, fileEnd, codeOf}
 
 -- ---- the file. `ends` says that every section is there and that nothing follows: the places of the sections, by their counts, are those of `specs/Judge`.
 
@@ -31,7 +31,7 @@ pub record WellFormed (f : List ℕ) : Type 0 where
   pub some-code : (k : ℕ) → k < cores f → 1 ≤ word f (codePlace f k)
   pub most-code : (k : ℕ) → k < cores f → word f (codePlace f k) ≤ 8192
   pub code-rules : (k : ℕ) → k < cores f → WellFormedCode (codeOf f k)
-  pub ends : codePlace f (cores f) ≡ length f
+  pub ends : fileEnd f ≡ length f
 
 -- ---- the trace of a file
 

@@ -1,4 +1,4 @@
-// Document 01, "The task set file" and the trace: judged front to back (refusals 1..7 and 22), and where everything stands in them.
+// Document 01, "The task set file" and the trace: judged front to back (refusals 1..7, 24 and 22), and where everything stands in them.
 ghost use mathlib.Core.Path.{_≡_};
 ghost use Prim.Native.Nat.{ℕ, _+_, _*_, _-_, _<_, _≤_};
 ghost use lib.ListN.{length};
@@ -87,7 +87,7 @@ fn section_refusal(f: &[u8], p: usize) -> u8
     }
     let e = a + n;
     if f.len() < e {
-        return 1;
+        return 1; // cut within the code
     }
     code::judge_code(&f[a..e])
 }
@@ -110,7 +110,7 @@ fn codes_refusal(f: &[u8], n: usize, from: usize) -> u8
     if p == f.len() {
         return 0;
     }
-    1
+    24 // bytes follow the last section
 }
 
 // The refusal number of a task set file, 0 where it is accepted.
