@@ -43,6 +43,9 @@ int main(void) {
 
     expect(rikzord_check_file(task, sizeof task) == 0, "the file is accepted");
     expect(rikzord_check_file(task, 3) == 1, "a file that ends early");
+    uint8_t longer[sizeof task + 1] = {0};
+    memcpy(longer, task, sizeof task);
+    expect(rikzord_check_file(longer, sizeof longer) == 24, "a file with a byte left over");
 
     /* a table that is too short, and shared memory that is */
     expect(rikzord_fresh(task, sizeof task, table, 0, &holder, buffer, 1, shared, 1024) == 21, "a table of no records is too short");

@@ -8,8 +8,8 @@
  * - What one call may write overlaps nothing else that is lent to it. Slices that are only read may overlap each other.
  * - Nothing else reads or writes that memory during the call.
  *
- * Each call answers document 01's refusal number, 0 for none: 1 to 7 for the task set file, 21 lent memory, 22 the trace, 23 the state, 20 a core
- * number; they are tried in this order. A refused call stores nothing. Any bytes may be lent: nothing is required of their values. The
+ * Each call answers the refusal number of document 01 or 02, 0 for none: 1 to 7 and 24 for the task set file (1: it is cut; 24: bytes follow its last
+ * section), 21 lent memory, 22 the trace, 23 the state, 20 a core number; they are tried in this order. A refused call stores nothing. Any bytes may be lent: nothing is required of their values. The
  * definitions are in crates/lent/specs/Lent.antt. */
 #ifndef RIKZORD_H
 #define RIKZORD_H

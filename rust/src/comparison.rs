@@ -20,7 +20,7 @@ pub struct Tally {
     pub takings: usize,
 }
 
-const EVERY_REFUSAL: [u8; 11] = [1, 2, 3, 4, 5, 6, 7, 20, 21, 22, 23];
+const EVERY_REFUSAL: [u8; 12] = [1, 2, 3, 4, 5, 6, 7, 20, 21, 22, 23, 24];
 
 impl Tally {
     fn refusal(&mut self, call: &'static str, number: u8) {

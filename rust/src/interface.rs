@@ -150,7 +150,7 @@ impl<M: Machine> Machine for Stepwise<M> {
         taken: &mut usize,
     ) -> u8 {
         let judged = self.0.step(file, trace, table, holder, buffer, shared, NO_CORE, &mut None);
-        if (refusal::FILE_END..=refusal::TARGET).contains(&judged) {
+        if refusal::of_file(judged) {
             return judged;
         }
         if list.len() < order.len() {

@@ -527,7 +527,7 @@ fn overlap(random: &mut Random, draft: &mut Draft, in_shared: bool) -> bool {
 }
 
 pub const FILE_DAMAGES: &[FileDamage] = &[
-    ("bytes after the last code", refusal::FILE_END, |random, draft| {
+    ("bytes after the last code", refusal::LEFT_OVER, |random, draft| {
         let count = random.between(1, 3);
         draft.rest = random.bytes(count);
         true
@@ -966,7 +966,7 @@ fn damage_file(random: &mut Random, draft: &mut Draft, case: &mut Case) {
         }
         3..=5 => {
             // Two at once, perhaps with a cut: which is judged first is for the machines to agree on. The first leaves the code's layout.
-            let first = |damage: &FileDamage| damage.1 <= refusal::OVERLAP || damage.1 == refusal::TARGET;
+            let first = |damage: &FileDamage| damage.1 <= refusal::OVERLAP || matches!(damage.1, refusal::TARGET | refusal::LEFT_OVER);
             let firsts: Vec<FileDamage> = FILE_DAMAGES.iter().copied().filter(first).collect();
             let one = random.pick(&firsts);
             damage_draft(random, draft, case, one);

@@ -8,7 +8,7 @@
 
 // ---- names and limits
 
-/// Refusals by document 01's number; 0 where there is none.
+/// Refusals by the number of document 01, or of document 02 from 24 on; 0 where there is none.
 pub mod refusal {
     pub const NONE: u8 = 0;
     pub const FILE_END: u8 = 1;
@@ -22,6 +22,12 @@ pub mod refusal {
     pub const SIZES: u8 = 21;
     pub const TRACE: u8 = 22;
     pub const UNFIT: u8 = 23;
+    pub const LEFT_OVER: u8 = 24;
+
+    /// Whether a task set file is refused with this number.
+    pub fn of_file(number: u8) -> bool {
+        matches!(number, FILE_END..=TARGET | LEFT_OVER)
+    }
 }
 
 /// The commands by code byte.
@@ -337,7 +343,7 @@ impl<'f> TaskSet<'f> {
             task.code = reader.bytes(length)?;
             judge_code(task.code, &mut task.starts)?;
         }
-        demand(reader.0.is_empty(), refusal::FILE_END)?;
+        demand(reader.0.is_empty(), refusal::LEFT_OVER)?;
         Ok(set)
     }
 

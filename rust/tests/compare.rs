@@ -34,6 +34,10 @@ enum Mistake {
     StackEntryKept,
     /// Clears the rest of the order list.
     RestOfListCleared,
+    /// Takes bytes left over for a cut.
+    LeftoversAreACut,
+    /// Takes a cut for bytes left over.
+    CutIsLeftovers,
 }
 
 struct Wrong(Mistake);
@@ -44,7 +48,11 @@ impl Machine for Wrong {
     }
 
     fn check_file(&self, file: &[u8]) -> u8 {
-        reference::check_file(file)
+        match (self.0, reference::check_file(file)) {
+            (Mistake::LeftoversAreACut, refusal::LEFT_OVER) => refusal::FILE_END,
+            (Mistake::CutIsLeftovers, refusal::FILE_END) => refusal::LEFT_OVER,
+            (_, number) => number,
+        }
     }
 
     fn fresh(&self, file: &[u8], table: &mut [Core], holder: &mut u8, buffer: &mut [u8], shared: &mut [u8]) -> u8 {
@@ -113,9 +121,17 @@ impl Machine for Wrong {
 #[test]
 fn wrong_machines_are_seen() {
     use Mistake::*;
-    for mistake in
-        [OrderJudgedLate, OutputOfRefused, WholeTableFresh, RingStartsAtItself, StateBeforeTrace, StackEntryKept, RestOfListCleared]
-    {
+    for mistake in [
+        OrderJudgedLate,
+        OutputOfRefused,
+        WholeTableFresh,
+        RingStartsAtItself,
+        StateBeforeTrace,
+        StackEntryKept,
+        RestOfListCleared,
+        LeftoversAreACut,
+        CutIsLeftovers,
+    ] {
         let compared = catch_unwind(AssertUnwindSafe(|| compare(&Reference, &Wrong(mistake), 4, 2000)));
         assert!(compared.is_err(), "{mistake:?} went unseen");
     }

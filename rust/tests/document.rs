@@ -158,6 +158,7 @@ fn samples_of_refusals() {
         assert_eq!(check(&overlap.bytes()), refusal::OVERLAP);
         assert_eq!(check(&raw_code(&[0x63])), refusal::CODE);
         assert_eq!(check(&raw_code(&[JMP, 1, 0])), refusal::TARGET);
+        assert_eq!(check(&[&LISTED[..], &[0]].concat()), refusal::LEFT_OVER);
 
         let machine = &*machine;
         let plant = Plant::fresh(machine, &Draft::single(1, 0, 1, Program::new().returns()), 1);
@@ -227,7 +228,10 @@ fn edges_of_the_file() {
         );
         assert_eq!(check(&with(|draft| draft.variables[0].attribute = 0x01)), 4, "a reader's place stays though it reads no more");
         assert_eq!(check(&with(|draft| draft.variables[0] = Variable { shared: 0, width: 2, attribute: 0x01, local: [2, 0, 0, 0] })), 0);
-        assert_eq!(check(&with(|draft| draft.rest = vec![0])), 1);
+        assert_eq!(check(&with(|draft| draft.rest = vec![0])), 24, "document 02, 2.2: a byte left over");
+        let whole = sound.bytes();
+        assert_eq!(check(&[whole.clone(), whole.clone()].concat()), 24, "the file twice");
+        assert!((0..whole.len()).all(|end| check(&whole[..end]) == 1), "document 02, 2.2: cut anywhere");
         assert_eq!(
             check(&with(|draft| {
                 draft.rest = vec![0];

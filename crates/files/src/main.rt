@@ -1,4 +1,4 @@
-// Files and traces with known results: the samples of refusals 1..7 and 22; files with two of them; the bounds of counts, sizes and lengths; each byte of a file of
+// Files and traces with known results: the samples of refusals 1..7, 22 and 24; files with two of them; the bounds of counts, sizes and lengths; each byte of a file of
 // four cores damaged in five ways; each cut of it; the largest file. A file is lent for reading, so a refusal writes nothing.
 ghost use Prim.Native.Nat.{_≤_};
 
@@ -89,6 +89,11 @@ fn samples() {
         b"goes on",
         b"MCS1\x01\x01\x00\x00\x00\x01\x00\x00\x01\x00\x00\x00",
     );
+    // twice the same file, one after the other
+    file(
+        b"twice",
+        b"MCS1\x01\x01\x00\x00\x00\x01\x00\x00\x01\x00\x00MCS1\x01\x01\x00\x00\x00\x01\x00\x00\x01\x00\x00",
+    );
     // a record is judged whole: cut after a data size of 0, it ends early
     file(b"cut record", b"MCS1\x01\x00\x00");
     // a length outside its range wins over a missing code
@@ -109,6 +114,10 @@ fn samples() {
     file(
         b"code 63 and goes on",
         b"MCS1\x01\x01\x00\x00\x00\x01\x00\x00\x01\x00\x63\x00",
+    );
+    file(
+        b"last and goes on",
+        b"MCS1\x01\x01\x00\x00\x00\x01\x00\x00\x03\x00\x2A\x00\x00\x00",
     );
 }
 

@@ -485,7 +485,7 @@ fn bad_files() {
     bad_file(
         b"goes on",
         b"MCS1\x01\x01\x00\x00\x00\x01\x00\x00\x01\x00\x00\x00",
-        1,
+        24,
     );
     bad_file(b"mark 2", b"MCS2", 2);
     bad_file(b"mark in small letters", b"mcs1", 2);
