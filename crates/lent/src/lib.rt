@@ -5,6 +5,7 @@
 use protocol::Registers;
 use runner::Ran;
 use states::State;
+use window::Shown;
 ghost use mathlib.Core.Path.{_≡_};
 ghost use mathlib.Core.List.{[], _∷_};
 ghost use Prim.Native.Nat.{_+_, _*_, _<_, _≤_};
@@ -14,6 +15,8 @@ ghost use Rattle.memory.specs.Memory.{splice, part};
 ghost use Rattle.taskset.specs.Judge.{judge};
 ghost use Rattle.runner.specs.Runs.{left};
 ghost use Rattle.cycles.specs.Check.{linesOf, linesRefusal, linesByte};
+ghost use Rattle.window.specs.declared.Shown.the-variants.{Code, Data};
+ghost use Rattle.window.specs.Window.{windowAt, windowCall};
 ghost use Rattle.holding.specs.Holding.{lowestRefusal, answersAfter};
 ghost use Rattle.lent.specs.Lent.{noCore, tableFrom, loaded, entries, counted, registersIn, recordWith, heldPlaces, heldOffsets, held, coreOf, recordAfter, acceptedOf, refusedOf, tableLeft, saved, lent, stepTable, stepLent, runTable, runLent, takenTable, takenLent, freshTable, freshLent, ringOf, noRing, placeAfter, recordMoves, scanned, answered, ringAnswer, nextLent, withRegisters, registersAfter, stepRegisters};
 
@@ -704,4 +707,46 @@ pub extern "C" fn rikzord_check_cycles(file: &[u8], lines: &mut u8) -> u8
     let answer = cycles::check_cycles(file);
     *lines = cycles::lines_byte(*lines, answer);
     cycles::lines_refusal(answer)
+}
+
+// ---- the memory window: C gets the number and the place, since it can't be handed a part of a slice
+
+// Where `count` bytes of a core's code from `start` on stand in the file.
+#[no_mangle]
+pub extern "C" fn rikzord_code_window(
+    file: &[u8],
+    buffer: &[u8],
+    core: u8,
+    start: usize,
+    count: usize,
+    place: &mut usize,
+) -> u8
+    ensures { λ r. ⌜ windowAt r (now (place .exit)) ≡ windowCall (now (file .entry)) (length (now (buffer .entry))) Code core start count (now (place .entry)) ⌝ }
+{
+    let found = window::find_window(Shown::Code, core, start, count, file, buffer.len());
+    if found.refusal != 0 {
+        return found.refusal;
+    }
+    *place = found.from;
+    0
+}
+
+// Where `count` bytes of a core's data from `start` on stand in the data buffer.
+#[no_mangle]
+pub extern "C" fn rikzord_data_window(
+    file: &[u8],
+    buffer: &[u8],
+    core: u8,
+    start: usize,
+    count: usize,
+    place: &mut usize,
+) -> u8
+    ensures { λ r. ⌜ windowAt r (now (place .exit)) ≡ windowCall (now (file .entry)) (length (now (buffer .entry))) Data core start count (now (place .entry)) ⌝ }
+{
+    let found = window::find_window(Shown::Data, core, start, count, file, buffer.len());
+    if found.refusal != 0 {
+        return found.refusal;
+    }
+    *place = found.from;
+    0
 }

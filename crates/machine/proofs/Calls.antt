@@ -1,4 +1,4 @@
--- The judging of a call: what each refusal is, and what is known where there is none. In order: loading; lent memory; the order; the chain of
+-- The judging of a call: what each refusal is, and what is known where there is none. In order: loading; the order; the chain of
 -- refusals, forward and backward; the answers. Assumes nothing.
 use mathlib.Core.Path.{_≡_, refl, sym, ap, ap₂, _∙_, subst}
 use mathlib.Core.Logic.{_≢_}
@@ -34,18 +34,6 @@ use Rattle.machine.specs.Calls.{lentFits, setRefusal, callRefusal, answe
 
 -- ---- loading
 
-module _ (f : List ℕ) (x : Loaded) (e : x ≡ loadOf f) where
-  pub file-judged : x .refusal ≡ judge f
-  unfolding loadOf
-  file-judged = ap (λ (y : Loaded). y .refusal) e
-
-  pub file-accepted : x .refusal ≡ 0 → judge f ≡ 0
-  file-accepted z = sym file-judged ∙ z
-
-  pub file-laid : x .refusal ≡ 0 → x .layout ≡ layoutOf f
-  unfolding loadOf
-  file-laid z = ap (λ (y : Loaded). y .layout) e ∙ pick-true _ _ _ (eq-eqb _ _ (file-accepted z))
-
 module _ (f t : List ℕ) (h : State) where
   -- the two parts of a held refusal
   pub held-none : heldRefusal f t h ≡ 0 → (traceRefusal f t ≡ 0) × (stateRefusal f t h ≡ 0)
@@ -68,38 +56,6 @@ module _ (f t : List ℕ) (h : State) where
   pub set-held : {r : ℕ} → judge f ≡ 0 → r ≡ heldRefusal f t h → r ≡ setRefusal f t h
   unfolding setRefusal
   set-held z e = skip z e
-
--- ---- lent memory
-
--- the sizes of four cores, 0 for those from n on, added up
-four-sizes : (g : ℕ → ℕ) (n : ℕ) → n ≤ 4 → pick (ltb 0 n) (g 0) 0 + pick (ltb 1 n) (g 1) 0 + pick (ltb 2 n) (g 2) 0 + pick (ltb 3 n) (g 3) 0 ≡ total (listed g n 0)
-unfolding pick total listed
-four-sizes g zero h = refl
-four-sizes g (suc zero) h = omega arith
-four-sizes g (suc (suc zero)) h = omega arith
-four-sizes g (suc (suc (suc zero))) h = omega arith
-four-sizes g (suc (suc (suc (suc zero)))) h = omega arith
-four-sizes g (suc (suc (suc (suc (suc n))))) h = absurd (omega arith)
-
-size-of : (f : List ℕ) (k : ℕ) → coreLayout f k .size ≡ pick (ltb k (cores f)) (dataSize f k) 0
-unfolding coreLayout pick
-size-of f k = go (ltb k (cores f))
-  where
-    go : (b : Bool) → pick b (coreAt f k) noCore .size ≡ pick b (dataSize f k) 0
-    go true = refl
-    go false = refl
-
-pub sizes-added : (f : List ℕ) → cores f ≤ 4 → coreLayout f 0 .size + coreLayout f 1 .size + coreLayout f 2 .size + coreLayout f 3 .size ≡ total (sizesOf f)
-unfolding sizesOf
-sizes-added f h = rw (size-of f 0, size-of f 1, size-of f 2, size-of f 3) (four-sizes (dataSize f) (cores f) h)
-
-pub size-small : (f : List ℕ) → judge f ≡ 0 → (k : ℕ) → coreLayout f k .size ≤ 4096
-unfolding pick
-size-small f accepted k = rw (size-of f k) (go (ltb k (cores f)) refl)
-  where
-    go : (b : Bool) → ltb k (cores f) ≡ b → pick b (dataSize f k) 0 ≤ 4096
-    go true e = keeps-rules f accepted .core-rules k (ltb-true k (cores f) e) .most-data
-    go false e = omega arith
 
 -- ---- the order
 

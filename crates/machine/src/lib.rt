@@ -58,21 +58,12 @@ pub fn check_state(file: &[u8], trace: &[u8], s: State) -> u8
 
 // ---- lent memory
 
-// The sum of the data sizes, at most 4 times 4,096.
-fn sum_of_sizes(file: &[u8], layout: Layout) -> usize
-    requires { ⌜ (judge (now file) ≡ 0) × (layout ≡ layoutOf (now file)) ⌝ }
-    ensures { λ r. ⌜ (r ≡ total (sizesOf (now (file .entry)))) × (r ≤ 16384) ⌝ }
-{
-    let core = layout.core;
-    core[0].size + core[1].size + core[2].size + core[3].size
-}
-
 // Whether data buffer and shared memory have their sizes.
 fn lent_fits(file: &[u8], layout: Layout, buffer: usize, shared: usize) -> bool
     requires { ⌜ (judge (now file) ≡ 0) × (layout ≡ layoutOf (now file)) ⌝ }
     ensures { λ r. ⌜ r ≡ lentFits (now (file .entry)) buffer shared ⌝ }
 {
-    if buffer == sum_of_sizes(file, layout) {
+    if buffer == taskset::sum_of_sizes(file, layout) {
         return shared == SHARED;
     }
     false
@@ -86,7 +77,7 @@ pub fn buffer_size(file: &[u8]) -> usize
     if loaded.refusal != 0 {
         return 0;
     }
-    sum_of_sizes(file, loaded.layout)
+    taskset::sum_of_sizes(file, loaded.layout)
 }
 
 // ---- the fresh state

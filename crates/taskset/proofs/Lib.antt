@@ -5,3 +5,5 @@ pub mod Accepted
 pub mod Records
 pub mod Traced
 pub mod Transit
+pub mod Sizes
+pub mod Loading

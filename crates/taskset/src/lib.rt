@@ -5,6 +5,8 @@ ghost use lib.ListN.{length};
 ghost use Rattle.records.specs.File.{cores, variables};
 ghost use Rattle.taskset.specs.Judge.{isMark, headRefusal, variablesRefusal, codePlace, sectionRefusal, codesRefusal, judge};
 ghost use Rattle.taskset.specs.Layout.{basePlace, noCore, coreLayout, layoutOf, noLayout, loadOf};
+ghost use Rattle.memory.specs.Memory.{total};
+ghost use Rattle.taskset.specs.Task.{sizesOf};
 ghost use Rattle.taskset.specs.Trace.{tracePlace, traceRefusal, countOf, firstOf, loadTraceOf};
 
 // ---- the refusal of a task set file
@@ -261,6 +263,15 @@ pub fn load(f: &[u8]) -> Loaded
         refusal: r,
         layout: e,
     }
+}
+
+// The sum of the data sizes, at most 4 times 4,096.
+pub fn sum_of_sizes(f: &[u8], layout: Layout) -> usize
+    requires { ⌜ (judge (now f) ≡ 0) × (layout ≡ layoutOf (now f)) ⌝ }
+    ensures { λ r. ⌜ (r ≡ total (sizesOf (now (f .entry)))) × (r ≤ 16384) ⌝ }
+{
+    let core = layout.core;
+    core[0].size + core[1].size + core[2].size + core[3].size
 }
 
 // ---- the trace

@@ -4,7 +4,8 @@ use mathlib.Core.Path.{sym, ap, _∙_}
 use native.Mathlib.Omega.{arith}
 use Rattle.taskset.specs.declared.Layout.{Layout}
 use Rattle.taskset.proofs.Exact.{keeps-rules}
-use Rattle.machine.proofs.Calls.{file-judged, file-accepted, file-laid, held-judged, held-tasks}
+use Rattle.taskset.proofs.Loading.{file-judged, file-accepted, file-laid}
+use Rattle.machine.proofs.Calls.{held-judged, held-tasks}
 use Rattle.machine.proofs.Nexts.{next-file, next-held, next-named, next-free}
 use Rattle.lent.proofs.Scanning.{ring-refused, ring-whole}
 use Rattle.lent.proofs.ring_of.Statement.{statement}

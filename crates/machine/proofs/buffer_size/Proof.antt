@@ -5,7 +5,7 @@ use borrow.Author.Needs.{needs}
 use borrow.Author.Tests.{eq-eqb, ne-eqb}
 use Rattle.verdict.proofs.Verdict.{pick-true, pick-false}
 use Rattle.machine.specs.Calls.{bufferSize}
-use Rattle.machine.proofs.Calls.{file-judged, file-accepted, file-laid}
+use Rattle.taskset.proofs.Loading.{file-judged, file-accepted, file-laid}
 use Rattle.machine.proofs.buffer_size.Statement.{statement}
 use Rattle.machine.proofs.buffer_size.Tie as tie
 

@@ -1,6 +1,7 @@
 -- `machine::check_state` meets its contract: the file is judged, then trace and state. Assumes nothing.
 use borrow.Author.Needs.{needs}
-use Rattle.machine.proofs.Calls.{file-judged, file-accepted, file-laid, held-judged, set-file, set-held}
+use Rattle.taskset.proofs.Loading.{file-judged, file-accepted, file-laid}
+use Rattle.machine.proofs.Calls.{held-judged, set-file, set-held}
 use Rattle.machine.proofs.check_state.Statement.{statement}
 use Rattle.machine.proofs.check_state.Tie as tie
 

@@ -5,7 +5,8 @@ use native.Mathlib.Omega.{arith}
 use borrow.Author.Needs.{needs}
 use borrow.Author.Tests.{not-true, not-false}
 use Rattle.taskset.proofs.Exact.{keeps-rules}
-use Rattle.machine.proofs.Calls.{file-judged, file-accepted, file-laid, fresh-file, fresh-lent, fresh-none, fresh-refused, fresh-granted}
+use Rattle.taskset.proofs.Loading.{file-judged, file-accepted, file-laid}
+use Rattle.machine.proofs.Calls.{fresh-file, fresh-lent, fresh-none, fresh-refused, fresh-granted}
 use Rattle.machine.proofs.fresh.Statement.{statement}
 use Rattle.machine.proofs.fresh.Tie as tie
 

@@ -4,7 +4,8 @@ use native.Mathlib.Omega.{arith}
 use borrow.Author.Needs.{needs}
 use Rattle.taskset.specs.declared.Layout.{Layout}
 use Rattle.states.proofs.Accepted.{accepted-set}
-use Rattle.machine.proofs.Calls.{file-judged, file-accepted, file-laid, held-none, held-judged, held-tasks}
+use Rattle.taskset.proofs.Loading.{file-judged, file-accepted, file-laid}
+use Rattle.machine.proofs.Calls.{held-none, held-judged, held-tasks}
 use Rattle.machine.proofs.Nexts.{next-file, next-held, next-named, next-free, next-refused, next-granted}
 use Rattle.machine.proofs.next_core.Statement.{statement}
 use Rattle.machine.proofs.next_core.Tie as tie

@@ -4,7 +4,8 @@ use native.Mathlib.Omega.{arith}
 use borrow.Author.Needs.{needs}
 use borrow.Author.Tests.{not-true, not-false, le-leb, lt-leb}
 use Rattle.machine.specs.Calls.{runRefusal}
-use Rattle.machine.proofs.Calls.{file-judged, file-accepted, file-laid, held-judged, held-tasks, below-laid, refuse-file, refuse-lent, refuse-room, refuse-held, refuse-named, refuse-none, run-refused, run-granted}
+use Rattle.taskset.proofs.Loading.{file-judged, file-accepted, file-laid}
+use Rattle.machine.proofs.Calls.{held-judged, held-tasks, below-laid, refuse-file, refuse-lent, refuse-room, refuse-held, refuse-named, refuse-none, run-refused, run-granted}
 use Rattle.machine.proofs.run.Statement.{statement}
 use Rattle.machine.proofs.run.Tie as tie
 
