@@ -77,4 +77,14 @@ uint8_t rikzord_lowest(const uint8_t *run, size_t run_length, uint32_t span, uin
  * file's refusal number, and leaves `lines` then. The definitions are in crates/cycles/specs/Check.antt. */
 uint8_t rikzord_check_cycles(const uint8_t *file, size_t file_length, uint8_t *lines);
 
+/* The memory window of a debugger: where `count` bytes of a core's code from `start` on stand in the file, or of its data in the data buffer. The
+ * place goes to `place`: the stretch begins at file + place, or at buffer + place, and is not copied. A length of 0 is an empty stretch, also at the
+ * very end. Refused are: the file (its own number), a data buffer that is not the sum of the data sizes (21, for a code too), and no such core or a
+ * stretch that leaves the core's code or data (34); a refused call leaves `place`. */
+uint8_t rikzord_code_window(const uint8_t *file, size_t file_length, const uint8_t *buffer, size_t buffer_length, uint8_t core, size_t start,
+                            size_t count, size_t *place);
+
+uint8_t rikzord_data_window(const uint8_t *file, size_t file_length, const uint8_t *buffer, size_t buffer_length, uint8_t core, size_t start,
+                            size_t count, size_t *place);
+
 #endif

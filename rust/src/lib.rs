@@ -13,3 +13,4 @@ pub mod lines;
 pub mod linked;
 pub mod random;
 pub mod reference;
+pub mod window;

@@ -5,6 +5,7 @@
 
 use crate::interface::{Machine, Next};
 use crate::lines::Lines;
+use crate::window::{Asked, Shown};
 use crate::reference::{mode, refusal, Core, WRITING_MARK};
 
 const NOTHING: u8 = 255;
@@ -71,6 +72,28 @@ extern "C" {
     ) -> u8;
 
     fn rikzord_lowest(run: *const u8, run_len: usize, span: u32, answers: *mut u8, answers_len: usize) -> u8;
+
+    fn rikzord_code_window(
+        file: *const u8,
+        file_len: usize,
+        buffer: *const u8,
+        buffer_len: usize,
+        core: u8,
+        start: usize,
+        count: usize,
+        place: *mut usize,
+    ) -> u8;
+
+    fn rikzord_data_window(
+        file: *const u8,
+        file_len: usize,
+        buffer: *const u8,
+        buffer_len: usize,
+        core: u8,
+        start: usize,
+        count: usize,
+        place: *mut usize,
+    ) -> u8;
 
     fn rikzord_check_cycles(file: *const u8, file_len: usize, lines: *mut u8) -> u8;
 }
@@ -209,5 +232,25 @@ pub fn check_cycles(file: &[u8]) -> Lines {
         (refusal::NONE, 2) => Lines::Ringed,
         (1.., UNTOUCHED) => Lines::Refused(number),
         _ => panic!("the call answers {number} and {lines}"),
+    }
+}
+
+/// A window, of `liblent.a`. A refused call leaves the place.
+pub fn window(file: &[u8], buffer: &[u8], asked: Asked) -> Result<usize, u8> {
+    const UNTOUCHED: usize = usize::MAX;
+    let mut place = UNTOUCHED;
+    let call = match asked.shown {
+        Shown::Code => rikzord_code_window,
+        Shown::Data => rikzord_data_window,
+    };
+    // Safety: as above.
+    let number = unsafe {
+        call(file.as_ptr(), file.len(), buffer.as_ptr(), buffer.len(), asked.core, asked.start, asked.count, &mut place)
+    };
+    match (number, place) {
+        (refusal::NONE, UNTOUCHED) => panic!("a window without a place"),
+        (refusal::NONE, place) => Ok(place),
+        (number, UNTOUCHED) => Err(number),
+        _ => panic!("the call answers {number} and stores {place}"),
     }
 }

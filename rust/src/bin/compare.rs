@@ -6,6 +6,7 @@ use rikzord_comparison::comparison::compare;
 use rikzord_comparison::holding;
 use rikzord_comparison::interface::{Reference, Stepwise};
 use rikzord_comparison::lines;
+use rikzord_comparison::window;
 
 fn main() {
     let mut numbers = std::env::args().skip(1).map(|number| number.parse().expect("a number"));
@@ -28,7 +29,12 @@ fn main() {
     #[cfg(not(feature = "linked"))]
     let lines = lines::compare(lines::check, lines::check, seed as u64, rounds);
     lines.print();
-    let missing = [tally.missing(), lowest.missing(), lines.missing()].concat();
+    #[cfg(feature = "linked")]
+    let windows = window::compare(window::find, rikzord_comparison::linked::window, seed as u64, rounds);
+    #[cfg(not(feature = "linked"))]
+    let windows = window::compare(window::find, window::find, seed as u64, rounds);
+    windows.print();
+    let missing = [tally.missing(), lowest.missing(), lines.missing(), windows.missing()].concat();
     assert!(missing.is_empty(), "never came: {missing:?}");
     println!("{rounds} rounds: the reference and {second} agree");
 }
