@@ -85,15 +85,14 @@ pub fn div(w: usize, a: Value, b: Value) -> Value
     }
 }
 
-// With the dividend's sign.
+// With the dividend's sign; by 0 it is 0.
 pub fn modulo(a: Value, b: Value) -> Value
-    requires { ⌜ byZero a b ≡ false ⌝ }
     ensures { λ r. ⌜ r ≡ MOD a b ⌝ }
 {
     match a {
         Value::Bool(x) => Value::Bool(x),
         Value::Signed(x) => Value::Signed(values::mod_signed(x, values::signed_in(b))),
-        Value::Unsigned(x) => Value::Unsigned(x % values::unsigned_in(b)),
+        Value::Unsigned(x) => Value::Unsigned(values::mod_unsigned(x, values::unsigned_in(b))),
         Value::Real(x) => Value::Real(x),
         Value::Lreal(x) => Value::Lreal(x),
     }
@@ -343,17 +342,11 @@ fn beyond(size: usize, p: usize, n: usize, q: usize, m: usize, s: usize, k: usiz
     size < s + k
 }
 
-// Whether DIV or MOD of a whole-number type would have a zero divisor.
-fn zero_divisor(code: u8, t: u8, d: &[u8], b: usize) -> bool
-    requires { ⌜ (0 < secondWidth code t → b + secondWidth code t ≤ length (now d)) ⌝ }
-    ensures { λ r. ⌜ r ≡ zeroDivisor code t (readLE (now (d .entry)) b (secondWidth code t)) ⌝ }
+// Whether DIV of a whole-number type would have a zero divisor.
+fn zero_divisor(t: u8, d: &[u8], b: usize) -> bool
+    requires { ⌜ (0 < secondWidth 19 t → b + secondWidth 19 t ≤ length (now d)) ⌝ }
+    ensures { λ r. ⌜ r ≡ zeroDivisor 19 t (readLE (now (d .entry)) b (secondWidth 19 t)) ⌝ }
 {
-    if code < 19 {
-        return false;
-    }
-    if 20 < code {
-        return false;
-    }
     if t < 1 {
         return false;
     }
@@ -521,14 +514,14 @@ pub fn div_at(d: &mut [u8], o: Operands) -> Performed
     if beyond(d.len(), to, w, a, w, b, w) {
         return Performed::Beyond;
     }
-    if zero_divisor(19, t, d, b) {
+    if zero_divisor(t, d, b) {
         return Performed::ByZero;
     }
     put(d, w, to, div_of(d, t, a, b))
 }
 
 fn modulo_of(d: &[u8], t: u8, a: usize, b: usize) -> u64
-    requires { ⌜ (takes 20 t ≡ true) × (a + widthOf t ≤ length (now d)) × (b + widthOf t ≤ length (now d)) × (zeroDivisor 20 t (readLE (now d) b (widthOf t)) ≡ false) ⌝ }
+    requires { ⌜ (takes 20 t ≡ true) × (a + widthOf t ≤ length (now d)) × (b + widthOf t ≤ length (now d)) ⌝ }
     ensures { λ r. ⌜ r ≡ command 20 t (readLE (now (d .entry)) a (widthOf t)) (readLE (now (d .entry)) b (widthOf t)) ⌝ }
 {
     match t {
@@ -554,9 +547,6 @@ pub fn modulo_at(d: &mut [u8], o: Operands) -> Performed
     let w = values::width_of(t);
     if beyond(d.len(), to, w, a, w, b, w) {
         return Performed::Beyond;
-    }
-    if zero_divisor(20, t, d, b) {
-        return Performed::ByZero;
     }
     put(d, w, to, modulo_of(d, t, a, b))
 }

@@ -9,7 +9,7 @@ use lib.Ieee as Ieee
 use Rattle.verdict.specs.Verdict.{pick}
 use Rattle.memory.specs.Memory.{part, valueLE, readLE}
 use Rattle.values.specs.Types.{widthOf}
-use Rattle.values.specs.Width.{pattern, signed, wrap, turned, shiftLeft, rotateLeft}
+use Rattle.values.specs.Width.{pattern, signed, wrap, signedRemainder, turned, shiftLeft, rotateLeft}
 use Rattle.values.specs.Values.{typed, patternOf, stored, readValue}
 use Rattle.values.specs.Commands.{onKinds, onBits, ADD, MUL, DIV, MOD, AND, OR, NOT, SHL, ROL, result, resultType, command}
 use Rattle.protocol.specs.State.{State, Task, core}
@@ -26,5 +26,5 @@ held-waits t k s w = rw (w .mode-3) (go (s .holder) (w .held))
     go (suc h) l = refl
 
 pub marked : (t : Task) (k : ℕ) (s : State) → WaitsToWrite k s → map given (cases t k s) ≡ map said (cases t k s)
-unfolding resultOf given said RS SR cases command result resultType typed patternOf stored readValue widthOf pick part valueLE readLE pattern signed wrap turned shiftLeft rotateLeft onKinds onBits ADD MUL DIV MOD AND OR NOT SHL ROL Ieee.add Ieee.ofBits Ieee.toBits
+unfolding resultOf given said RS SR cases command result resultType typed patternOf stored readValue widthOf pick part valueLE readLE pattern signed wrap turned shiftLeft rotateLeft onKinds onBits signedRemainder ADD MUL DIV MOD AND OR NOT SHL ROL Ieee.add Ieee.ofBits Ieee.toBits
 marked t k s w = rw (held-waits t k s w)

@@ -74,7 +74,7 @@ by-zero p q =
     (λ d h. refl) (λ d h. signed-zero 8 q h) (λ d h. h) (λ d h. signed-zero 16 q h) (λ d h. h) (λ d h. signed-zero 32 q h) (λ d h. h)
     (λ d h. signed-zero 64 q h) (λ d h. h) (λ d h. refl) (λ d h. refl) (λ d h. absurd (d refl))
 
-pub not-by-zero : (code t k : ℕ) (s : List ℕ) (a b : ℕ) (x y : Value) → t ≡ k → within 19 20 code ≡ true → takes code 11 ≡ false → takes code t ≡ true
+pub not-by-zero : (code t k : ℕ) (s : List ℕ) (a b : ℕ) (x y : Value) → t ≡ k → eqb code 19 ≡ true → takes code 11 ≡ false → takes code t ≡ true
     → x ≡ readValue s k a → y ≡ readValue s k b → zeroDivisor code t (readLE s b (widthOf t)) ≡ false → byZero x y ≡ false
 unfolding readValue zeroDivisor
 not-by-zero code t k s a b x y key i j l p q z =
@@ -86,36 +86,27 @@ not-by-zero code t k s a b x y key i j l p q z =
 
 -- ---- the test for a zero divisor
 
-pub zero-outside : (code t q : ℕ) → (19 ≤ code → code ≤ 20 → 1 ≤ t → t ≤ 8 → ⊥) → false ≡ zeroDivisor code t q
+pub zero-outside : (t q : ℕ) → (1 ≤ t → t ≤ 8 → ⊥) → false ≡ zeroDivisor 19 t q
 unfolding zeroDivisor
-zero-outside code t q h =
-    sym
-    (both-not (within 19 20 code) (both (within 1 8 t) (eqb q 0))
-    (λ c e.
-    let i = inside-true 19 20 code c in
-    let j = inside-true 1 8 t (both-true (within 1 8 t) (eqb q 0) e .0) in
-    h (i .0) (i .1) (j .0) (j .1)))
+zero-outside t q h =
+    sym (both-not (within 1 8 t) (eqb q 0) (λ c e. let i = inside-true 1 8 t c in h (i .0) (i .1)))
 
-module _ (code t : ℕ) (h : 19 ≤ code) (k : code ≤ 20) (w : ℕ) (e : w ≡ widthOf t) where
-  second-whole : secondWidth code t ≡ w
-  unfolding secondWidth
-  second-whole =
-      pick-false (within 28 31 code) 1 (pick (eqb code 27) 0 (widthOf t)) (outside 28 31 code (λ a b. let z : ⊥ = omega arith in z))
-      ∙ pick-false (eqb code 27) 0 (widthOf t) (ne-eqb code 27 (λ a. let z : ⊥ = omega arith in z))
-      ∙ sym e
+module _ (t w : ℕ) (e : w ≡ widthOf t) where
+  second-whole : secondWidth 19 t ≡ w
+  unfolding secondWidth pick
+  second-whole = sym e
 
-  pub divisor-in : (b n : ℕ) → t < 12 → (0 < secondWidth code t → b + secondWidth code t ≤ n) → b + w ≤ n
+  pub divisor-in : (b n : ℕ) → t < 12 → (0 < secondWidth 19 t → b + secondWidth 19 t ≤ n) → b + w ≤ n
   divisor-in b n l f =
       subst (λ (m : ℕ). b + m ≤ n) second-whole
       (f (subst (λ (m : ℕ). 0 < m) (sym second-whole) (width-pos (subst Width (sym e) (width-ok t l)))))
 
-  pub zero-inside : (s : List ℕ) (b p : ℕ) → 1 ≤ t → t ≤ 8 → p ≡ readLE s b w → eqb p 0 ≡ zeroDivisor code t (readLE s b (secondWidth code t))
+  pub zero-inside : (s : List ℕ) (b p : ℕ) → 1 ≤ t → t ≤ 8 → p ≡ readLE s b w → eqb p 0 ≡ zeroDivisor 19 t (readLE s b (secondWidth 19 t))
   unfolding zeroDivisor
   zero-inside s b p i j f =
       ap (λ (q : ℕ). eqb q 0) (f ∙ ap (readLE s b) (sym second-whole))
       ∙ sym
-      (ap (λ (c : Bool). both c (both (within 1 8 t) (eqb (readLE s b (secondWidth code t)) 0))) (inside 19 20 code h k)
-      ∙ ap (λ (c : Bool). both c (eqb (readLE s b (secondWidth code t)) 0)) (inside 1 8 t i j))
+      (ap (λ (c : Bool). both c (eqb (readLE s b (secondWidth 19 t)) 0)) (inside 1 8 t i j))
 
 exactly : {n k : ℕ} → n ≤ k → k ≤ n → n ≡ k
 exactly h d = omega arith

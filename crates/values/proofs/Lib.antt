@@ -7,3 +7,4 @@ pub mod Bits
 pub mod Reading
 pub mod Commands
 pub mod Bounds
+pub mod Zero

@@ -176,5 +176,12 @@ eq-bits (pos a) (negsuc b) hx hy = ne-eqb a (2 ^ 64 - suc b) (λ q. omega arith)
 eq-bits (negsuc a) (pos b) hx hy = ne-eqb (2 ^ 64 - suc a) b (λ q. omega arith)
 eq-bits (negsuc a) (negsuc b) hx hy = eqb-iff (2 ^ 64 - suc a) (2 ^ 64 - suc b) a b (eqb a b) refl (λ q. omega arith) (λ q. ap (λ (n : ℕ). 2 ^ 64 - suc n) q)
 
+-- a divisor of 0, by its bits
+pub zero-bits : (y : ℤ) → mag y < 2 ^ 63 → ofZ w64 y ≡ 0 → eqZ y (pos 0) ≡ true
+zero-bits y h e = sym (eq-bits y (pos 0) h (omega arith)) ∙ eq-eqb (ofZ w64 y) 0 e
+
+pub other-bits : (y : ℤ) → mag y < 2 ^ 63 → (ofZ w64 y ≡ 0 → ⊥) → eqZ y (pos 0) ≡ false
+other-bits y h e = sym (eq-bits y (pos 0) h (omega arith)) ∙ ne-eqb (ofZ w64 y) 0 e
+
 pub not-zero : (z : ℤ) → eqZ z (pos 0) ≡ false → z ≡ pos 0 → ⊥
 not-zero z e q = subst T (sym (ap (λ (x : ℤ). eqZ x (pos 0)) q) ∙ e) tt

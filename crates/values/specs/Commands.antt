@@ -6,14 +6,14 @@ use mathlib.Core.Bool.{Bool, false, not, _&&_, _||_, Bool·beq}
 use mathlib.Core.List.{List}
 use lib.IntN.{ℤ, pos, _+ℤ_, _-ℤ_, _*ℤ_}
 use lib.Dec.{leb, ltb, eqb}
-use lib.Signed.{quotZ, remZ, ltZ, leZ}
+use lib.Signed.{quotZ, ltZ, leZ}
 use lib.Bits.{bitAnd, bitOr, bitXor}
 use lib.Ieee as Ieee
 use lib.Ieee.{Float, Format, binary32, binary64}
 use Rattle.verdict.specs.Verdict.{pick, both, either, within}
 use Rattle.memory.specs.Memory.{splice, bytesLE, readLE}
 use Rattle.values.specs.Types.{widthOf}
-use Rattle.values.specs.Width.{pattern, wrap, eqZ, flipped, shiftLeft, shiftRight, rotateLeft, rotateRight}
+use Rattle.values.specs.Width.{pattern, wrap, eqZ, signedRemainder, unsignedRemainder, flipped, shiftLeft, shiftRight, rotateLeft, rotateRight}
 use Rattle.values.specs.Values.{typed, stored, truthIn, signedIn, unsignedIn, realIn, lrealIn}
 use Rattle.values.specs.declared.Value.{Value}
 use Rattle.values.specs.declared.Value.the-variants.{Bool as VBool, Signed, Unsigned, Real, Lreal}
@@ -69,9 +69,9 @@ MUL w = onKinds left (λ x y. wrap (8 * w) (x *ℤ y)) (λ x y. (x * y) % 2 ^ (8
 unfoldable pub DIV : ℕ → Value → Value → Value
 DIV w = onKinds left (λ x y. wrap (8 * w) (quotZ x y)) (λ x y. x / y) Ieee.div
 
--- with the dividend's sign
+-- with the dividend's sign; by 0 it is 0, at every width
 unfoldable pub MOD : Value → Value → Value
-MOD = onKinds left remZ (λ x y. x % y) leftFloat
+MOD = onKinds left signedRemainder unsignedRemainder leftFloat
 
 -- ---- logic
 
@@ -164,9 +164,9 @@ command code t p q = stored (resultType code t) (result code (widthOf t) (typed 
 
 -- ---- zero divisors
 
--- DIV or MOD of a whole-number type with the pattern q of zero; a float divisor never is
+-- DIV of a whole-number type by the pattern q of zero; a float divisor never is one, nor is that of MOD (document 02, 2.1)
 unfoldable pub zeroDivisor : ℕ → ℕ → ℕ → Bool
-zeroDivisor code t q = both (within 19 20 code) (both (within 1 8 t) (eqb q 0))
+zeroDivisor code t q = both (eqb code 19) (both (within 1 8 t) (eqb q 0))
 
 -- the same of two values
 unfoldable pub byZero : Value → Value → Bool

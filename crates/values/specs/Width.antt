@@ -1,11 +1,12 @@
 -- Whole numbers at a width of b bits, for every b: the pattern that stands for a number, the number that a pattern stands for, wrapping,
--- and what logic, shifts and rotations make of a pattern. In order: widths; numbers and patterns; bits.
+-- remainders, and what logic, shifts and rotations make of a pattern. In order: widths; numbers and patterns; remainders; bits.
 use Prim.Native.Nat.{ℕ, suc, _+_, _-_, _*_, _/_, _%_, _^_}
 use mathlib.Core.Bool.{Bool, true, false}
 use mathlib.Core.Path.{_≡_}
 use mathlib.Core.Logic.{_⊎_}
 use lib.IntN.{ℤ, pos, negsuc}
 use lib.Dec.{ltb, leb, eqb}
+use lib.Signed.{remZ}
 use Rattle.verdict.specs.Verdict.{pick}
 
 -- ---- widths
@@ -35,6 +36,15 @@ eqZ (pos a) (pos b) = eqb a b
 eqZ (pos a) (negsuc b) = false
 eqZ (negsuc a) (pos b) = false
 eqZ (negsuc a) (negsuc b) = eqb a b
+
+-- ---- remainders
+
+-- with the dividend's sign; by 0 it is 0 (document 02, 2.1: "IEC 61131-3 defines IN1 MOD 0 as 0")
+unfoldable pub signedRemainder : ℤ → ℤ → ℤ
+signedRemainder x y = pick (eqZ y (pos 0)) (pos 0) (remZ x y)
+
+unfoldable pub unsignedRemainder : ℕ → ℕ → ℕ
+unsignedRemainder x y = pick (eqb y 0) 0 (x % y)
 
 -- ---- bits
 

@@ -5,11 +5,11 @@ ghost use mathlib.Core.Path.{_≡_};
 ghost use Prim.Native.Nat.{_+_, _-_, _*_, _%_, _^_, _≤_, _<_};
 ghost use lib.IntN.{pos, negsuc, negℤ, _+ℤ_, _-ℤ_, _*ℤ_};
 ghost use lib.ListN.{length};
-ghost use lib.Signed.{quotZ, remZ};
+ghost use lib.Signed.{quotZ};
 ghost use lib.Ieee as Ieee;
 ghost use lib.Ieee.{binary32, binary64};
 ghost use Rattle.values.specs.Types.{widthOf};
-ghost use Rattle.values.specs.Width.{Width, pattern, signed, wrap, flipped, shiftLeft, shiftRight, turned, rotateLeft, rotateRight};
+ghost use Rattle.values.specs.Width.{Width, pattern, signed, wrap, signedRemainder, unsignedRemainder, flipped, shiftLeft, shiftRight, turned, rotateLeft, rotateRight};
 ghost use Rattle.values.specs.Values.{patternOf, readValue, truthIn, signedIn, unsignedIn, realIn, lrealIn};
 
 // A typed operand: a truth value, a signed or unsigned whole number, a REAL or an LREAL.
@@ -284,12 +284,20 @@ pub fn div_signed(w: usize, x: i64, y: i64) -> i64
     }
 }
 
-// The remainder, with the dividend's sign; the lowest by -1 leaves 0.
+// The remainder, with the dividend's sign; by 0 it is 0; the lowest by -1 leaves 0.
 pub fn mod_signed(x: i64, y: i64) -> i64
-    requires { ⌜ (y ≡ pos 0 → ⊥) ⌝ }
-    ensures { λ r. ⌜ r ≡ remZ x y ⌝ }
+    ensures { λ r. ⌜ r ≡ signedRemainder x y ⌝ }
 {
+    if y == 0 {
+        return 0; // MOD by 0
+    }
     if y == -1 { 0 } else { x % y }
+}
+
+pub fn mod_unsigned(x: u64, y: u64) -> u64
+    ensures { λ r. ⌜ r ≡ unsignedRemainder x y ⌝ }
+{
+    if y == 0 { 0 } else { x % y }
 }
 
 // Each bit of w bytes turned over.

@@ -1,15 +1,9 @@
 -- `commands::modulo` meets its contract. Each arm is the command on its kind (`kinds`). Assumes nothing.
-use Rattle.commands.proofs.Arms.{kinds, divisors}
+use Rattle.commands.proofs.Arms.{kinds}
 use Rattle.values.specs.Commands.{MOD}
 use borrow.Author.Needs.{needs}
 use Rattle.commands.proofs.modulo.Statement.{statement}
 use Rattle.commands.proofs.modulo.Tie as tie
-
-mod-signed-requires : tie.Need-mod-signed-requires
-mod-signed-requires c κs = search divisors
-
-rem-t12 : tie.Need-rem-t12
-rem-t12 c = search divisors
 
 returns : tie.Need-returns
 unfolding MOD
@@ -38,10 +32,10 @@ modulo-spec =
     (λ c. search needs)
     (λ c. search needs)
     (λ c κs. search needs)
-    mod-signed-requires
+    (λ c κs. search needs)
     (λ c. search needs)
     (λ c κs. search needs)
-    rem-t12
+    (λ c κs. search needs)
     (λ c. search needs)
     (λ c. search needs)
     returns

@@ -1,9 +1,8 @@
--- `commands::modulo_at` meets its contract. The addresses are tried, then the divisor; what is stored is the command's effect (`was-done`). Assumes nothing.
+-- `commands::modulo_at` meets its contract. The addresses are tried; what is stored is the command's effect (`was-done`). Assumes nothing.
 use Rattle.verdict.specs.Verdict.{pick}
 use Rattle.values.specs.Types.{widthOf}
-use Rattle.values.specs.Commands.{resultType, resultWidth, secondWidth}
-use mathlib.Core.Path.{sym, _∙_}
-use Rattle.commands.proofs.Attempts.{given-taken, given-type, place-fits, first-in, second-in, given-width, result-in, was-beyond, was-done, divisor-in, not-zero, was-zero}
+use Rattle.values.specs.Commands.{resultType, resultWidth, secondWidth, zeroDivisor}
+use Rattle.commands.proofs.Attempts.{given-taken, given-type, place-fits, first-in, second-in, given-width, result-in, was-beyond, was-done}
 use borrow.Author.Needs.{needs}
 use Rattle.commands.proofs.modulo_at.Statement.{statement}
 use Rattle.commands.proofs.modulo_at.Tie as tie
@@ -18,24 +17,15 @@ returns : tie.Need-returns
 unfolding resultType resultWidth secondWidth widthOf pick
 returns c = search was-beyond
 
-zero-divisor-requires : tie.Need-zero-divisor-requires
-unfolding secondWidth pick
-zero-divisor-requires c κs = search divisor-in
-
-returns-2 : tie.Need-returns-2
-unfolding resultType resultWidth secondWidth widthOf pick
-returns-2 c = search was-zero
-
 modulo-of-requires : tie.Need-modulo-of-requires
-unfolding secondWidth pick
-modulo-of-requires c κs = (search given-taken, search first-in, search second-in, sym (c .before .before .before .zero-divisor .ensures) ∙ c .before .before .if2 .left)
+modulo-of-requires c κs = (search given-taken, search first-in, search second-in)
 
 put-requires : tie.Need-put-requires
 put-requires c κs = search (given-width, result-in)
 
-returns-3 : tie.Need-returns-3
-unfolding resultType resultWidth secondWidth widthOf pick
-returns-3 c = search (was-done, not-zero)
+returns-2 : tie.Need-returns-2
+unfolding resultType resultWidth secondWidth widthOf pick zeroDivisor
+returns-2 c = search was-done
 
 pub modulo-at-spec : {M : Type 1} → statement M
 modulo-at-spec =
@@ -44,10 +34,7 @@ modulo-at-spec =
     width-of-requires
     beyond-requires
     returns
-    zero-divisor-requires
-    (λ c. search needs)
-    returns-2
     modulo-of-requires
     put-requires
     (λ c. search needs)
-    returns-3)
+    returns-2)

@@ -2,7 +2,7 @@
 use Rattle.verdict.specs.Verdict.{pick}
 use Rattle.values.specs.Types.{widthOf, takes}
 use Rattle.values.specs.Commands.{result, resultType}
-use Rattle.values.proofs.Commands.{place-at, two-pattern, last-whole, not-by-zero}
+use Rattle.values.proofs.Commands.{place-at, two-pattern, last-whole}
 use borrow.Author.Needs.{needs}
 use Rattle.commands.proofs.modulo_of.Statement.{statement}
 use Rattle.commands.proofs.modulo_of.Tie as tie
@@ -14,8 +14,7 @@ read-value-requires-2 : tie.Need-read-value-requires-2
 read-value-requires-2 c κs = search (needs, place-at)
 
 modulo-requires : tie.Need-modulo-requires
-unfolding takes pick
-modulo-requires c κs = search (not-by-zero)
+modulo-requires c κs = search needs
 
 read-value-requires-3 : tie.Need-read-value-requires-3
 read-value-requires-3 c κs = search (needs, place-at)
@@ -24,8 +23,7 @@ read-value-requires-4 : tie.Need-read-value-requires-4
 read-value-requires-4 c κs = search (needs, place-at)
 
 modulo-requires-2 : tie.Need-modulo-requires-2
-unfolding takes pick
-modulo-requires-2 c κs = search (not-by-zero)
+modulo-requires-2 c κs = search needs
 
 read-value-requires-5 : tie.Need-read-value-requires-5
 read-value-requires-5 c κs = search (needs, place-at)
@@ -34,8 +32,7 @@ read-value-requires-6 : tie.Need-read-value-requires-6
 read-value-requires-6 c κs = search (needs, place-at)
 
 modulo-requires-3 : tie.Need-modulo-requires-3
-unfolding takes pick
-modulo-requires-3 c κs = search (not-by-zero)
+modulo-requires-3 c κs = search needs
 
 read-value-requires-7 : tie.Need-read-value-requires-7
 read-value-requires-7 c κs = search (needs, place-at)
@@ -44,8 +41,7 @@ read-value-requires-8 : tie.Need-read-value-requires-8
 read-value-requires-8 c κs = search (needs, place-at)
 
 modulo-requires-4 : tie.Need-modulo-requires-4
-unfolding takes pick
-modulo-requires-4 c κs = search (not-by-zero)
+modulo-requires-4 c κs = search needs
 
 read-value-requires-9 : tie.Need-read-value-requires-9
 read-value-requires-9 c κs = search (needs, place-at)
@@ -54,8 +50,7 @@ read-value-requires-10 : tie.Need-read-value-requires-10
 read-value-requires-10 c κs = search (needs, place-at)
 
 modulo-requires-5 : tie.Need-modulo-requires-5
-unfolding takes pick
-modulo-requires-5 c κs = search (not-by-zero)
+modulo-requires-5 c κs = search needs
 
 read-value-requires-11 : tie.Need-read-value-requires-11
 read-value-requires-11 c κs = search (needs, place-at)
@@ -64,8 +59,7 @@ read-value-requires-12 : tie.Need-read-value-requires-12
 read-value-requires-12 c κs = search (needs, place-at)
 
 modulo-requires-6 : tie.Need-modulo-requires-6
-unfolding takes pick
-modulo-requires-6 c κs = search (not-by-zero)
+modulo-requires-6 c κs = search needs
 
 read-value-requires-13 : tie.Need-read-value-requires-13
 read-value-requires-13 c κs = search (needs, place-at)
@@ -74,8 +68,7 @@ read-value-requires-14 : tie.Need-read-value-requires-14
 read-value-requires-14 c κs = search (needs, place-at)
 
 modulo-requires-7 : tie.Need-modulo-requires-7
-unfolding takes pick
-modulo-requires-7 c κs = search (not-by-zero)
+modulo-requires-7 c κs = search needs
 
 read-value-requires-15 : tie.Need-read-value-requires-15
 unfolding takes pick
@@ -86,8 +79,7 @@ unfolding takes pick
 read-value-requires-16 c κs = search (needs, place-at, last-whole)
 
 modulo-requires-8 : tie.Need-modulo-requires-8
-unfolding takes pick
-modulo-requires-8 c κs = search (not-by-zero, last-whole)
+modulo-requires-8 c κs = search needs
 
 returns : tie.Need-returns
 unfolding result resultType widthOf pick
