@@ -226,7 +226,9 @@ fn any_instruction(random: &mut Random, program: Program, data_size: usize, targ
             let width = WIDTHS[kind as usize] as usize;
             let b = at(random, width);
             let divides = matches!(code, DIV | MOD) && !random.once_in(4);
-            let program = if divides { program.constant(b, &operand(random, kind)[..width]) } else { program };
+            // By zero MOD is 0, DIV a fault.
+            let divisor = if code == MOD && random.once_in(3) { [0; 8] } else { operand(random, kind) };
+            let program = if divides { program.constant(b, &divisor[..width]) } else { program };
             program.typed(code, kind, at(random, width), at(random, width), b)
         }
     }

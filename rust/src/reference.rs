@@ -584,7 +584,7 @@ struct Operands {
     b: usize,
 }
 
-/// Every address is tested before the command can fail otherwise; `None` is a zero divisor.
+/// Every address is tested before the command can fail otherwise; `None` is a zero divisor of DIV.
 #[inline(always)]
 fn apply<A: Value, B: Value, R: Value>(data: &mut [u8], operands: &Operands, result: impl FnOnce(A, B) -> Option<R>) -> Result<(), Fault> {
     let a = A::of(stretch(data, operands.a, A::WIDTH)?);
@@ -664,7 +664,8 @@ fn typed(code: u8, kind: u8, data: &mut [u8], o: &Operands) -> Result<(), Fault>
             apply(data, o, |a: T, b: T| Some(a / b)),
             apply(data, o, |a: T, b: T| if b == 0 { None } else { Some(a.wrapping_div(b)) })
         ),
-        MOD => wholes!(kind, T, apply(data, o, |a: T, b: T| if b == 0 { None } else { Some(a.wrapping_rem(b)) })),
+        // Document 02, 2.1: by zero it is 0.
+        MOD => wholes!(kind, T, apply(data, o, |a: T, b: T| Some(if b == 0 { 0 } else { a.wrapping_rem(b) }))),
         AND => logic!(kind, T, apply(data, o, |a: T, b: T| Some(a & b))),
         OR => logic!(kind, T, apply(data, o, |a: T, b: T| Some(a | b))),
         XOR => logic!(kind, T, apply(data, o, |a: T, b: T| Some(a ^ b))),

@@ -2,7 +2,8 @@
 
 use rikzord_comparison::comparison::compare;
 use rikzord_comparison::interface::{Machine, Next, Reference, Stepwise};
-use rikzord_comparison::reference::{self, refusal, Core};
+use rikzord_comparison::reference::{self, command, flag, mode, refusal, types, Core};
+use std::ops::Range;
 use std::panic::{catch_unwind, AssertUnwindSafe};
 
 #[test]
@@ -20,6 +21,8 @@ fn the_linked_machine_agrees() {
 
 #[derive(Clone, Copy, Debug, PartialEq)]
 enum Mistake {
+    /// None: without one the same machine passes.
+    Nothing,
     /// Judges the order step by step, so that steps before a wrong one are made.
     OrderJudgedLate,
     /// Writes the number of takings of a refused run.
@@ -38,6 +41,39 @@ enum Mistake {
     LeftoversAreACut,
     /// Takes a cut for bytes left over.
     CutIsLeftovers,
+    /// Leaves the dividend where MOD divides by zero.
+    DividendLeft,
+    /// Stops the core where MOD divides by zero.
+    ModByZeroStops,
+}
+
+/// The stretches of the data buffer that hold dividend and destination, where this core's next instruction is MOD by zero.
+fn mod_by_zero(file: &[u8], table: &[Core], buffer: &[u8], core: u8) -> Option<(Range<usize>, Range<usize>)> {
+    let word = |at: usize| u16::from_le_bytes([file[at], file[at + 1]]) as usize;
+    let core = core as usize;
+    if reference::check_file(file) != refusal::NONE || core >= file[4] as usize {
+        return None;
+    }
+    let (cores, registers) = (file[4] as usize, &table.get(core)?.registers);
+    let mut code = 6 + 6 * cores + 12 * file[5 + 6 * cores] as usize;
+    for _ in 0..core {
+        code += 2 + word(code);
+    }
+    let at = code + 2 + registers.counter as usize;
+    let runs = registers.mode == mode::EXECUTING && (registers.count as usize) < word(5 + 6 * core + 4);
+    if !runs || registers.counter as usize >= word(code) || file[at] != command::MOD {
+        return None;
+    }
+    let base: usize = (0..core).map(|other| word(5 + 6 * other)).sum();
+    let width = types::WIDTHS[file[at + 1] as usize] as usize;
+    let operand = |at: usize| {
+        let address = word(at);
+        let absolute = reference::ABSOLUTE as usize;
+        let place = if address < absolute { address + registers.offset as usize } else { address - absolute };
+        (place + width <= word(5 + 6 * core)).then_some(base + place..base + place + width)
+    };
+    let (to, a, b) = (operand(at + 2)?, operand(at + 4)?, operand(at + 6)?);
+    buffer.get(b)?.iter().all(|&byte| byte == 0).then_some((a, to))
 }
 
 struct Wrong(Mistake);
@@ -75,7 +111,20 @@ impl Machine for Wrong {
         taken: &mut Option<u8>,
     ) -> u8 {
         let before = table.to_vec();
+        let data = buffer.to_vec();
         let number = reference::step(file, trace, table, holder, buffer, shared, core, taken);
+        if let (refusal::NONE, Some((dividend, to))) = (number, mod_by_zero(file, &before, &data, core)) {
+            match self.0 {
+                Mistake::DividendLeft => buffer[to].copy_from_slice(&data[dividend]),
+                Mistake::ModByZeroStops => {
+                    buffer.copy_from_slice(&data);
+                    table[core as usize] = before[core as usize];
+                    table[core as usize].registers.mode = mode::STOPPED;
+                    table[core as usize].registers.flags |= flag::ZERO_DIVISOR;
+                }
+                _ => {}
+            }
+        }
         if self.0 == Mistake::StackEntryKept {
             table.iter_mut().zip(before).for_each(|(core, before)| core.places = before.places);
         }
@@ -121,6 +170,7 @@ impl Machine for Wrong {
 #[test]
 fn wrong_machines_are_seen() {
     use Mistake::*;
+    compare(&Reference, &Wrong(Nothing), 4, 2000);
     for mistake in [
         OrderJudgedLate,
         OutputOfRefused,
@@ -131,6 +181,8 @@ fn wrong_machines_are_seen() {
         RestOfListCleared,
         LeftoversAreACut,
         CutIsLeftovers,
+        DividendLeft,
+        ModByZeroStops,
     ] {
         let compared = catch_unwind(AssertUnwindSafe(|| compare(&Reference, &Wrong(mistake), 4, 2000)));
         assert!(compared.is_err(), "{mistake:?} went unseen");

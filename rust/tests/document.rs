@@ -331,6 +331,10 @@ fn bench_values() {
         assert_eq!(whole(MOD, SINT, -7, 2), -1i8 as u8 as u64);
         assert_eq!(whole(DIV, SINT, -128, -1), -128i8 as u8 as u64);
         assert_eq!(whole(MOD, SINT, -128, -1), 0);
+        // Document 02, 2.1.
+        for kind in SINT..=LWORD {
+            assert_eq!((whole(MOD, kind, 7, 0), whole(MOD, kind, -7, 0)), (0, 0), "type {kind}");
+        }
         assert_eq!(whole(ROL, BYTE, 129, 1), 3);
         assert_eq!(whole(SHL, BYTE, 1, 8), 0);
         let real = |code, a: f32, b: f32| {
@@ -455,7 +459,9 @@ fn faults_and_addresses() {
         ("MEMCP of none at the end", new().copy(16, 16, 0), 0),
         ("MEMCP of none past the end", new().copy(17, 0, 0), flag::BEYOND_DATA),
         ("zero divisor", new().typed(DIV, INT, 0, 2, 4), flag::ZERO_DIVISOR),
-        ("address before divisor", new().typed(MOD, INT, 15, 2, 4), flag::BEYOND_DATA),
+        ("address before divisor", new().typed(DIV, INT, 15, 2, 4), flag::BEYOND_DATA),
+        ("MOD by zero", new().typed(MOD, INT, 0, 2, 4), 0),
+        ("MOD by zero beyond", new().typed(MOD, INT, 15, 2, 4), flag::BEYOND_DATA),
         ("a comparison writes one byte", new().typed(EQ, LINT, 15, 0, 8), 0),
         ("a shift reads one byte", new().typed(SHL, LWORD, 0, 8, 15), 0),
         ("time takes four", new().register(CYCLE_TIME, 13), flag::BEYOND_DATA),

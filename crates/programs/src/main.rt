@@ -569,11 +569,25 @@ fn faults() {
         b"\xFF\xFF\x08\x00\x00\x00",
         100,
     );
-    // MOD LWORD 0 0 8; RETURN
+    // document 02, 2.1: MOD LWORD 0 0 8; RETURN
     run(
         b"zero modulus",
         b"\x14\x08\x00\x00\x00\x00\x08\x00\x00",
         b"\x01\x02\x03\x04\x05\x06\x07\x08\x00\x00\x00\x00\x00\x00\x00\x00",
+        100,
+    );
+    // MOD SINT 0 1 2; RETURN: -7 by 0
+    run(
+        b"signed zero modulus",
+        b"\x14\x01\x00\x00\x01\x00\x02\x00\x00",
+        b"\xFF\xF9\x00",
+        100,
+    );
+    // MOD INT 5 2 4; RETURN
+    run(
+        b"address before modulus",
+        b"\x14\x03\x05\x00\x02\x00\x04\x00\x00",
+        b"\xFF\xFF\x08\x00\x00\x00",
         100,
     );
     // DIV REAL 8 0 4; RETURN

@@ -10,9 +10,9 @@ use lib.ListN.{length, getD, List·getD-eq-default}
 use lib.IntN.{ℤ, pos, negsuc}
 use lib.Dec.{leb, ltb, eqb}
 use mir.Val.{boolByte}
-use borrow.Author.Tests.{eqb-true, leb-true, ltb-true, ltb-false, ne-eqb}
+use borrow.Author.Tests.{eqb-true, leb-true, ltb-true, ltb-false}
 use Rattle.verdict.specs.Verdict.{pick, both, within}
-use Rattle.verdict.proofs.Verdict.{absurd-bool, by-pick, pick-false, both-true, both-not, inside, inside-true, outside}
+use Rattle.verdict.proofs.Verdict.{absurd-bool, by-pick, both-true, both-not, inside, inside-true}
 use Rattle.memory.specs.Memory.{readLE}
 use Rattle.memory.proofs.Laws.{length-splice}
 use Rattle.memory.proofs.Number.{read-byte}

@@ -5,7 +5,7 @@ use commands::Operands;
 use commands::Performed;
 use libc::STDOUT_FILENO;
 
-// What is known of a line `op type a b result` when some of it is read. A name is the number that its letters spell. Of a zero divisor the
+// What is known of a line `op type a b result` when some of it is read. A name is the number that its letters spell. Of DIV by zero the
 // result is `-`; a line that starts with `#` is a comment.
 struct Line {
     field: u8,
