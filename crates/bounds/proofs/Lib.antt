@@ -1,0 +1,10 @@
+pub mod Rising
+pub mod Greatest
+pub mod Bytes
+pub mod Back
+pub mod Control
+pub mod Spared
+pub mod Answer
+pub mod Outputs
+pub mod Promised
+pub mod Choices

@@ -1,0 +1,82 @@
+-- `bounds::depth_at` meets its contract: each kind by the code byte, sums kept at 65,536. Assumes nothing.
+use mathlib.Core.Path.{refl}
+use native.Mathlib.Omega.{arith}
+use Rattle.code.specs.Flow.{Returns, Jumps, Branches, Calls, Passes}
+use Rattle.bounds.specs.Bounds.{depthBy}
+use Rattle.bounds.proofs.Bytes.{kind-returns, kind-jumps, kind-branches, kind-calls, kind-passes, depth-caps, kept-as}
+use borrow.Author.Needs.{needs}
+use Rattle.bounds.proofs.depth_at.Statement.{statement}
+use Rattle.bounds.proofs.depth_at.Tie as tie
+
+capped-requires : tie.Need-capped-requires
+capped-requires c κs = search needs
+
+capped-requires-2 : tie.Need-capped-requires-2
+capped-requires-2 c κs = search needs
+
+shared-slice-read-b : tie.Need-shared-slice-read-b
+shared-slice-read-b c = search needs
+
+returns : tie.Need-returns
+unfolding depthBy
+returns c = kept-as depthBy depth-caps Returns _ _ _ _ _ _ (kind-returns _ _ (c .if1 .taken)) (c .before .before .before .capped .ensures) (c .before .before .capped2 .ensures) refl
+
+returns-2 : tie.Need-returns-2
+unfolding depthBy
+returns-2 c =
+    let there = c .before .before .before in
+    kept-as depthBy depth-caps Jumps _ _ _ _ _ _ (kind-jumps _ _ (c .if2 .taken)) (there .before .capped .ensures) (there .capped2 .ensures)
+    (omega (arith, there .capped2 .ensures))
+
+larger-requires : tie.Need-larger-requires
+larger-requires c κs = search needs
+
+returns-3 : tie.Need-returns-3
+unfolding depthBy
+returns-3 c =
+    let test = c .before in
+    let there = test .before .before .before .before in
+    kept-as depthBy depth-caps Branches _ _ _ _ _ _
+    (kind-branches _ _ (omega (arith, test .before .before .if1 .left, test .before .if2 .left)) (test .if3 .taken)) (there .before .capped .ensures)
+    (there .capped2 .ensures) (omega (arith, c .larger .ensures, there .before .capped .ensures, there .capped2 .ensures))
+
+add-larger : tie.Need-add-larger
+add-larger c = search needs
+
+larger-requires-2 : tie.Need-larger-requires-2
+larger-requires-2 c κs = search needs
+
+capped-requires-3 : tie.Need-capped-requires-3
+capped-requires-3 c κs = search needs
+
+returns-4 : tie.Need-returns-4
+unfolding depthBy
+returns-4 c =
+    let test = c .before .before in
+    let there = test .before .before .before .before .before in
+    kept-as depthBy depth-caps Calls _ _ _ _ _ _ (kind-calls _ _ (test .before .if3 .left) (test .if4 .taken)) (there .before .capped .ensures) (there .capped2 .ensures)
+    (omega (arith, c .before .larger2 .ensures, c .capped3 .ensures))
+
+returns-5 : tie.Need-returns-5
+unfolding depthBy
+returns-5 c =
+    let there = c .before .before .before .before .before in
+    kept-as depthBy depth-caps Passes _ _ _ _ _ _ (kind-passes _ _ (c .if4 .left)) (there .before .capped .ensures) (there .capped2 .ensures)
+    (omega (arith, there .before .capped .ensures))
+
+pub depth-at-spec : {M : Type 1} → statement M
+depth-at-spec =
+    tie.close
+    (tie.spec
+    capped-requires
+    capped-requires-2
+    shared-slice-read-b
+    returns
+    returns-2
+    larger-requires
+    returns-3
+    add-larger
+    larger-requires-2
+    capped-requires-3
+    returns-4
+    returns-5)

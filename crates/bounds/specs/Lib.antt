@@ -1,0 +1,4 @@
+pub mod Paths
+pub mod Bounds
+pub mod Outputs
+pub mod Promised
