@@ -1,6 +1,6 @@
 #!/bin/sh
-# Builds the archive, compiles the examples against it and compares what they print: document 01's listing, the lowest readings and the windows of document
-# 02, 2.11 and 2.14.
+# Builds the archive, compiles the examples against it and compares what they print: document 01's listing, what a task takes, the lowest readings and the
+# windows of document 02, 2.7, 2.11 and 2.14.
 set -e
 cd "$(dirname "$0")/.."
 rt staticlib lent
@@ -17,3 +17,7 @@ gcc -std=c99 -Wall -Wextra -Werror -Iinclude -o target/c/window c/window.c targe
 printf '0 aa\n0 ef\n34 34 21 77\n' > target/c/expected
 target/c/window | diff - target/c/expected
 echo "c: the windows are those of document 02"
+gcc -std=c99 -Wall -Wextra -Werror -Iinclude -o target/c/takes c/takes.c target/staticlib/liblent.a
+printf '25 21\n0 30 1024 2 1/0 7/1 8/9\n' > target/c/expected
+target/c/takes | diff - target/c/expected
+echo "c: what a task takes is that of document 02"

@@ -87,4 +87,13 @@ uint8_t rikzord_code_window(const uint8_t *file, size_t file_length, const uint8
 uint8_t rikzord_data_window(const uint8_t *file, size_t file_length, const uint8_t *buffer, size_t buffer_length, uint8_t core, size_t start,
                             size_t count, size_t *place);
 
+/* Beside the machine: what a task will take, from the file alone. The lengths of data buffer, shared memory and core table go to the first three
+ * places of `lengths`. The greatest instruction count of a cycle and the greatest call depth of core k, over every choice at its conditional jumps,
+ * faults and the depth limit left aside, go to place k of `counts` and of `depths`; places past the n cores' stay. From the fresh state on, an
+ * instruction limit at or above the count is never hit, and a depth of at most 16 never raises bit 5. Answers after the file's own refusal numbers,
+ * for each core in turn: 25 where a jump or call leads to a place not above its own; 26 where the count is above 65,535. Then 21 where an output is
+ * too short: 3 places for the lengths, n for counts and depths. The definitions are in crates/bounds/specs/Paths.antt and Bounds.antt. */
+uint8_t rikzord_takes(const uint8_t *file, size_t file_length, size_t *lengths, size_t lengths_length, uint32_t *counts, size_t counts_length,
+                      uint32_t *depths, size_t depths_length);
+
 #endif

@@ -17,6 +17,7 @@ ghost use Rattle.runner.specs.Runs.{left};
 ghost use Rattle.cycles.specs.Check.{linesOf, linesRefusal, linesByte};
 ghost use Rattle.window.specs.declared.Shown.the-variants.{Code, Data};
 ghost use Rattle.window.specs.Window.{windowAt, windowCall};
+ghost use Rattle.bounds.specs.Outputs.{outputs, takesLent};
 ghost use Rattle.holding.specs.Holding.{lowestRefusal, answersAfter};
 ghost use Rattle.lent.specs.Lent.{noCore, tableFrom, loaded, entries, counted, registersIn, recordWith, heldPlaces, heldOffsets, held, coreOf, recordAfter, acceptedOf, refusedOf, tableLeft, saved, lent, stepTable, stepLent, runTable, runLent, takenTable, takenLent, freshTable, freshLent, ringOf, noRing, placeAfter, recordMoves, scanned, answered, ringAnswer, nextLent, withRegisters, registersAfter, stepRegisters};
 
@@ -749,4 +750,20 @@ pub extern "C" fn rikzord_data_window(
     }
     *place = found.from;
     0
+}
+
+// ---- beside the machine: what a task will take, before loading it
+
+// The lengths of data buffer, shared memory and core table go to `lengths`, each core's greatest instruction count and call depth to `counts` and
+// `depths` (crate bounds).
+#[no_mangle]
+pub extern "C" fn rikzord_takes(
+    file: &[u8],
+    lengths: &mut [usize],
+    counts: &mut [u32],
+    depths: &mut [u32],
+) -> u8
+    ensures { λ r. ⌜ outputs r (now (lengths .exit)) (now (counts .exit)) (now (depths .exit)) ≡ takesLent (now (file .entry)) (now (lengths .entry)) (now (counts .entry)) (now (depths .entry)) ⌝ }
+{
+    bounds::takes_to(file, lengths, counts, depths)
 }
