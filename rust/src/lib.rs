@@ -2,8 +2,10 @@
 //!
 //! `reference` is the machine; it shares no code with the proved one. `interface` says what a machine offers and `linked` is the proved one behind
 //! its C interface. `draft` writes task set files, `random` makes cases from them, `comparison` runs two machines on the cases. `holding` has the
-//! lowest reading over the holding time and `lines` the lines between cores; both stand beside the machine, each with its own comparison.
+//! lowest reading over the holding time, `lines` the lines between cores and `bounds` what a task will take; they stand beside the machine, each with
+//! its own comparison.
 
+pub mod bounds;
 pub mod comparison;
 pub mod draft;
 pub mod holding;

@@ -5,8 +5,8 @@
 
 use crate::interface::{Machine, Next};
 use crate::lines::Lines;
-use crate::window::{Asked, Shown};
 use crate::reference::{mode, refusal, Core, WRITING_MARK};
+use crate::window::{Asked, Shown};
 
 const NOTHING: u8 = 255;
 
@@ -96,6 +96,17 @@ extern "C" {
     ) -> u8;
 
     fn rikzord_check_cycles(file: *const u8, file_len: usize, lines: *mut u8) -> u8;
+
+    fn rikzord_takes(
+        file: *const u8,
+        file_len: usize,
+        lengths: *mut usize,
+        lengths_len: usize,
+        counts: *mut u32,
+        counts_len: usize,
+        depths: *mut u32,
+        depths_len: usize,
+    ) -> u8;
 }
 
 /// The machine of `liblent.a`.
@@ -244,13 +255,29 @@ pub fn window(file: &[u8], buffer: &[u8], asked: Asked) -> Result<usize, u8> {
         Shown::Data => rikzord_data_window,
     };
     // Safety: as above.
-    let number = unsafe {
-        call(file.as_ptr(), file.len(), buffer.as_ptr(), buffer.len(), asked.core, asked.start, asked.count, &mut place)
-    };
+    let number =
+        unsafe { call(file.as_ptr(), file.len(), buffer.as_ptr(), buffer.len(), asked.core, asked.start, asked.count, &mut place) };
     match (number, place) {
         (refusal::NONE, UNTOUCHED) => panic!("a window without a place"),
         (refusal::NONE, place) => Ok(place),
         (number, UNTOUCHED) => Err(number),
         _ => panic!("the call answers {number} and stores {place}"),
+    }
+}
+
+/// What a task will take, of `liblent.a`.
+pub fn takes(file: &[u8], lengths: &mut [usize], counts: &mut [u32], depths: &mut [u32]) -> u8 {
+    // Safety: as above.
+    unsafe {
+        rikzord_takes(
+            file.as_ptr(),
+            file.len(),
+            lengths.as_mut_ptr(),
+            lengths.len(),
+            counts.as_mut_ptr(),
+            counts.len(),
+            depths.as_mut_ptr(),
+            depths.len(),
+        )
     }
 }

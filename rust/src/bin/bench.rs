@@ -3,6 +3,7 @@
 //!
 //! `bench [rounds]`
 
+use rikzord_comparison::bounds::{self, Takes};
 use rikzord_comparison::draft::{Code, CoreRecord, Draft, Program, Variable};
 use rikzord_comparison::holding::{self, Lowest, Record};
 use rikzord_comparison::interface::{Machine, Reference};
@@ -36,12 +37,19 @@ fn main() {
         }
         least.report(name, STEPS);
     }
-    let file = largest().bytes();
+    let file = largest(0, MOST_CODE).bytes();
     let mut least = Least::new(FILES);
     for round in 0..rounds {
         least.round(round, |_| judge(&Reference, &file), |_| judge(&second, &file));
     }
     least.report(&format!("judging {} bytes, a byte", file.len()), FILES * file.len());
+    #[cfg(feature = "linked")]
+    let takes = rikzord_comparison::linked::takes;
+    #[cfg(not(feature = "linked"))]
+    let takes = bounds::takes;
+    for length in [MOST_CODE / 8, MOST_CODE / 2, MOST_CODE] {
+        what_it_takes(length, rounds, takes);
+    }
     #[cfg(feature = "linked")]
     let second = rikzord_comparison::linked::lowest;
     #[cfg(not(feature = "linked"))]
@@ -51,6 +59,25 @@ fn main() {
         "lowest: a record with 10,000 in its window takes {:.2} of the time of one with 10",
         times[1].as_secs_f64() / times[0].as_secs_f64()
     );
+}
+
+/// Times what a task takes on a file with so many bytes of code in each core, all jumps upward.
+fn what_it_takes(length: usize, rounds: usize, second: Takes) {
+    let file = largest(JUMPED, length).bytes();
+    let timed = |takes: Takes, answer: &mut ([usize; 3], [u32; 4], [u32; 4])| {
+        let start = Instant::now();
+        let number = takes(black_box(&file), &mut answer.0, &mut answer.1, &mut answer.2);
+        let time = start.elapsed();
+        assert_eq!(number, refusal::NONE);
+        time
+    };
+    let (mut of_a, mut of_b) = Default::default();
+    let mut least = Least::new(FILES);
+    for round in 0..rounds {
+        least.round(round, |_| timed(bounds::takes, &mut of_a), |_| timed(second, &mut of_b));
+        assert!(of_a == of_b, "the answers differ");
+    }
+    least.report(&format!("takes of {} bytes, a byte", file.len()), FILES * file.len());
 }
 
 /// Times the lowest reading over the holding time on a run with so many records in each window. The reference looks at each record of a window,
@@ -273,17 +300,21 @@ fn four_cores() -> Draft {
     Draft::new(vec![core; 4], exchanged(), (0..4).map(code).collect())
 }
 
-/// As large as a file can be: four cores, 64 variables, code of every layout up to its last byte.
-fn largest() -> Draft {
+/// The bytes from the start of a turn of the code below to the place after its conditional jump.
+const JUMPED: u16 = 8 + 8 + 5;
+
+/// As large as a file can be where the code has `MOST_CODE` bytes: four cores, 64 variables, code of every layout up to its last byte. The conditional
+/// jumps go `jump` bytes on from the start of their turn.
+fn largest(jump: u16, length: usize) -> Draft {
     let core = CoreRecord { data_size: 4096, input_size: 8, limit: 65_535 };
     let code = || -> Code {
         let mut program = Program::new();
-        while (program.here() as usize) < MOST_CODE - 64 {
+        while (program.here() as usize) < length - 64 {
             let here = program.here();
-            program = program.typed(ADD, DINT, 8, 12, 16).typed(LT, REAL, 8, 12, 16).jump_if(JZ, 8, here).constant(8, &[1, 2, 3, 4]);
+            program = program.typed(ADD, DINT, 8, 12, 16).typed(LT, REAL, 8, 12, 16).jump_if(JZ, 8, here + jump).constant(8, &[1, 2, 3, 4]);
             program = program.element(AURD, 8, 12, 16, 4, 100).typed(NOT, BOOL, 8, 9, 0).copy(8, 2000, 1000);
         }
-        while (program.here() as usize) < MOST_CODE {
+        while (program.here() as usize) < length {
             program = program.returns();
         }
         program.code()

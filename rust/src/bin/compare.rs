@@ -2,6 +2,7 @@
 //!
 //! `compare [rounds [seed]]`
 
+use rikzord_comparison::bounds;
 use rikzord_comparison::comparison::compare;
 use rikzord_comparison::holding;
 use rikzord_comparison::interface::{Reference, Stepwise};
@@ -34,7 +35,12 @@ fn main() {
     #[cfg(not(feature = "linked"))]
     let windows = window::compare(window::find, window::find, seed as u64, rounds);
     windows.print();
-    let missing = [tally.missing(), lowest.missing(), lines.missing(), windows.missing()].concat();
+    #[cfg(feature = "linked")]
+    let takes = bounds::compare(bounds::takes, rikzord_comparison::linked::takes, seed as u64, 2 * rounds);
+    #[cfg(not(feature = "linked"))]
+    let takes = bounds::compare(bounds::takes, bounds::takes, seed as u64, 2 * rounds);
+    takes.print();
+    let missing = [tally.missing(), lowest.missing(), lines.missing(), windows.missing(), takes.missing()].concat();
     assert!(missing.is_empty(), "never came: {missing:?}");
     println!("{rounds} rounds: the reference and {second} agree");
 }
