@@ -1,7 +1,8 @@
 -- Lent memory as the list of its bytes: reading and writing a number of any width, copying, and the data buffer of all cores.
 -- In order: writing and reading stretches; numbers, low byte first; a lent part of a buffer; the cores' data end to end.
 -- Every function is total: what lies past the end reads as 0 and is not written, so no bound travels through a definition.
-use Prim.Native.Nat.{ℕ, zero, suc, _+_, _-_, _*_, _/_, _%_}
+use Prim.Native.Nat.{ℕ, zero, suc, _+_, _-_, _*_, _/_, _%_, _≤_}
+use mathlib.Core.Logic.{_⊎_}
 use mathlib.Core.List.{List, [], _∷_, _++_}
 use lib.ListN.{set, take, drop, getD, length}
 
@@ -15,6 +16,10 @@ splice s p (y ∷ ys) = splice (set s p y) (suc p) ys
 -- the n bytes of s from place p on
 unfoldable pub part : List ℕ → ℕ → ℕ → List ℕ
 part s p n = take n (drop p s)
+
+-- two stretches of n bytes, at these places, share none
+abbrev pub Apart : ℕ → ℕ → ℕ → Type 0
+Apart p q n = (p + n ≤ q) ⊎ (q + n ≤ p)
 
 -- ---- numbers, low byte first
 

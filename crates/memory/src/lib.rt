@@ -1,8 +1,8 @@
 // Lent bytes: numbers of any width up to eight bytes, low byte first, and copies.
 ghost use mathlib.Core.Path.{_≡_};
-ghost use Prim.Native.Nat.{_+_, _^_, _≤_, _<_};
+ghost use Prim.Native.Nat.{_+_, _-_, _^_, _≤_, _<_};
 ghost use lib.ListN.{length, getD, replicate};
-ghost use Rattle.memory.specs.Memory.{splice, part, bytesLE, readLE};
+ghost use Rattle.memory.specs.Memory.{splice, part, Apart, bytesLE, readLE};
 
 // The byte at `place`, 0 past the end. Total readers serve the judging of files and traces; a step reads by `load`.
 pub fn byte_at(s: &[u8], place: usize) -> u8
@@ -67,17 +67,67 @@ pub fn copy(dst: &mut [u8], to: usize, src: &[u8], from: usize, n: usize)
     }
 }
 
+// ---- copies within one buffer, as if all bytes were read first
+
+// How far two places lie apart.
+pub fn distance(a: usize, b: usize) -> usize
+    ensures { λ r. ⌜ r ≡ (a - b) + (b - a) ⌝ }
+{
+    if a <= b {
+        return b - a;
+    }
+    a - b
+}
+
+// One word of eight bytes.
+fn move_word(d: &mut [u8], to: usize, from: usize)
+    requires { ⌜ (to + 8 ≤ length (now d)) × (from + 8 ≤ length (now d)) ⌝ }
+    ensures { λ _. ⌜ now (d .exit) ≡ splice (now (d .entry)) to (part (now (d .entry)) from 8) ⌝ }
+{
+    let mut word: [u8; 8] = [0; 8];
+    copy(&mut word, 0, d, from, 8);
+    copy(d, to, &word, 0, 8);
+}
+
+// Stretches that share no byte: a word at a time while eight bytes are left, then single bytes.
+pub fn move_words(d: &mut [u8], to: usize, from: usize, n: usize)
+    requires { ⌜ (to + n ≤ length (now d)) × (from + n ≤ length (now d)) × Apart to from n ⌝ }
+    ensures { λ _. ⌜ now (d .exit) ≡ splice (now (d .entry)) to (part (now (d .entry)) from n) ⌝ }
+{
+    let mut i = 0;
+    while 8 <= n - i {
+        move_word(d, to + i, from + i);
+        i += 8;
+    }
+    while i < n {
+        d[to + i] = d[from + i];
+        i += 1;
+    }
+}
+
 // The largest data of a core.
 const LARGEST: usize = 4096;
 
-// Copies n bytes within d as if all were read first; the stretches may overlap. Through a local array, which compiles to one move.
+// Any stretches: all bytes out to a local array, then all back.
+pub fn move_through(d: &mut [u8], to: usize, from: usize, n: usize)
+    requires { ⌜ (to + n ≤ length (now d)) × (from + n ≤ length (now d)) × (n ≤ 4096) ⌝ }
+    ensures { λ _. ⌜ now (d .exit) ≡ splice (now (d .entry)) to (part (now (d .entry)) from n) ⌝ }
+{
+    let mut all: [u8; LARGEST] = [0; LARGEST];
+    copy(&mut all, 0, d, from, n);
+    copy(d, to, &all, 0, n);
+}
+
+// Copies n bytes within d, whether the stretches share bytes or not.
 pub fn copy_within(d: &mut [u8], to: usize, from: usize, n: usize)
     requires { ⌜ (to + n ≤ length (now d)) × (from + n ≤ length (now d)) × (n ≤ 4096) ⌝ }
     ensures { λ _. ⌜ now (d .exit) ≡ splice (now (d .entry)) to (part (now (d .entry)) from n) ⌝ }
 {
-    let mut t: [u8; LARGEST] = [0; LARGEST];
-    copy(&mut t, 0, d, from, n);
-    copy(d, to, &t, 0, n);
+    if n <= distance(to, from) {
+        move_words(d, to, from, n);
+    } else {
+        move_through(d, to, from, n);
+    }
 }
 
 // Fills d with zeros.

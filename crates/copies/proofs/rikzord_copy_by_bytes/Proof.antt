@@ -1,0 +1,42 @@
+-- `copies::rikzord_copy_by_bytes` meets its contract. Assumes nothing.
+use mathlib.Core.Path.{sym, _∙_}
+use native.Mathlib.Omega.{arith}
+use borrow.Author.Needs.{needs}
+use borrow.Author.Tests.{not-true, not-false}
+use Rattle.memory.proofs.Words.{apart-by}
+use Rattle.copies.proofs.Copies.{fitting, fit, unfit}
+use Rattle.copies.proofs.rikzord_copy_by_bytes.Statement.{statement}
+use Rattle.copies.proofs.rikzord_copy_by_bytes.Tie as tie
+
+fits-requires : tie.Need-fits-requires
+fits-requires c κs = search needs
+
+returns : tie.Need-returns
+returns c = unfit _ _ _ _ (sym (c .before .fits2 .ensures) ∙ not-true _ (c .if1 .taken))
+
+distance-requires : tie.Need-distance-requires
+distance-requires c κs = search needs
+
+move-bytes-requires : tie.Need-move-bytes-requires
+move-bytes-requires c κs =
+    let l = fitting _ _ _ _ (sym (c .before .before .before .before .fits2 .ensures) ∙ not-false _ (c .before .before .before .if1 .left)) in
+    (l .0, l .1, apart-by _ _ _ (omega (arith, c .before .before .distance .ensures)))
+
+move-through-requires : tie.Need-move-through-requires
+move-through-requires c κs = fitting _ _ _ _ (sym (c .before .before .before .before .fits2 .ensures) ∙ not-false _ (c .before .before .before .if1 .left))
+
+same-length : tie.Need-same-length
+same-length c = search needs
+
+returns-2 : tie.Need-returns-2
+returns-2 c = fit _ _ _ _ _ (sym (c .before .before .before .before .before .before .before .fits2 .ensures) ∙ not-false _ (c .before .before .before .before .before .before .if1 .left)) (c .before .before .move-bytes .ensures)
+
+same-length-2 : tie.Need-same-length-2
+same-length-2 c = search needs
+
+returns-3 : tie.Need-returns-3
+returns-3 c = fit _ _ _ _ _ (sym (c .before .before .before .before .before .before .before .fits2 .ensures) ∙ not-false _ (c .before .before .before .before .before .before .if1 .left)) (c .before .before .move-through .ensures)
+
+pub rikzord-copy-by-bytes-spec : {M : Type 1} → statement M
+rikzord-copy-by-bytes-spec =
+    tie.close (tie.spec fits-requires returns distance-requires move-bytes-requires move-through-requires same-length returns-2 same-length-2 returns-3)
