@@ -3,7 +3,7 @@
 ghost use mathlib.Core.Path.{_≡_};
 ghost use Prim.Native.Nat.{_+_, _≤_};
 ghost use lib.ListN.{length};
-ghost use Rattle.memory.specs.Memory.{splice, part, Apart};
+ghost use Rattle.memory.specs.Memory.{splice, part, Disjoint};
 ghost use Rattle.copies.specs.Copies.{copyFits, answer, copied};
 
 // The largest data of a core.
@@ -27,7 +27,7 @@ fn fits(size: usize, to: usize, from: usize, n: usize) -> bool
 
 // Stretches that share no byte: single bytes.
 fn move_bytes(d: &mut [u8], to: usize, from: usize, n: usize)
-    requires { ⌜ (to + n ≤ length (now d)) × (from + n ≤ length (now d)) × Apart to from n ⌝ }
+    requires { ⌜ (to + n ≤ length (now d)) × (from + n ≤ length (now d)) × Disjoint to from n ⌝ }
     ensures { λ _. ⌜ now (d .exit) ≡ splice (now (d .entry)) to (part (now (d .entry)) from n) ⌝ }
 {
     let mut i = 0;

@@ -6,7 +6,7 @@ use mathlib.Core.List.{List, [], _∷_, _++_}
 use Prim.Native.Nat.{ℕ, zero, suc, _+_, _-_, _≤_, _<_}
 use native.Mathlib.Omega.{arith}
 use lib.ListN.{length, take, drop}
-use Rattle.memory.specs.Memory.{splice, part, Apart}
+use Rattle.memory.specs.Memory.{splice, part, Disjoint}
 use Rattle.memory.proofs.Laws.{splice-append, part-splice-below, part-splice-above, length-part}
 
 -- ---- a stretch as two, one behind the other
@@ -53,13 +53,13 @@ copied-turn d e s to from n i w h l q =
     ∙ ap (λ (m : ℕ). splice d (to + i) (part s (from + i) m)) count
 
 -- what is still to be read lies elsewhere
-elsewhere : (d ys : List ℕ) (to from n i w : ℕ) → Apart to from n → i + w ≤ n → length ys ≡ w
+elsewhere : (d ys : List ℕ) (to from n i w : ℕ) → Disjoint to from n → i + w ≤ n → length ys ≡ w
     → part (splice d (to + i) ys) (from + (i + w)) (n - (i + w)) ≡ part d (from + (i + w)) (n - (i + w))
 elsewhere d ys to from n i w (inl a) h e = part-splice-above d (to + i) ys _ _ (rw e (omega arith))
 elsewhere d ys to from n i w (inr a) h e = part-splice-below d (to + i) ys _ _ (omega arith)
 
 -- within one list
-pub moved-turn : (d e : List ℕ) (to from n i w : ℕ) → i + w ≤ n → from + n ≤ length d → Apart to from n → e ≡ splice d (to + i) (part d (from + i) w)
+pub moved-turn : (d e : List ℕ) (to from n i w : ℕ) → i + w ≤ n → from + n ≤ length d → Disjoint to from n → e ≡ splice d (to + i) (part d (from + i) w)
     → splice e (to + (i + w)) (part e (from + (i + w)) (n - (i + w))) ≡ splice d (to + i) (part d (from + i) (n - i))
 moved-turn d e to from n i w h l a q =
     ap (λ (x : List ℕ). splice e (to + (i + w)) (part x (from + (i + w)) (n - (i + w)))) q
@@ -69,11 +69,11 @@ moved-turn d e to from n i w h l a q =
 -- ---- how far apart
 
 -- stretches whose places lie n apart share none of n bytes
-pub apart-by : (p q n : ℕ) → n ≤ (p - q) + (q - p) → Apart p q n
-apart-by zero q n h = inl (omega arith)
-apart-by (suc p) zero n h = inr (omega arith)
-apart-by (suc p) (suc q) n h = further (apart-by p q n (omega arith))
+pub disjoint-by : (p q n : ℕ) → n ≤ (p - q) + (q - p) → Disjoint p q n
+disjoint-by zero q n h = inl (omega arith)
+disjoint-by (suc p) zero n h = inr (omega arith)
+disjoint-by (suc p) (suc q) n h = further (disjoint-by p q n (omega arith))
   where
-    further : Apart p q n → Apart (suc p) (suc q) n
+    further : Disjoint p q n → Disjoint (suc p) (suc q) n
     further (inl a) = inl (omega arith)
     further (inr a) = inr (omega arith)

@@ -18,8 +18,8 @@ unfoldable pub part : List ℕ → ℕ → ℕ → List ℕ
 part s p n = take n (drop p s)
 
 -- two stretches of n bytes, at these places, share none
-abbrev pub Apart : ℕ → ℕ → ℕ → Type 0
-Apart p q n = (p + n ≤ q) ⊎ (q + n ≤ p)
+abbrev pub Disjoint : ℕ → ℕ → ℕ → Type 0
+Disjoint p q n = (p + n ≤ q) ⊎ (q + n ≤ p)
 
 -- ---- numbers, low byte first
 

@@ -2,7 +2,7 @@
 ghost use mathlib.Core.Path.{_≡_};
 ghost use Prim.Native.Nat.{_+_, _-_, _^_, _≤_, _<_};
 ghost use lib.ListN.{length, getD, replicate};
-ghost use Rattle.memory.specs.Memory.{splice, part, Apart, bytesLE, readLE};
+ghost use Rattle.memory.specs.Memory.{splice, part, Disjoint, bytesLE, readLE};
 
 // The byte at `place`, 0 past the end. Total readers serve the judging of files and traces; a step reads by `load`.
 pub fn byte_at(s: &[u8], place: usize) -> u8
@@ -91,7 +91,7 @@ fn move_word(d: &mut [u8], to: usize, from: usize)
 
 // Stretches that share no byte: a word at a time while eight bytes are left, then single bytes.
 pub fn move_words(d: &mut [u8], to: usize, from: usize, n: usize)
-    requires { ⌜ (to + n ≤ length (now d)) × (from + n ≤ length (now d)) × Apart to from n ⌝ }
+    requires { ⌜ (to + n ≤ length (now d)) × (from + n ≤ length (now d)) × Disjoint to from n ⌝ }
     ensures { λ _. ⌜ now (d .exit) ≡ splice (now (d .entry)) to (part (now (d .entry)) from n) ⌝ }
 {
     let mut i = 0;

@@ -3,7 +3,7 @@ use mathlib.Core.Path.{sym, _∙_}
 use native.Mathlib.Omega.{arith}
 use borrow.Author.Needs.{needs}
 use borrow.Author.Tests.{not-true, not-false}
-use Rattle.memory.proofs.Words.{apart-by}
+use Rattle.memory.proofs.Words.{disjoint-by}
 use Rattle.copies.proofs.Copies.{fitting, fit, unfit}
 use Rattle.copies.proofs.rikzord_copy_by_bytes.Statement.{statement}
 use Rattle.copies.proofs.rikzord_copy_by_bytes.Tie as tie
@@ -20,7 +20,7 @@ distance-requires c κs = search needs
 move-bytes-requires : tie.Need-move-bytes-requires
 move-bytes-requires c κs =
     let l = fitting _ _ _ _ (sym (c .before .before .before .before .fits2 .ensures) ∙ not-false _ (c .before .before .before .if1 .left)) in
-    (l .0, l .1, apart-by _ _ _ (omega (arith, c .before .before .distance .ensures)))
+    (l .0, l .1, disjoint-by _ _ _ (omega (arith, c .before .before .distance .ensures)))
 
 move-through-requires : tie.Need-move-through-requires
 move-through-requires c κs = fitting _ _ _ _ (sym (c .before .before .before .before .fits2 .ensures) ∙ not-false _ (c .before .before .before .if1 .left))

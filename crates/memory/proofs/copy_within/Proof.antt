@@ -1,6 +1,6 @@
 use borrow.Author.Needs.{needs}
 use native.Mathlib.Omega.{arith}
-use Rattle.memory.proofs.Words.{apart-by}
+use Rattle.memory.proofs.Words.{disjoint-by}
 use Rattle.memory.proofs.copy_within.Statement.{statement}
 use Rattle.memory.proofs.copy_within.Tie as tie
 use Rattle.memory.proofs.copy_within.Reads as reads
@@ -13,7 +13,7 @@ distance-requires : tie.Need-distance-requires
 distance-requires c κs = search needs
 
 move-words-requires : tie.Need-move-words-requires
-move-words-requires c κs = (search needs, search needs, apart-by _ _ _ (omega (arith, c .before .before .distance .ensures)))
+move-words-requires c κs = (search needs, search needs, disjoint-by _ _ _ (omega (arith, c .before .before .distance .ensures)))
 
 move-through-requires : tie.Need-move-through-requires
 move-through-requires c κs = search needs
