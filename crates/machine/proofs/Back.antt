@@ -45,8 +45,8 @@ entry-in k j h =
     omega (arith, e, q)
 
 held-same : {c h h′ : ℕ} {b b′ : List Registers} {p p′ q q′ : List ℕ} → h ≡ h′ → b ≡ b′ → p ≡ p′ → q ≡ q′
-    → _≡_ {A = Held} record { count = c; holder = h; cores = b; places = p; offsets = q } record { count = c; holder = h′; cores = b′; places = p′; offsets = q′ }
-held-same {c} u v x y = λ z. record { count = c; holder = u z; cores = v z; places = x z; offsets = y z }
+    → _≡_ {A = Held} record { count = c; semaphore = record { holder = h }; cores = b; places = p; offsets = q } record { count = c; semaphore = record { holder = h′ }; cores = b′; places = p′; offsets = q′ }
+held-same {c} u v x y = λ z. record { count = c; semaphore = record { holder = u z }; cores = v z; places = x z; offsets = y z }
 
 -- ---- back from a fit state s
 
@@ -105,7 +105,7 @@ module _ (f t : List ℕ) (few : cores f ≤ 4) (h : Held) (s : State) (fit : Fi
           → _≡_ {A = Core} record { registers = r; stack = record { places = p; offsets = q }; memory = m } c
       same a b x y = λ z. record { registers = a z; stack = record { places = b z; offsets = x z }; memory = y z }
 
-  holder-back : heldAfter (cores f) h s .holder ≡ s .holder
+  holder-back : heldAfter (cores f) h s .semaphore .holder ≡ s .holder
   unfolding heldAfter
   holder-back = refl
 
@@ -134,7 +134,7 @@ module _ (f : List ℕ) (h : Held) (d sh : List ℕ) (four : length (h .cores) �
   registers-same k j = go (ltb k (cores f)) refl
     where
       go : (b : Bool) → ltb k (cores f) ≡ b → pick b (core (stateOf f h d sh .plant) k .registers) (getD (h .cores) k none) ≡ getD (h .cores) k none
-      go true e = ap (λ (c : Core). c .registers) (core-in f (h .cores) (h .places) (h .offsets) (h .holder) d sh k (ltb-true k (cores f) e))
+      go true e = ap (λ (c : Core). c .registers) (core-in f (h .cores) (h .places) (h .offsets) (h .semaphore .holder) d sh k (ltb-true k (cores f) e))
       go false e = refl
 
   entries-same : (field : Stack → List ℕ) (l : List ℕ) → ((k : ℕ) → field (stackIn (h .places) (h .offsets) k) ≡ part l (16 * k) 16)
@@ -144,13 +144,13 @@ module _ (f : List ℕ) (h : Held) (d sh : List ℕ) (four : length (h .cores) �
     where
       go : (b : Bool) → ltb (n / 16) (cores f) ≡ b → pick b (getD (field (core (stateOf f h d sh .plant) (n / 16) .stack)) (n % 16) 0) (getD l n 0) ≡ getD l n 0
       go true e =
-          ap (λ (c : Core). getD (field (c .stack)) (n % 16) 0) (core-in f (h .cores) (h .places) (h .offsets) (h .holder) d sh (n / 16) (ltb-true (n / 16) (cores f) e))
+          ap (λ (c : Core). getD (field (c .stack)) (n % 16) 0) (core-in f (h .cores) (h .places) (h .offsets) (h .semaphore .holder) d sh (n / 16) (ltb-true (n / 16) (cores f) e))
           ∙ ap (λ (m : List ℕ). getD m (n % 16) 0) (a (n / 16))
           ∙ part-entry l (16 * (n / 16)) (n % 16) (mod-lt n (omega arith))
           ∙ ap (λ (p : ℕ). getD l p 0) (entry-place n)
       go false e = refl
 
-  holder-same : stateOf f h d sh .holder ≡ h .holder
+  holder-same : stateOf f h d sh .holder ≡ h .semaphore .holder
   unfolding stateIn
   holder-same = refl
 

@@ -325,8 +325,8 @@ module _ (f t : List ℕ) (bytes : (i : ℕ) → getD f i 0 < 256) (trace-bytes 
       let start : Follows f t h (stateOf f h d sh) (left (answerOf 0 h) d sh []) = record {
         lendable = record { count = fit .0; sized = sized; fit = fit .1 };
         state = sym (held-back f h d sh four places offsets);
-        memory = sym (data-back f (h .cores) (h .places) (h .offsets) (h .holder) d sh (known .memory));
-        shared = sym (shared-in f (h .cores) (h .places) (h .offsets) (h .holder) d sh);
+        memory = sym (data-back f (h .cores) (h .places) (h .offsets) (h .semaphore .holder) d sh (known .memory));
+        shared = sym (shared-in f (h .cores) (h .places) (h .offsets) (h .semaphore .holder) d sh);
         whole = refl;
       } in
       let w = follows-steps f t ok h (stateOf f h d sh) (left (answerOf 0 h) d sh []) start order (known .below) in

@@ -52,7 +52,7 @@ module _ (f t : List ℕ) (h : State) (d sh order list : List ℕ) (e : runRefus
     pub fit-of : Fit f t (stateOf f h d sh)
     fit-of = fit-accepted f t set-of h d sh record { memory = known .memory; shared = known .shared-memory; places = places; offsets = offsets } (known .state) .1
 
-    pub going : (tasks : List CoreTask) → tasks ≡ tasksOf f t → (aim : Cursor) → ((k : ℕ) → k < cores f → h .holder ≡ suc k → Aimed f k (getD (h .cores) k none) aim)
+    pub going : (tasks : List CoreTask) → tasks ≡ tasksOf f t → (aim : Cursor) → ((k : ℕ) → k < cores f → h .semaphore .holder ≡ suc k → Aimed f k (getD (h .cores) k none) aim)
         → Going f t tasks (l .first) (l .first + 12 * l .variables) order h aim d sh list
     going tasks a aim b = record {
       accepted = set-of;

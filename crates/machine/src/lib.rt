@@ -4,6 +4,7 @@ use exchange::Cursor;
 use protocol::Registers;
 use runner::Ran;
 use states::CoreTask;
+use states::Semaphore;
 use states::State;
 use table::Moving;
 use taskset::Layout;
@@ -107,9 +108,10 @@ fn table_of(n: u8, flags: u8) -> State
     let cores = [core, core, core, core];
     let places = [0u16; 64];
     let offsets = [0u16; 64];
+    let semaphore = Semaphore { holder: 0 };
     State {
         count: n,
-        holder: 0,
+        semaphore,
         cores,
         places,
         offsets,
@@ -163,10 +165,10 @@ fn aim_of(
     shared: &[u8],
 ) -> Cursor
     requires { ⌜ Set (now file) (now trace) × (first ≡ recordPlace (now file) 0) × (end ≡ recordPlace (now file) (variables (now file))) × Fit (now file) (now trace) (stateOf (now file) s (now buffer) (now shared)) ⌝ }
-    ensures { λ r. ⌜ ((k : ℕ) → k < cores (now (file .entry)) → s .holder ≡ suc k → Aimed (now (file .entry)) k (getD (s .cores) k none) r) ⌝ }
+    ensures { λ r. ⌜ ((k : ℕ) → k < cores (now (file .entry)) → s .semaphore .holder ≡ suc k → Aimed (now (file .entry)) k (getD (s .cores) k none) r) ⌝ }
 {
     let none = Cursor { record: 0, byte: 0 };
-    let holder = s.holder;
+    let holder = s.semaphore.holder;
     if holder == 0 {
         return none;
     }

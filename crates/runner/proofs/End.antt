@@ -90,7 +90,7 @@ module _ (f t : List ℕ) (order list₀ : List ℕ) (s₀ : State) (s : Held) (
       go false e =
           sym (here old) ∙ ap (λ (m : List ℕ). getD m (n % 16) 0) (sym (b (n / 16)) ∙ ap field (sym (w .spare (n / 16) (ltb-false (n / 16) (cores f) e) .1)) ∙ a (n / 16)) ∙ here l
 
-  held-back : heldAfter (cores f) s (stateIn f cs places offsets h d sh) ≡ record { count = s .count; holder = h; cores = cs; places = places; offsets = offsets }
+  held-back : heldAfter (cores f) s (stateIn f cs places offsets h d sh) ≡ record { count = s .count; semaphore = record { holder = h }; cores = cs; places = places; offsets = offsets }
   unfolding heldAfter
   held-back = same
       (holder-in f cs places offsets h d sh)
@@ -99,8 +99,8 @@ module _ (f t : List ℕ) (order list₀ : List ℕ) (s₀ : State) (s : Held) (
       (listed-is _ 64 offsets 0 (w .entries .1) (entry-back (λ k. k .offsets) offsets (s .offsets) (λ k. refl) (λ k. refl)))
     where
       same : {a a′ : ℕ} {b b′ : List Registers} {p p′ q q′ : List ℕ} → a ≡ a′ → b ≡ b′ → p ≡ p′ → q ≡ q′
-          → _≡_ {A = Held} record { count = s .count; holder = a; cores = b; places = p; offsets = q } record { count = s .count; holder = a′; cores = b′; places = p′; offsets = q′ }
-      same u v x y = λ z. record { count = s .count; holder = u z; cores = v z; places = x z; offsets = y z }
+          → _≡_ {A = Held} record { count = s .count; semaphore = record { holder = a }; cores = b; places = p; offsets = q } record { count = s .count; semaphore = record { holder = a′ }; cores = b′; places = p′; offsets = q′ }
+      same u v x y = λ z. record { count = s .count; semaphore = record { holder = u z }; cores = v z; places = x z; offsets = y z }
 
 -- ---- the end
 
@@ -111,7 +111,7 @@ pub looping-end : {f t : List ℕ} {tasks : List CoreTask} {first end : ℕ} {or
     {i : ℕ} {cs : List Registers} {places offsets : List ℕ} {h taken : ℕ} {d sh list : List ℕ} {cursor : Cursor}
     → Going f t tasks first end order s aim d₀ sh₀ list₀
     → Looping f t order list₀ (stateOf f s d₀ sh₀) (s .cores) (s .places) (s .offsets) i cs places offsets h taken d sh list cursor → length order ≤ i
-    → left (record { refusal = 0; taken = taken; state = record { count = s .count; holder = h; cores = cs; places = places; offsets = offsets } }) d sh list
+    → left (record { refusal = 0; taken = taken; state = record { count = s .count; semaphore = record { holder = h }; cores = cs; places = places; offsets = offsets } }) d sh list
     ≡ ranCall f t s d₀ sh₀ order list₀
 unfolding ranCall splice
 looping-end {f} {t} {order = order} {s = s} {d₀ = d₀} {sh₀ = sh₀} {list₀ = list₀} {i = i} {cs = cs} {places = places} {offsets = offsets} {h = h} {taken = taken} {d = d} {sh = sh} {list = list} g w b =

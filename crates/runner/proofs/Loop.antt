@@ -45,7 +45,7 @@ part-entry l p j h = rw (getD-take, getD-drop)
 
 pub looping-start : {f t : List ℕ} {tasks : List CoreTask} {first end : ℕ} {order : List ℕ} {s : Held} {cursor : Cursor} {d sh list : List ℕ} {cs : List Registers} {places offsets : List ℕ}
     → Going f t tasks first end order s cursor d sh list → (cs ≡ s .cores) × (length cs ≡ 4) → (places ≡ s .places) × (length places ≡ 64) → (offsets ≡ s .offsets) × (length offsets ≡ 64)
-    → Looping f t order list (stateOf f s d sh) (s .cores) (s .places) (s .offsets) 0 cs places offsets (s .holder) 0 d sh list cursor
+    → Looping f t order list (stateOf f s d sh) (s .cores) (s .places) (s .offsets) 0 cs places offsets (s .semaphore .holder) 0 d sh list cursor
 looping-start {f} {t} {tasks} {first} {end} {order} {s} {cursor} {d} {sh} {list} {cs} {places} {offsets} g a b e =
     rw (a .0, b .0, e .0) record {
       running = record {
@@ -308,4 +308,4 @@ pub shared-length : {f t : List ℕ} {tasks : List CoreTask} {first end : ℕ} {
     {s₀ : State} {cs₀ : List Registers} {places₀ offsets₀ : List ℕ} {i : ℕ} {cs : List Registers} {places offsets : List ℕ} {h taken : ℕ} {d sh list : List ℕ} {cursor : Cursor}
     → Going f t tasks first end order s aim d₀ sh₀ list₀ → Looping f t order list₀ s₀ cs₀ places₀ offsets₀ i cs places offsets h taken d sh list cursor → length sh ≡ length sh₀
 shared-length {f} {s = s} {d₀ = d₀} {sh₀ = sh₀} {cs = cs} {places = places} {offsets = offsets} {h = h} {d = d} {sh = sh} g w =
-    sym (ap length (shared-in f cs places offsets h d sh)) ∙ w .running .fit .shared ∙ sym (g .fit .shared) ∙ ap length (shared-in f (s .cores) (s .places) (s .offsets) (s .holder) d₀ sh₀)
+    sym (ap length (shared-in f cs places offsets h d sh)) ∙ w .running .fit .shared ∙ sym (g .fit .shared) ∙ ap length (shared-in f (s .cores) (s .places) (s .offsets) (s .semaphore .holder) d₀ sh₀)

@@ -26,4 +26,4 @@ pub record Going (f t : List ℕ) (tasks : List CoreTask) (first end : ℕ) (ord
   pub room : length order ≤ length list
   pub buffer : length d ≡ total (sizesOf f)
   pub fit : Fit f t (stateOf f s d sh)
-  pub aimed : (k : ℕ) → k < cores f → s .holder ≡ suc k → Aimed f k (getD (s .cores) k none) cursor
+  pub aimed : (k : ℕ) → k < cores f → s .semaphore .holder ≡ suc k → Aimed f k (getD (s .cores) k none) cursor

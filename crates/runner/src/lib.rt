@@ -4,6 +4,7 @@ use protocol::EXECUTING;
 use protocol::Outcome;
 use protocol::Registers;
 use states::CoreTask;
+use states::Semaphore;
 use states::State;
 use steps::Exchange;
 ghost use mathlib.Core.Path.{_≡_};
@@ -185,7 +186,7 @@ pub fn run_order(
     let mut cores = table_of(s);
     let mut places = places_of(s);
     let mut offsets = offsets_of(s);
-    let mut holder = s.holder;
+    let mut holder = s.semaphore.holder;
     let mut cursor = aim;
     let mut taken: usize = 0;
     let n = order.len();
@@ -268,9 +269,10 @@ pub fn run_order(
             i += 1;
         }
     }
+    let semaphore = Semaphore { holder };
     let state = State {
         count: s.count,
-        holder,
+        semaphore,
         cores,
         places,
         offsets,

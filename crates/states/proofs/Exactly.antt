@@ -178,7 +178,7 @@ module _ (f t : List ℕ) (ok : Set f t) (h : State) (d sh : List ℕ) (z : Size
   mine k = coreIn f (h .cores) (h .places) (h .offsets) d k
 
   abbrev Kept : ℕ → Type 0
-  Kept k = Rules f t (h .holder) k (getD (h .cores) k none) (entry (h .places) k) (entry (h .offsets) k)
+  Kept k = Rules f t (h .semaphore .holder) k (getD (h .cores) k none) (entry (h .places) k) (entry (h .offsets) k)
 
   stack-long : (l : List ℕ) (k : ℕ) → k < cores f → length l ≡ 64 → length (part l (16 * k) 16) ≡ 16
   stack-long l k i e = length-part l (16 * k) 16 (omega (arith, ok .few))
@@ -223,7 +223,7 @@ module _ (f t : List ℕ) (ok : Set f t) (h : State) (d sh : List ℕ) (z : Size
     size = data-size f d k i (z .memory);
   }
 
-  kept : (k : ℕ) → FitCore f t k (mine k) → Holds (mine k .registers) (h .holder) k → Kept k
+  kept : (k : ℕ) → FitCore f t k (mine k) → Holds (mine k .registers) (h .semaphore .holder) k → Kept k
   kept k x y = record {
     modes = x .modes;
     places = (x .placed .counter, λ i l. subst (λ (p : ℕ). isStart (codeOf f k) p ≡ true) (stack-entry (h .places) k i l) (x .placed .places i));
@@ -269,7 +269,7 @@ module _ (f t : List ℕ) (ok : Set f t) (h : State) (d sh : List ℕ) (z : Size
       go (inl i) = i
       go (inr n) = absurd (none-holds (subst Holding (core-none k (omega arith)) x))
 
-  fit-whole : h .holder ≤ cores f → ((k : ℕ) → k < cores f → Kept k) → Fit f t whole
+  fit-whole : h .semaphore .holder ≤ cores f → ((k : ℕ) → k < cores f → Kept k) → Fit f t whole
   unfolding stateIn
   fit-whole few x = record {
     table = length-listed mine (cores f) 0;
@@ -285,11 +285,11 @@ module _ (f t : List ℕ) (ok : Set f t) (h : State) (d sh : List ℕ) (z : Size
     shared = z .shared;
   }
 
-  whole-holder : Fit f t whole → h .holder ≤ cores f
+  whole-holder : Fit f t whole → h .semaphore .holder ≤ cores f
   unfolding stateIn
-  whole-holder x = go (h .holder) refl
+  whole-holder x = go (h .semaphore .holder) refl
     where
-      go : (n : ℕ) → h .holder ≡ n → h .holder ≤ cores f
+      go : (n : ℕ) → h .semaphore .holder ≡ n → h .semaphore .holder ≤ cores f
       go zero e = omega arith
       go (suc k) e = let i = holding-below k (x .held .holding k e) in omega arith
 
@@ -305,8 +305,8 @@ module _ (f t : List ℕ) (ok : Set f t) (h : State) (d sh : List ℕ) (z : Size
   pub fit-exactly : Says (stateFit f t h) ((h .count ≡ cores f) × Fit f t whole)
   unfolding stateFit fitAt
   fit-exactly =
-      let all = says-both (says-equal (h .count) (cores f)) (says-both (says-most (h .holder) (cores f))
-      (says-upto (fitAt f t h) Kept (cores f) (λ k i. says-rules f t (h .holder) k _ _ _))) in
+      let all = says-both (says-equal (h .count) (cores f)) (says-both (says-most (h .semaphore .holder) (cores f))
+      (says-upto (fitAt f t h) Kept (cores f) (λ k i. says-rules f t (h .semaphore .holder) k _ _ _))) in
       record {
         tested = λ e. let x = all .tested e in (x .0, fit-whole (x .1 .0) (x .1 .1));
         holds = λ x. all .holds (x .0, (whole-holder (x .1), whole-kept (x .1)));

@@ -81,11 +81,11 @@ coreFit f t holder k r place offset =
 
 -- core k of a state
 unfoldable pub fitAt : List ℕ → List ℕ → State → ℕ → Bool
-fitAt f t s k = coreFit f t (s .holder) k (getD (s .cores) k none) (entry (s .places) k) (entry (s .offsets) k)
+fitAt f t s k = coreFit f t (s .semaphore .holder) k (getD (s .cores) k none) (entry (s .places) k) (entry (s .offsets) k)
 
 -- the table has n records, the semaphore names one of them or is free, and each core is fit
 unfoldable pub stateFit : List ℕ → List ℕ → State → Bool
-stateFit f t s = both (eqb (s .count) (cores f)) (both (leb (s .holder) (cores f)) (upto (fitAt f t s) (cores f)))
+stateFit f t s = both (eqb (s .count) (cores f)) (both (leb (s .semaphore .holder) (cores f)) (upto (fitAt f t s) (cores f)))
 
 unfoldable pub stateRefusal : List ℕ → List ℕ → State → ℕ
 stateRefusal f t s = unless (stateFit f t s) 23

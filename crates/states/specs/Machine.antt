@@ -31,7 +31,7 @@ stateIn f cs places offsets holder d sh =
     record { plant = record { cores = listed (coreIn f cs places offsets d) (cores f) 0; shared = sh }; holder = holder }
 
 abbrev pub stateOf : List ℕ → Held → List ℕ → List ℕ → State
-stateOf f h d sh = stateIn f (h .cores) (h .places) (h .offsets) (h .holder) d sh
+stateOf f h d sh = stateIn f (h .cores) (h .places) (h .offsets) (h .semaphore .holder) d sh
 
 -- lent memory of the right sizes, and the entries of four call stacks
 pub record Sized (f : List ℕ) (h : Held) (d sh : List ℕ) : Type 0 where
@@ -52,7 +52,7 @@ entryBack part n old s i = pick (ltb (i / 16) n) (getD (part (core (s .plant) (i
 unfoldable pub heldAfter : ℕ → Held → State → Held
 heldAfter n h s = record {
   count = h .count;
-  holder = s .holder;
+  semaphore = record { holder = s .holder };
   cores = listed (registersBack n (h .cores) s) 4 0;
   places = listed (entryBack (λ k. k .places) n (h .places) s) 64 0;
   offsets = listed (entryBack (λ k. k .offsets) n (h .offsets) s) 64 0;

@@ -16,10 +16,16 @@ use protocol::Registers;
 use taskset::Layout;
 use taskset::TraceLayout;
 
+// The semaphore.
+#[repr(C)]
+pub struct Semaphore {
+    pub holder: u8, // 0 where it is free, k + 1 where core k holds it
+}
+
 // The state of up to four cores. The call stack of core k is entries 16k to 16k + 15 of `places` and `offsets`.
 pub struct State {
     pub count: u8, // records of the core table
-    pub holder: u8, // of the semaphore: 0 where it is free, k + 1 where core k holds it
+    pub semaphore: Semaphore,
     pub cores: [Registers; 4],
     pub places: [u16; 64],
     pub offsets: [u16; 64],
@@ -310,7 +316,7 @@ fn core_fit(file: &[u8], trace: &[u8], task: CoreTask, s: State, k: usize) -> bo
     if !execution_fit(&file[from..to], task, r, &places, &offsets, k) {
         return false;
     }
-    if !exchanges_fit(task, s.holder, k, r) {
+    if !exchanges_fit(task, s.semaphore.holder, k, r) {
         return false;
     }
     if !freed_fit(r, &places, &offsets, k) {
@@ -327,7 +333,7 @@ pub fn state_refusal(file: &[u8], trace: &[u8], tasks: [CoreTask; 4], n: usize, 
     if s.count as usize != n {
         return UNFIT;
     }
-    if n < s.holder as usize {
+    if n < s.semaphore.holder as usize {
         return UNFIT;
     }
     let mut k: usize = 0;

@@ -26,7 +26,7 @@ module _ (f t : List ℕ) (s : State) (tasks : List CoreTask) (n given : ℕ) (p
   pub inside-four : (i : ℕ) → (given + i) % n < 4
   inside-four i = omega (arith, round-inside n given i (p .3), p .0 .few, p .2)
 
-  module _ (i : ℕ) (b : Bool) (w : Scanning f t s given i) (h : i ≤ n) (e : b ≡ canMove (s .holder) (getD tasks ((given + i) % n) noTask .count) (getD (s .cores) ((given + i) % n) none)) where
+  module _ (i : ℕ) (b : Bool) (w : Scanning f t s given i) (h : i ≤ n) (e : b ≡ canMove (s .semaphore .holder) (getD tasks ((given + i) % n) noTask .count) (getD (s .cores) ((given + i) % n) none)) where
     answered : b ≡ moves f t s (roundFrom (cores f) given i)
     unfolding moves coreTask
     answered =

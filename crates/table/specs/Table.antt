@@ -32,7 +32,7 @@ canMove holder count r = canMoveIn (r .mode) holder count (r .cycles)
 
 -- core k of a state
 unfoldable pub moves : List ℕ → List ℕ → State → ℕ → Bool
-moves f t s k = canMove (s .holder) (recordCount f t k) (getD (s .cores) k none)
+moves f t s k = canMove (s .semaphore .holder) (recordCount f t k) (getD (s .cores) k none)
 
 -- ---- the table
 

@@ -46,7 +46,7 @@ pub fn next_moving(
     let mut i: usize = 1;
     while i <= n {
         let k = (given as usize + i) % n;
-        if can_move(tasks[k].count, s.holder, s.cores[k]) {
+        if can_move(tasks[k].count, s.semaphore.holder, s.cores[k]) {
             return Moving::Core(k as u8);
         }
         i += 1;

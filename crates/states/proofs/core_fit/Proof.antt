@@ -38,7 +38,7 @@ module _ (f t : List ℕ) (k : ℕ) (task : CoreTask) (e : task ≡ coreTask f t
   -- the rules, with what the task has of file and trace
   by-task : (s : State)
       → both (executionFit (lent f task) (task .size) (task .limit) (getD (s .cores) k none) (entry (s .places) k) (entry (s .offsets) k))
-      (both (exchangesFit (task .reads) (task .writes) (task .count) (s .holder) k (getD (s .cores) k none))
+      (both (exchangesFit (task .reads) (task .writes) (task .count) (s .semaphore .holder) k (getD (s .cores) k none))
       (both (freedFit (getD (s .cores) k none) (entry (s .places) k) (entry (s .offsets) k)) (ltb (getD (s .cores) k none .flags) 64)))
       ≡ fitAt f t s k
   unfolding fitAt coreFit coreTask
