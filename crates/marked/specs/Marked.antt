@@ -1,9 +1,9 @@
 -- The marked (M) bench values of document 01 as one table: each case with what the definitions give and what the document says. The theorem
--- for all of them is `marked` (proofs/Marked). In order: the kinds of cases; the two latches; the step against a held semaphore; the table.
+-- for all of them is `marked` (proofs/Marked). In order: the kinds of cases; the two latches; steps against a held semaphore; the table.
 use Prim.Native.Nat.{ℕ, _<_}
 use mathlib.Core.Path.{_≡_}
 use mathlib.Core.Bool.{true, false}
-use mathlib.Core.List.{List, [], _∷_}
+use mathlib.Core.List.{List, [], _∷_, _++_}
 use mathlib.Core.Logic.{_⊎_, inl, inr}
 use lib.IntN.{pos, negsuc}
 use lib.Ieee.{fin}
@@ -12,16 +12,18 @@ use Rattle.values.specs.Commands.{command}
 use Rattle.values.specs.declared.Value.{Value}
 use Rattle.values.specs.declared.Value.the-variants.{Bool as Truth, Signed, Unsigned, Real}
 use Rattle.protocol.specs.State.{State, Task, core, mode}
-use Rattle.protocol.specs.Step.{step}
+use Rattle.protocol.specs.Step.{inLine, step}
 
 -- ---- the kinds of cases
 
 -- `does code t a b r`: the command on a and b of type t gives r; `reads t bytes v`: the bytes stand for v; `latches f s r q v`: from Q = q, the
--- latch f gives v at the inputs s and r; `waits t k s`: a step of core k changes nothing in s
+-- latch f gives v at the inputs s and r; `joins t k s`: by a step in s core k joins the line at its end, and nothing else changes; `waits t k s`: a step of core k
+-- changes nothing in s
 pub data Case : Type 0 where
   does : ℕ → ℕ → Value → Value → Value → Case
   reads : ℕ → List ℕ → Value → Case
   latches : (Value → Value → Value → Value) → Value → Value → Value → Value → Case
+  joins : Task → ℕ → State → Case
   waits : Task → ℕ → State → Case
 
 -- a command on values: the operands are stored, the result is read back
@@ -33,6 +35,7 @@ unfoldable pub given : Case → Value ⊎ State
 given (does code t a b v) = inl (resultOf code t a b)
 given (reads t bytes v) = inl (readValue bytes t 0)
 given (latches f s r q v) = inl (f s r q)
+given (joins t k s) = inr (step t k s)
 given (waits t k s) = inr (step t k s)
 
 -- what the document says
@@ -40,6 +43,7 @@ unfoldable pub said : Case → Value ⊎ State
 said (does code t a b v) = inl v
 said (reads t bytes v) = inl v
 said (latches f s r q v) = inl v
+said (joins t k s) = inr record { plant = s .plant; semaphore = record { holder = s .semaphore .holder; line = s .semaphore .line ++ (k ∷ []) } }
 said (waits t k s) = inr s
 
 -- ---- the latches, by the BOOL commands NOT (27), AND (24) and OR (25)
@@ -63,12 +67,13 @@ SR s r q = orB s (andB (notB r) q)
 
 -- ---- a held semaphore
 
--- core k waits to write, and some core holds the semaphore
+-- core k waits to write, some core holds the semaphore, and core k is not in line yet
 pub record WaitsToWrite (k : ℕ) (s : State) : Type 0 where
   pub mode-3 : mode (core (s .plant) k) ≡ 3
-  pub held : 0 < s .holder
+  pub held : 0 < s .semaphore .holder
+  pub out : inLine k (s .semaphore .line) ≡ false
 
--- ---- the table, in the document's order; its step is one of any task, core and state (`marked` asks that these are `WaitsToWrite`)
+-- ---- the table, in the document's order; its steps are of any task, core and state (`marked` asks that these are `WaitsToWrite`)
 
 unfoldable pub cases : Task → ℕ → State → List Case
 cases t k s =
@@ -86,5 +91,6 @@ cases t k s =
     ∷ latches RS (Truth true) (Truth true) (Truth true) (Truth false)  -- and from Q = 1
     ∷ latches SR (Truth true) (Truth true) (Truth false) (Truth true)  -- and 1 in SR, from Q = 0
     ∷ latches SR (Truth true) (Truth true) (Truth true) (Truth true)  -- and from Q = 1
-    ∷ waits t k s  -- a step in mode 3 while another core holds the semaphore changes nothing
+    ∷ joins t k s  -- in mode 3 while another core holds the semaphore: the first such step joins (document 02, 2.4)
+    ∷ waits t k (step t k s)  -- a second changes nothing
     ∷ []

@@ -19,7 +19,7 @@ use Rattle.verdict.specs.Verdict.{either}
 use Rattle.protocol.specs.Laws.{Laws, Between, Fresh, Held, Holding}
 use Rattle.protocol.specs.Variables.{Variable, readsOf, writesOf, Accepted}
 use Rattle.protocol.specs.Cycles.{readsFrom, lineBetween, OneWay, NoRing, cycle, cycles, EachRuns, begun, howOften, Serial}
-use Rattle.protocol.proofs.View.{at, readByte, Moves, rests, takesRead, readsOn, readsLast, runs, takesWrite, writesOn, writesLast, view}
+use Rattle.protocol.proofs.View.{at, readByte, Moves, rests, waits, takesRead, readsOn, readsLast, runs, takesWrite, writesOn, writesLast, view}
 use Rattle.protocol.proofs.Steps.{held-step, held-fresh, held-run}
 use borrow.Author.Tests.{ne-eqb as eqb-off}
 use Rattle.protocol.proofs.Whole.{Sim, sim-step, sim-fresh, as-whole, between-still, whole-append}
@@ -38,11 +38,12 @@ module _ (t : Task) (k : ℕ) (s : State) where
   others : (j : ℕ) → k ≢ j → (s′ : State) (ts : List Taking) → Moves t j s s′ ts
       → (at s′ k ≡ at s k) × ((b : Bool) (rest : List Taking) → Alternate k b rest → Alternate k b (ts ++ rest))
   others j n s′ ts (rests z) = (refl, λ b r a. a)
-  others j n s′ ts (takesRead x rs i f e d) = (getD-set-other (s .plant .cores) j k (readTaken x (at s j)) absent n, λ b r a. inr (λ g. n (sym g), a))
+  others j n s′ ts (waits i wt b) = (refl, λ b r a. a)
+  others j n s′ ts (takesRead x rs i f b e d) = (getD-set-other (s .plant .cores) j k (readTaken x (at s j)) absent n, λ b r a. inr (λ g. n (sym g), a))
   others j n s′ ts (readsOn m ms i e d) = (getD-set-other (s .plant .cores) j k (readNext (readByte t j s) (at s j)) absent n, λ b r a. a)
   others j n s′ ts (readsLast i e d) = (getD-set-other (s .plant .cores) j k (readDone (readByte t j s) (at s j)) absent n, λ b r a. a)
   others j n s′ ts (runs i e) = (getD-set-other (s .plant .cores) j k (t .instruction j (at s j)) absent n, λ b r a. a)
-  others j n s′ ts (takesWrite i f e) = (getD-set-other (s .plant .cores) j k (writeTaken (at s j)) absent n, λ b r a. inr (λ g. n (sym g), a))
+  others j n s′ ts (takesWrite i f b e) = (getD-set-other (s .plant .cores) j k (writeTaken (at s j)) absent n, λ b r a. inr (λ g. n (sym g), a))
   others j n s′ ts (writesOn m ms i e d) = (getD-set-other (s .plant .cores) j k (writeNext (at s j)) absent n, λ b r a. a)
   others j n s′ ts (writesLast i e d) = (getD-set-other (s .plant .cores) j k (writeDone (at s j)) absent n, λ b r a. a)
 
@@ -53,16 +54,17 @@ module _ (t : Task) (k : ℕ) (s : State) where
       → (rest : List Taking) → ((b′ : Bool) → Fits b′ (at s′ k .registers .mode) → Alternate k b′ rest) → Alternate k b (ts ++ rest)
   unfolding readTaken readNext readDone writeTaken writeNext writeDone readAcquired byteCopied readReleased writeAcquired writeReleased
   own l s′ ts (rests z) b h rest go = go b h
-  own l s′ ts (takesRead x rs i f e d) true h rest go = absurd (h .0 e)
-  own l s′ ts (takesRead x rs i f e d) false h rest go = inl (refl, go true (rw (there′ (readTaken x (at s k)) i) (omega arith)))
+  own l s′ ts (waits i wt b) b′ h rest go = go b′ h
+  own l s′ ts (takesRead x rs i f b e d) true h rest go = absurd (h .0 e)
+  own l s′ ts (takesRead x rs i f b e d) false h rest go = inl (refl, go true (rw (there′ (readTaken x (at s k)) i) (omega arith)))
   own l s′ ts (readsOn m ms i e d) true h rest go = go true (rw (there′ (readNext (readByte t k s) (at s k)) i) (omega arith))
   own l s′ ts (readsOn m ms i e d) false h rest go = absurd (h .0 e)
   own l s′ ts (readsLast i e d) true h rest go = go true (rw (there′ (readDone (readByte t k s) (at s k)) i) (omega arith))
   own l s′ ts (readsLast i e d) false h rest go = absurd (h .0 e)
   own l s′ ts (runs i e) true h rest go = go true (rw (there′ (t .instruction k (at s k)) i) (l .no-idle k (at s k) e, l .no-write k (at s k) e))
   own l s′ ts (runs i e) false h rest go = absurd (h .1 e)
-  own l s′ ts (takesWrite i f e) true h rest go = inl (refl, go false (rw (there′ (writeTaken (at s k)) i) (omega arith)))
-  own l s′ ts (takesWrite i f e) false h rest go = absurd (h .2 e)
+  own l s′ ts (takesWrite i f b e) true h rest go = inl (refl, go false (rw (there′ (writeTaken (at s k)) i) (omega arith)))
+  own l s′ ts (takesWrite i f b e) false h rest go = absurd (h .2 e)
   own l s′ ts (writesOn m ms i e d) true h rest go = absurd (h .1 e)
   own l s′ ts (writesOn m ms i e d) false h rest go = go false (rw (there′ (writeNext (at s k)) i) (omega arith))
   own l s′ ts (writesLast i e d) true h rest go = absurd (h .1 e)
@@ -99,7 +101,8 @@ Legal t (x ∷ ts) p = Ready t x (core p (by x)) × Legal t ts (wholeOne t x p)
 
 legal-step : (t : Task) (k : ℕ) (s : State) (w : Plant) → Sim t s w → (s′ : State) (ts : List Taking) → Moves t k s s′ ts → (rest : List Taking) → Legal t rest (whole t ts w) → Legal t (ts ++ rest) w
 legal-step t k s w sim s′ ts (rests z) rest h = h
-legal-step t k s w sim s′ ts (takesRead r rs i f e d) rest h =
+legal-step t k s w sim s′ ts (waits i wt b) rest h = h
+legal-step t k s w sim s′ ts (takesRead r rs i f b e d) rest h =
     let q : core w k ≡ at s k = sim .same-core k ∙ rw e in
     (subst (λ (c : Core). Ready t (reading k) c) (sym q) (e, λ z. filled r rs (sym d ∙ z)), h)
   where
@@ -108,7 +111,7 @@ legal-step t k s w sim s′ ts (takesRead r rs i f e d) rest h =
 legal-step t k s w sim s′ ts (readsOn m ms i e d) rest h = h
 legal-step t k s w sim s′ ts (readsLast i e d) rest h = h
 legal-step t k s w sim s′ ts (runs i e) rest h = h
-legal-step t k s w sim s′ ts (takesWrite i f e) rest h = (tt, h)
+legal-step t k s w sim s′ ts (takesWrite i f b e) rest h = (tt, h)
 legal-step t k s w sim s′ ts (writesOn m ms i e d) rest h = h
 legal-step t k s w sim s′ ts (writesLast i e d) rest h = h
 
@@ -189,14 +192,14 @@ calm : (m n : ℕ) → m ≡ n → n ≢ 1 → n ≢ 4 → (m ≡ 1) ⊎ (m ≡ 
 calm m n e a b (inl f) = a (sym e ∙ f)
 calm m n e a b (inr f) = b (sym e ∙ f)
 
-free-end : (s : State) → Held s → Between s → s .holder ≡ 0
-free-end s used b = go (s .holder) refl
+free-end : (s : State) → Held s → Between s → s .semaphore .holder ≡ 0
+free-end s used b = go (s .semaphore .holder) refl
   where
     off : (h : ℕ) → (at s h .registers .mode ≡ 0) ⊎ (at s h .registers .mode ≡ 5) → Holding (at s h) → ⊥
     off h (inl e) x = calm (at s h .registers .mode) 0 e (omega arith) (omega arith) x
     off h (inr e) x = calm (at s h .registers .mode) 5 e (omega arith) (omega arith) x
 
-    go : (h : ℕ) → s .holder ≡ h → s .holder ≡ 0
+    go : (h : ℕ) → s .semaphore .holder ≡ h → s .semaphore .holder ≡ 0
     go zero e = e
     go (suc h) e = absurd (off h (b h) (used .holding h e))
 

@@ -95,4 +95,4 @@ between (n ∷ ns) zero = inl refl
 between (n ∷ ns) (suc k) = between ns k
 
 pub fresh-is : (sizes : List ℕ) → Fresh (fresh sizes)
-fresh-is sizes = record { free = refl; between = between sizes }
+fresh-is sizes = record { free = refl; between = between sizes; empty = refl }

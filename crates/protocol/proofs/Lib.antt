@@ -14,3 +14,5 @@ pub mod Commute
 pub mod Order
 pub mod Cycles
 pub mod Tests
+pub mod Fair
+pub mod Attained

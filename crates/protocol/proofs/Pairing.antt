@@ -14,13 +14,13 @@ use lib.Seq.{getD-set-other}
 use Rattle.verdict.specs.Verdict.{pick}
 use Rattle.memory.proofs.Laws.{length-splice}
 use Rattle.protocol.specs.Registers.{readAcquired, byteCopied, readReleased, writeAcquired, writeReleased}
-use Rattle.protocol.specs.State.{Core, Plant, State, Move, Sample, Task, absent, core, mode}
-use Rattle.protocol.specs.Step.{copy, left, readTaken, readNext, readDone, writeTaken, writeNext, writeDone, step, run, Taking, reading, writing, takingOf}
+use Rattle.protocol.specs.State.{Core, Plant, Semaphore, State, Move, Sample, Task, absent, core, mode}
+use Rattle.protocol.specs.Step.{acquiredBy, released, joinedBy, copy, left, readTaken, readNext, readDone, writeTaken, writeNext, writeDone, step, run, Taking, reading, writing, takingOf}
 use Rattle.protocol.specs.Whole.{wholeRead, wholeOne, whole}
 use Rattle.protocol.specs.Variables.{In}
 use Rattle.protocol.specs.History.{published, latest, Stays, Finished, brought}
 use Rattle.protocol.specs.Laws.{Laws, Fresh, Held}
-use Rattle.protocol.proofs.View.{after, at, readByte, writeByte, Moves, rests, takesRead, readsOn, readsLast, runs, takesWrite, writesOn, writesLast, there, view}
+use Rattle.protocol.proofs.View.{after, at, readByte, writeByte, Moves, rests, waits, takesRead, readsOn, readsLast, runs, takesWrite, writesOn, writesLast, there, view}
 use Rattle.protocol.proofs.Copy.{copy-on, copy-last, copy-length, copy-other, copy-get, Sound}
 use Rattle.protocol.proofs.Steps.{each, only, nobody, lengths-run, held-step, held-fresh}
 use Rattle.protocol.proofs.Whole.{Sim, free-shared, whole-write, sim-step, sim-fresh}
@@ -65,7 +65,7 @@ record Kept (t : Task) (s₀ s : State) (w : Plant) (a : Publications) : Type 0 
 
 module _ (t : Task) (k : ℕ) (s₀ s : State) (w : Plant) (a : Publications) (kept : Kept t s₀ s w a) where
   -- the whole-exchange machine's shared memory stays as it is
-  keep : (c : Core) (sh : List ℕ) (h : ℕ) (v : Plant) → k < length (s .plant .cores)
+  keep : (c : Core) (sh : List ℕ) (h : Semaphore) (v : Plant) → k < length (s .plant .cores)
       → v .shared ≡ w .shared
       → current c (published (at s k) c (a k)) ≡ current (at s k) (a k)
       → Kept t s₀ (after s k c sh h) v (onward s (after s k c sh h) a)
@@ -83,7 +83,7 @@ module _ (t : Task) (k : ℕ) (s₀ s : State) (w : Plant) (a : Publications) (k
 
   -- a writing brings its core's bytes, and no other core's
   kept-takesWrite : Sound t s₀ → Sim t s w → k < length (s .plant .cores) → mode (at s k) ≡ 3
-      → (let s′ = after s k (writeTaken (at s k)) (s .plant .shared) (suc k) in Kept t s₀ s′ (wholeOne t (writing k) w) (onward s s′ a))
+      → (let s′ = after s k (writeTaken (at s k)) (s .plant .shared) (acquiredBy k (s .semaphore)) in Kept t s₀ s′ (wholeOne t (writing k) w) (onward s s′ a))
   unfolding writeTaken writeAcquired pick
   kept-takesWrite ok sim i e =
       let sh : List ℕ = copy (t .writes k) (at s k .memory) (w .shared) in
@@ -99,17 +99,18 @@ module _ (t : Task) (k : ℕ) (s₀ s : State) (w : Plant) (a : Publications) (k
   kept-step : Laws t → Sound t s₀ → Sim t s w → (s′ : State) (ts : List Taking) → Moves t k s s′ ts → Kept t s₀ s′ (whole t ts w) (onward s s′ a)
   unfolding wholeOne readTaken readAcquired readNext byteCopied readDone readReleased writeNext writeDone writeReleased pick
   kept-step l ok sim s′ ts (rests z) = record { bytes = λ j m n. rw (current-same (at s j) (a j)) (kept .bytes j m n); size = kept .size }
-  kept-step l ok sim s′ ts (takesRead r rs i f e d) =
-      keep (readTaken r (at s k)) (s .plant .shared) (suc k) (wholeOne t (reading k) w) i
+  kept-step l ok sim s′ ts (waits i wt b) = record { bytes = λ j m n. rw (current-same (at s j) (a j)) (kept .bytes j m n); size = kept .size }
+  kept-step l ok sim s′ ts (takesRead r rs i f b e d) =
+      keep (readTaken r (at s k)) (s .plant .shared) (acquiredBy k (s .semaphore)) (wholeOne t (reading k) w) i
       (whole-read (mode (core w k)) (drop (core w k .registers .cycles) (t .samples k)) (core w k)) (rw e)
-  kept-step l ok sim s′ ts (readsOn m ms i e d) = keep (readNext (readByte t k s) (at s k)) (s .plant .shared) (s .holder) w i refl (rw e)
-  kept-step l ok sim s′ ts (readsLast i e d) = keep (readDone (readByte t k s) (at s k)) (s .plant .shared) 0 w i refl (rw e)
+  kept-step l ok sim s′ ts (readsOn m ms i e d) = keep (readNext (readByte t k s) (at s k)) (s .plant .shared) (s .semaphore) w i refl (rw e)
+  kept-step l ok sim s′ ts (readsLast i e d) = keep (readDone (readByte t k s) (at s k)) (s .plant .shared) (released (s .semaphore)) w i refl (rw e)
   kept-step l ok sim s′ ts (runs i e) =
       let c : Core = t .instruction k (at s k) in
-      keep c (s .plant .shared) (s .holder) w i refl (rw (e, ne-eqb (mode c) 4 (l .no-write k (at s k) e)))
-  kept-step l ok sim s′ ts (takesWrite i f e) = kept-takesWrite ok sim i e
-  kept-step l ok sim s′ ts (writesOn m ms i e d) = keep (writeNext (at s k)) (writeByte t k s) (s .holder) w i refl (rw e)
-  kept-step l ok sim s′ ts (writesLast i e d) = keep (writeDone (at s k)) (writeByte t k s) 0 w i refl (rw e)
+      keep c (s .plant .shared) (s .semaphore) w i refl (rw (e, ne-eqb (mode c) 4 (l .no-write k (at s k) e)))
+  kept-step l ok sim s′ ts (takesWrite i f b e) = kept-takesWrite ok sim i e
+  kept-step l ok sim s′ ts (writesOn m ms i e d) = keep (writeNext (at s k)) (writeByte t k s) (s .semaphore) w i refl (rw e)
+  kept-step l ok sim s′ ts (writesLast i e d) = keep (writeDone (at s k)) (writeByte t k s) (released (s .semaphore)) w i refl (rw e)
 
 -- ---- from the taking to the release
 
@@ -124,38 +125,41 @@ Onward t r s s′ = ((mode (at s′ r) ≡ 1) × (coming t r s′ ≡ coming t r
 -- the step from s to s′ took the semaphore for core r, whose data are then d
 record Took (t : Task) (r : ℕ) (s s′ : State) : Type 0 where
   d : List ℕ
-  free : s .holder ≡ 0
+  free : s .semaphore .holder ≡ 0
   size : length d ≡ length (at s r .memory)
   comes : coming t r s′ ≡ copy (t .reads r) (s .plant .shared) d
 
 module _ (t : Task) (r : ℕ) (s : State) where
   coming-other : Held s → (k : ℕ) → r ≢ k → mode (at s r) ≡ 1 → (s′ : State) (ts : List Taking) → Moves t k s s′ ts → coming t r s′ ≡ coming t r s
   coming-other h k n e s′ ts (rests z) = refl
-  coming-other h k n e s′ ts (takesRead x rs i f g d) = rw (getD-set-other (s .plant .cores) k r (readTaken x (at s k)) absent n)
+  coming-other h k n e s′ ts (waits i wt b) = refl
+  coming-other h k n e s′ ts (takesRead x rs i f b g d) = rw (getD-set-other (s .plant .cores) k r (readTaken x (at s k)) absent n)
   coming-other h k n e s′ ts (readsOn m ms i g d) = rw (getD-set-other (s .plant .cores) k r (readNext (readByte t k s) (at s k)) absent n)
   coming-other h k n e s′ ts (readsLast i g d) = rw (getD-set-other (s .plant .cores) k r (readDone (readByte t k s) (at s k)) absent n)
   coming-other h k n e s′ ts (runs i g) = rw (getD-set-other (s .plant .cores) k r (t .instruction k (at s k)) absent n)
-  coming-other h k n e s′ ts (takesWrite i f g) = rw (getD-set-other (s .plant .cores) k r (writeTaken (at s k)) absent n)
+  coming-other h k n e s′ ts (takesWrite i f b g) = rw (getD-set-other (s .plant .cores) k r (writeTaken (at s k)) absent n)
   coming-other h k n e s′ ts (writesOn m ms i g d) = absurd (only s h k (inr g) r n (inl e))
   coming-other h k n e s′ ts (writesLast i g d) = absurd (only s h k (inr g) r n (inl e))
 
   coming-own : mode (at s r) ≡ 1 → (s′ : State) (ts : List Taking) → Moves t r s s′ ts → Onward t r s s′
   unfolding readNext byteCopied readDone readReleased
   coming-own e s′ ts (rests z) = inl (e, refl)
-  coming-own e s′ ts (takesRead x rs i f g d) = absurd (omega arith)
+  coming-own e s′ ts (waits i wt b) = inl (e, refl)
+  coming-own e s′ ts (takesRead x rs i f b g d) = absurd (omega arith)
   coming-own e s′ ts (readsOn m ms i g d) =
       inl (rw (there s r (readNext (readByte t r s) (at s r)) i) (e, sym (copy-on (at s r .registers .exchange) (t .reads r) (s .plant .shared) (at s r .memory))))
   coming-own e s′ ts (readsLast i g d) =
       inr (rw (there s r (readDone (readByte t r s) (at s r)) i) (refl, sym (copy-last (left (at s r) (t .reads r)) (s .plant .shared) (at s r .memory) d)))
   coming-own e s′ ts (runs i g) = absurd (omega arith)
-  coming-own e s′ ts (takesWrite i f g) = absurd (omega arith)
+  coming-own e s′ ts (takesWrite i f b g) = absurd (omega arith)
   coming-own e s′ ts (writesOn m ms i g d) = absurd (omega arith)
   coming-own e s′ ts (writesLast i g d) = absurd (omega arith)
 
   coming-taken : mode (at s r) ≡ 0 → (s′ : State) (ts : List Taking) → Moves t r s s′ ts → mode (at s′ r) ≡ 1 → Took t r s s′
   unfolding readTaken readAcquired
   coming-taken e s′ ts (rests z) f = absurd (omega arith)
-  coming-taken e s′ ts (takesRead x rs i z g q) f = record {
+  coming-taken e s′ ts (waits i wt b) f = absurd (omega arith)
+  coming-taken e s′ ts (takesRead x rs i z b g q) f = record {
     d = readTaken x (at s r) .memory;
     free = z;
     size = length-splice (at s r .memory) 0 (x .input);
@@ -164,7 +168,7 @@ module _ (t : Task) (r : ℕ) (s : State) where
   coming-taken e s′ ts (readsOn m ms i g q) f = absurd (omega arith)
   coming-taken e s′ ts (readsLast i g q) f = absurd (omega arith)
   coming-taken e s′ ts (runs i g) f = absurd (omega arith)
-  coming-taken e s′ ts (takesWrite i z g) f = absurd (omega arith)
+  coming-taken e s′ ts (takesWrite i z b g) f = absurd (omega arith)
   coming-taken e s′ ts (writesOn m ms i g q) f = absurd (omega arith)
   coming-taken e s′ ts (writesLast i g q) f = absurd (omega arith)
 

@@ -10,7 +10,7 @@ use Rattle.protocol.specs.State.{State, Task, mode}
 use Rattle.protocol.specs.Step.{writeTaken, writeNext, writeDone, step, run, Taking, takingOf}
 use Rattle.protocol.specs.History.{Stays, Finished}
 use Rattle.protocol.specs.Laws.{Laws}
-use Rattle.protocol.proofs.View.{at, Moves, rests, takesRead, readsOn, readsLast, runs, takesWrite, writesOn, writesLast, there, view}
+use Rattle.protocol.proofs.View.{at, Moves, rests, waits, takesRead, readsOn, readsLast, runs, takesWrite, writesOn, writesLast, there, view}
 use Rattle.protocol.proofs.Steps.{others-stay, run-append}
 use Rattle.protocol.proofs.Pairing.{stays-first}
 
@@ -27,11 +27,12 @@ module _ (t : Task) (l : Laws t) (r : ℕ) where
   enters-own : (s s′ : State) (ts : List Taking) → Moves t r s s′ ts → mode (at s r) ≢ 1 → mode (at s′ r) ≡ 1 → mode (at s r) ≡ 0
   unfolding writeTaken writeAcquired writeNext byteCopied writeDone writeReleased
   enters-own s s′ ts (rests z) n f = absurd (n f)
-  enters-own s s′ ts (takesRead x rs i z e d) n f = e
+  enters-own s s′ ts (waits i wt b) n f = absurd (n f)
+  enters-own s s′ ts (takesRead x rs i z b e d) n f = e
   enters-own s s′ ts (readsOn m ms i e d) n f = absurd (n e)
   enters-own s s′ ts (readsLast i e d) n f = absurd (n e)
   enters-own s s′ ts (runs i e) n f = absurd (l .no-read r (at s r) e (rw (there s r (t .instruction r (at s r)) i) at f))
-  enters-own s s′ ts (takesWrite i z e) n f = absurd (omega (arith, f, ap mode (there s r (writeTaken (at s r)) i)))
+  enters-own s s′ ts (takesWrite i z b e) n f = absurd (omega (arith, f, ap mode (there s r (writeTaken (at s r)) i)))
   enters-own s s′ ts (writesOn m ms i e d) n f = absurd (omega (arith, f, ap mode (there s r (writeNext (at s r)) i)))
   enters-own s s′ ts (writesLast i e d) n f = absurd (omega (arith, f, ap mode (there s r (writeDone (at s r)) i)))
 

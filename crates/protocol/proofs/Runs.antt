@@ -87,8 +87,9 @@ abbrev pub coreAfter : List ℕ → ℕ → Core
 coreAfter ks k = core (run task ks start .plant) k
 
 pub record Computed : Type 0 where
-  -- document 01: "a step in mode 3 while another core holds the semaphore changes nothing"
-  pub waits : step task 0 (run task waiting start) ≡ run task waiting start
+  -- document 02: "the first such step joins, a second changes nothing"
+  pub joins : step task 0 (run task waiting start) .semaphore .line ≡ 0 ∷ []
+  pub waits : step task 0 (step task 0 (run task waiting start)) ≡ step task 0 (run task waiting start)
   -- the takings of the mixed run, and the bytes of its order list
   pub taken-mixed : takings task mixed start ≡ reading 0 ∷ reading 1 ∷ writing 0 ∷ writing 1 ∷ []
   pub order-mixed : orderList task mixed start ≡ 0 ∷ 1 ∷ 16 ∷ 17 ∷ []
@@ -111,6 +112,7 @@ pub record Computed : Type 0 where
 pub computed : Computed
 unfolding computing
 computed = record {
+  joins = refl;
   waits = refl;
   taken-mixed = refl;
   order-mixed = refl;

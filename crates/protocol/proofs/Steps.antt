@@ -9,10 +9,10 @@ use lib.ListN.{length, getD, set, take, length-set}
 use lib.Seq.{getD-set-same, getD-set-other}
 use Rattle.memory.proofs.Laws.{length-splice}
 use Rattle.protocol.specs.Registers.{readAcquired, byteCopied, readReleased, writeAcquired, writeReleased}
-use Rattle.protocol.specs.State.{Core, State, Task, absent, core, mode}
-use Rattle.protocol.specs.Step.{left, readTaken, readNext, readDone, writeTaken, writeNext, writeDone, step, run, Taking, takingOf, takings}
+use Rattle.protocol.specs.State.{Core, Semaphore, State, Task, absent, core, mode}
+use Rattle.protocol.specs.Step.{acquiredBy, released, joinedBy, left, readTaken, readNext, readDone, writeTaken, writeNext, writeDone, step, run, Taking, takingOf, takings}
 use Rattle.protocol.specs.Laws.{Laws, Fresh, Holding, Held}
-use Rattle.protocol.proofs.View.{after, at, readByte, writeByte, Moves, rests, takesRead, readsOn, readsLast, runs, takesWrite, writesOn, writesLast, view}
+use Rattle.protocol.proofs.View.{after, at, readByte, writeByte, Moves, rests, waits, takesRead, readsOn, readsLast, runs, takesWrite, writesOn, writesLast, view}
 use Rattle.protocol.proofs.Copy.{copy-length}
 
 -- ---- a fact of each core
@@ -42,11 +42,12 @@ takings-append t (j ∷ js) ks s =
 
 others : (t : Task) (k : ℕ) (s s′ : State) (ts : List Taking) → Moves t k s s′ ts → (j : ℕ) → j ≢ k → at s′ j ≡ at s j
 others t k s s′ ts (rests z) j n = refl
-others t k s s′ ts (takesRead r rs i f e d) j n = getD-set-other (s .plant .cores) k j _ absent n
+others t k s s′ ts (waits i wt b) j n = refl
+others t k s s′ ts (takesRead r rs i f b e d) j n = getD-set-other (s .plant .cores) k j _ absent n
 others t k s s′ ts (readsOn m ms i e d) j n = getD-set-other (s .plant .cores) k j _ absent n
 others t k s s′ ts (readsLast i e d) j n = getD-set-other (s .plant .cores) k j _ absent n
 others t k s s′ ts (runs i e) j n = getD-set-other (s .plant .cores) k j _ absent n
-others t k s s′ ts (takesWrite i f e) j n = getD-set-other (s .plant .cores) k j _ absent n
+others t k s s′ ts (takesWrite i f b e) j n = getD-set-other (s .plant .cores) k j _ absent n
 others t k s s′ ts (writesOn m ms i e d) j n = getD-set-other (s .plant .cores) k j _ absent n
 others t k s s′ ts (writesLast i e d) j n = getD-set-other (s .plant .cores) k j _ absent n
 
@@ -62,7 +63,7 @@ pub record SameLengths (s s′ : State) : Type 0 where
   pub shared : length (s′ .plant .shared) ≡ length (s .plant .shared)
 
 module _ (t : Task) (l : Laws t) (k : ℕ) (s : State) where
-  same-lengths : (c : Core) (sh : List ℕ) (h : ℕ) → k < length (s .plant .cores) → length (c .memory) ≡ length (at s k .memory)
+  same-lengths : (c : Core) (sh : List ℕ) (h : Semaphore) → k < length (s .plant .cores) → length (c .memory) ≡ length (at s k .memory)
       → length sh ≡ length (s .plant .shared) → SameLengths s (after s k c sh h)
   same-lengths c sh h i m e = record {
     cores = length-set (s .plant .cores) k c;
@@ -79,13 +80,14 @@ module _ (t : Task) (l : Laws t) (k : ℕ) (s : State) where
   lengths-of : (s′ : State) (ts : List Taking) → Moves t k s s′ ts → SameLengths s s′
   unfolding readTaken readNext readDone writeTaken writeNext writeDone
   lengths-of s′ ts (rests z) = record { cores = refl; memories = λ j. refl; shared = refl }
-  lengths-of s′ ts (takesRead r rs i f e d) = same-lengths (readTaken r (at s k)) (s .plant .shared) (suc k) i (length-splice (at s k .memory) 0 (r .input)) refl
-  lengths-of s′ ts (readsOn m ms i e d) = same-lengths (readNext (readByte t k s) (at s k)) (s .plant .shared) (s .holder) i read-length refl
-  lengths-of s′ ts (readsLast i e d) = same-lengths (readDone (readByte t k s) (at s k)) (s .plant .shared) 0 i read-length refl
-  lengths-of s′ ts (runs i e) = same-lengths (t .instruction k (at s k)) (s .plant .shared) (s .holder) i (l .keeps k (at s k) e) refl
-  lengths-of s′ ts (takesWrite i f e) = same-lengths (writeTaken (at s k)) (s .plant .shared) (suc k) i refl refl
-  lengths-of s′ ts (writesOn m ms i e d) = same-lengths (writeNext (at s k)) (writeByte t k s) (s .holder) i refl write-length
-  lengths-of s′ ts (writesLast i e d) = same-lengths (writeDone (at s k)) (writeByte t k s) 0 i refl write-length
+  lengths-of s′ ts (waits i wt b) = record { cores = refl; memories = λ j. refl; shared = refl }
+  lengths-of s′ ts (takesRead r rs i f b e d) = same-lengths (readTaken r (at s k)) (s .plant .shared) (acquiredBy k (s .semaphore)) i (length-splice (at s k .memory) 0 (r .input)) refl
+  lengths-of s′ ts (readsOn m ms i e d) = same-lengths (readNext (readByte t k s) (at s k)) (s .plant .shared) (s .semaphore) i read-length refl
+  lengths-of s′ ts (readsLast i e d) = same-lengths (readDone (readByte t k s) (at s k)) (s .plant .shared) (released (s .semaphore)) i read-length refl
+  lengths-of s′ ts (runs i e) = same-lengths (t .instruction k (at s k)) (s .plant .shared) (s .semaphore) i (l .keeps k (at s k) e) refl
+  lengths-of s′ ts (takesWrite i f b e) = same-lengths (writeTaken (at s k)) (s .plant .shared) (acquiredBy k (s .semaphore)) i refl refl
+  lengths-of s′ ts (writesOn m ms i e d) = same-lengths (writeNext (at s k)) (writeByte t k s) (s .semaphore) i refl write-length
+  lengths-of s′ ts (writesLast i e d) = same-lengths (writeDone (at s k)) (writeByte t k s) (released (s .semaphore)) i refl write-length
 
   -- A step keeps the number of cores, the size of each core's data and that of shared memory
   pub lengths : SameLengths s (step t k s)
@@ -108,23 +110,23 @@ neither m a b (inr e) = b e
 pub only : (s : State) → Held s → (k : ℕ) → Holding (at s k) → (j : ℕ) → j ≢ k → Holding (at s j) → ⊥
 only s x k y j n z = omega (arith, x .held k y, x .held j z)
 
-pub nobody : (s : State) → Held s → s .holder ≡ 0 → (j : ℕ) → Holding (at s j) → ⊥
+pub nobody : (s : State) → Held s → s .semaphore .holder ≡ 0 → (j : ℕ) → Holding (at s j) → ⊥
 nobody s x f j z = omega (arith, x .held j z)
 
 module _ (k : ℕ) (s : State) (x : Held s) (c : Core) (sh : List ℕ) (i : k < length (s .plant .cores)) where
-  held-taken : s .holder ≡ 0 → Holding c → Held (after s k c sh (suc k))
+  held-taken : s .semaphore .holder ≡ 0 → Holding c → Held (after s k c sh (acquiredBy k (s .semaphore)))
   held-taken f y = record {
     held = each (λ j z. Holding z → suc k ≡ suc j) (s .plant .cores) k c i (λ z. refl) (λ j n z. absurd (nobody s x f j z));
     holding = each (λ j z. suc k ≡ suc j → Holding z) (s .plant .cores) k c i (λ e. y) (λ j n e. absurd (omega arith));
   }
 
-  held-same : (Holding c → Holding (at s k)) → (Holding (at s k) → Holding c) → Held (after s k c sh (s .holder))
+  held-same : (Holding c → Holding (at s k)) → (Holding (at s k) → Holding c) → Held (after s k c sh (s .semaphore))
   held-same a b = record {
-    held = each (λ j z. Holding z → s .holder ≡ suc j) (s .plant .cores) k c i (λ z. x .held k (a z)) (λ j n z. x .held j z);
-    holding = each (λ j z. s .holder ≡ suc j → Holding z) (s .plant .cores) k c i (λ e. b (x .holding k e)) (λ j n e. x .holding j e);
+    held = each (λ j z. Holding z → s .semaphore .holder ≡ suc j) (s .plant .cores) k c i (λ z. x .held k (a z)) (λ j n z. x .held j z);
+    holding = each (λ j z. s .semaphore .holder ≡ suc j → Holding z) (s .plant .cores) k c i (λ e. b (x .holding k e)) (λ j n e. x .holding j e);
   }
 
-  held-freed : Holding (at s k) → (Holding c → ⊥) → Held (after s k c sh 0)
+  held-freed : Holding (at s k) → (Holding c → ⊥) → Held (after s k c sh (released (s .semaphore)))
   held-freed y a = record {
     held = each (λ j z. Holding z → 0 ≡ suc j) (s .plant .cores) k c i (λ z. absurd (a z)) (λ j n z. absurd (only s x k y j n z));
     holding = each (λ j z. 0 ≡ suc j → Holding z) (s .plant .cores) k c i (λ e. absurd (omega arith)) (λ j n e. absurd (omega arith));
@@ -133,14 +135,15 @@ module _ (k : ℕ) (s : State) (x : Held s) (c : Core) (sh : List ℕ) (i : k < 
 held-of : (t : Task) → Laws t → (k : ℕ) (s : State) → Held s → (s′ : State) (ts : List Taking) → Moves t k s s′ ts → Held s′
 unfolding readTaken readAcquired readNext byteCopied readDone readReleased writeTaken writeAcquired writeNext writeDone writeReleased
 held-of t l k s x s′ ts (rests z) = x
-held-of t l k s x s′ ts (takesRead r rs i f e d) = held-taken k s x (readTaken r (at s k)) (s .plant .shared) i f (inl refl)
+held-of t l k s x s′ ts (waits i wt b) = record { held = λ j z. x .held j z; holding = λ j e. x .holding j e }
+held-of t l k s x s′ ts (takesRead r rs i f b e d) = held-taken k s x (readTaken r (at s k)) (s .plant .shared) i f (inl refl)
 held-of t l k s x s′ ts (readsOn m ms i e d) = held-same k s x (readNext (readByte t k s) (at s k)) (s .plant .shared) i (λ z. z) (λ z. z)
 held-of t l k s x s′ ts (readsLast i e d) = held-freed k s x (readDone (readByte t k s) (at s k)) (s .plant .shared) i (inl e) (neither 2 (omega arith) (omega arith))
 held-of t l k s x s′ ts (runs i e) =
     held-same k s x (t .instruction k (at s k)) (s .plant .shared) i
     (λ z. absurd (neither (mode (t .instruction k (at s k))) (l .no-read k (at s k) e) (l .no-write k (at s k) e) z))
     (λ z. absurd (neither (mode (at s k)) (omega arith) (omega arith) z))
-held-of t l k s x s′ ts (takesWrite i f e) = held-taken k s x (writeTaken (at s k)) (s .plant .shared) i f (inr refl)
+held-of t l k s x s′ ts (takesWrite i f b e) = held-taken k s x (writeTaken (at s k)) (s .plant .shared) i f (inr refl)
 held-of t l k s x s′ ts (writesOn m ms i e d) = held-same k s x (writeNext (at s k)) (writeByte t k s) i (λ z. z) (λ z. z)
 held-of t l k s x s′ ts (writesLast i e d) = held-freed k s x (writeDone (at s k)) (writeByte t k s) i (inr e) (neither 0 (omega arith) (omega arith))
 
@@ -173,19 +176,20 @@ abbrev pub Modes : State → Type 0
 Modes s = (k : ℕ) → mode (at s k) ≤ 5
 
 module _ (t : Task) (l : Laws t) (k : ℕ) (s : State) (x : Modes s) where
-  modes-with : (c : Core) (sh : List ℕ) (h : ℕ) → k < length (s .plant .cores) → mode c ≤ 5 → Modes (after s k c sh h)
+  modes-with : (c : Core) (sh : List ℕ) (h : Semaphore) → k < length (s .plant .cores) → mode c ≤ 5 → Modes (after s k c sh h)
   modes-with c sh h i b = each (λ j z. mode z ≤ 5) (s .plant .cores) k c i b (λ j n. x j)
 
   modes-of : (s′ : State) (ts : List Taking) → Moves t k s s′ ts → Modes s′
   unfolding readTaken readAcquired readNext byteCopied readDone readReleased writeTaken writeAcquired writeNext writeDone writeReleased
   modes-of s′ ts (rests z) = x
-  modes-of s′ ts (takesRead r rs i f e d) = modes-with (readTaken r (at s k)) (s .plant .shared) (suc k) i (omega arith)
-  modes-of s′ ts (readsOn m ms i e d) = modes-with (readNext (readByte t k s) (at s k)) (s .plant .shared) (s .holder) i (x k)
-  modes-of s′ ts (readsLast i e d) = modes-with (readDone (readByte t k s) (at s k)) (s .plant .shared) 0 i (omega arith)
-  modes-of s′ ts (runs i e) = modes-with (t .instruction k (at s k)) (s .plant .shared) (s .holder) i (l .modes k (at s k) e)
-  modes-of s′ ts (takesWrite i f e) = modes-with (writeTaken (at s k)) (s .plant .shared) (suc k) i (omega arith)
-  modes-of s′ ts (writesOn m ms i e d) = modes-with (writeNext (at s k)) (writeByte t k s) (s .holder) i (x k)
-  modes-of s′ ts (writesLast i e d) = modes-with (writeDone (at s k)) (writeByte t k s) 0 i (omega arith)
+  modes-of s′ ts (waits i wt b) = x
+  modes-of s′ ts (takesRead r rs i f b e d) = modes-with (readTaken r (at s k)) (s .plant .shared) (acquiredBy k (s .semaphore)) i (omega arith)
+  modes-of s′ ts (readsOn m ms i e d) = modes-with (readNext (readByte t k s) (at s k)) (s .plant .shared) (s .semaphore) i (x k)
+  modes-of s′ ts (readsLast i e d) = modes-with (readDone (readByte t k s) (at s k)) (s .plant .shared) (released (s .semaphore)) i (omega arith)
+  modes-of s′ ts (runs i e) = modes-with (t .instruction k (at s k)) (s .plant .shared) (s .semaphore) i (l .modes k (at s k) e)
+  modes-of s′ ts (takesWrite i f b e) = modes-with (writeTaken (at s k)) (s .plant .shared) (acquiredBy k (s .semaphore)) i (omega arith)
+  modes-of s′ ts (writesOn m ms i e d) = modes-with (writeNext (at s k)) (writeByte t k s) (s .semaphore) i (x k)
+  modes-of s′ ts (writesLast i e d) = modes-with (writeDone (at s k)) (writeByte t k s) (released (s .semaphore)) i (omega arith)
 
 -- Modes stay at most 5
 pub modes-run : (t : Task) → Laws t → (ks : List ℕ) (s : State) → Modes s → Modes (run t ks s)

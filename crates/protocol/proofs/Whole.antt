@@ -13,11 +13,11 @@ use lib.ListN.{length, set, drop, length-set}
 use lib.Seq.{getD-set-same, getD-set-other, ext-getD}
 use Rattle.verdict.specs.Verdict.{pick}
 use Rattle.protocol.specs.Registers.{readAcquired, byteCopied, readReleased, writeAcquired, writeReleased}
-use Rattle.protocol.specs.State.{Core, Plant, State, Move, Sample, Task, absent, core, mode, put}
-use Rattle.protocol.specs.Step.{copy, left, readTaken, readNext, readDone, writeTaken, writeNext, writeDone, step, run, Taking, reading, writing, takingOf, takings}
+use Rattle.protocol.specs.State.{Core, Plant, Semaphore, State, Move, Sample, Task, absent, core, mode, put}
+use Rattle.protocol.specs.Step.{acquiredBy, released, joinedBy, copy, left, readTaken, readNext, readDone, writeTaken, writeNext, writeDone, step, run, Taking, reading, writing, takingOf, takings}
 use Rattle.protocol.specs.Whole.{execute, wholeOne, whole}
 use Rattle.protocol.specs.Laws.{Laws, Fresh, Still, Held}
-use Rattle.protocol.proofs.View.{after, at, readByte, writeByte, Moves, rests, takesRead, readsOn, readsLast, runs, takesWrite, writesOn, writesLast, there, view}
+use Rattle.protocol.proofs.View.{after, at, readByte, writeByte, Moves, rests, waits, takesRead, readsOn, readsLast, runs, takesWrite, writesOn, writesLast, there, view}
 use Rattle.protocol.proofs.Copy.{copy-on, copy-last}
 use Rattle.protocol.proofs.Steps.{each, only, held-step, held-fresh}
 
@@ -76,7 +76,7 @@ finish-step t l k c e b = go (ℕ-discrete (mode (t .instruction k c)) 2)
 pub record Sim (t : Task) (s : State) (w : Plant) : Type 0 where
   pub same-length : length (w .cores) ≡ length (s .plant .cores)
   pub same-core : (j : ℕ) → core w j ≡ ended t j (s .plant .shared) (at s j)
-  pub same-shared : w .shared ≡ settledBy (s .holder) t (s .plant)
+  pub same-shared : w .shared ≡ settledBy (s .semaphore .holder) t (s .plant)
   pub bounded : (j : ℕ) → mode (at s j) ≡ 2 → at s j .registers .count ≤ t .limit j
 
 -- a core that does not read does not depend on shared memory
@@ -113,7 +113,7 @@ settled-off t p k c i a b (suc h) = go (ℕ-discrete h k)
 
 module _ (t : Task) (k : ℕ) (s : State) (w : Plant) (sim : Sim t s w) where
   -- while the semaphore is free, no writing is in progress
-  pub free-shared : s .holder ≡ 0 → w .shared ≡ s .plant .shared
+  pub free-shared : s .semaphore .holder ≡ 0 → w .shared ≡ s .plant .shared
   free-shared f = sim .same-shared ∙ rw f
 
   -- what the whole-exchange machine does at a writing
@@ -124,13 +124,13 @@ module _ (t : Task) (k : ℕ) (s : State) (w : Plant) (sim : Sim t s w) where
 
 module _ (t : Task) (k : ℕ) (s : State) (w : Plant) (sim : Sim t s w) (x : Held s) where
   -- a step puts c, sh and h in place, and the whole-exchange machine goes to v
-  advance : (c : Core) (sh : List ℕ) (h : ℕ) (v : Plant) → k < length (s .plant .cores)
+  advance : (c : Core) (sh : List ℕ) (h : Semaphore) (v : Plant) → k < length (s .plant .cores)
       → ((j : ℕ) → j ≢ k → mode (at s j) ≡ 1 → s .plant .shared ≡ sh)
       → (mode c ≡ 2 → c .registers .count ≤ t .limit k)
       → length (v .cores) ≡ length (w .cores)
       → core v k ≡ ended t k sh c
       → ((j : ℕ) → j ≢ k → core v j ≡ core w j)
-      → v .shared ≡ settledBy h t (after s k c sh h .plant)
+      → v .shared ≡ settledBy (h .holder) t (after s k c sh h .plant)
       → Sim t (after s k c sh h) v
   advance c sh h v i others bound len one rest shared = record {
     same-length = len ∙ sim .same-length ∙ sym (length-set (s .plant .cores) k c);
@@ -140,94 +140,95 @@ module _ (t : Task) (k : ℕ) (s : State) (w : Plant) (sim : Sim t s w) (x : Hel
     bounded = each (λ j x. mode x ≡ 2 → x .registers .count ≤ t .limit j) (s .plant .cores) k c i bound (λ j n e. sim .bounded j e);
   }
 
-  by-takesRead : (r : Sample) (rs : List Sample) → k < length (s .plant .cores) → s .holder ≡ 0 → mode (at s k) ≡ 0
+  by-takesRead : (r : Sample) (rs : List Sample) → k < length (s .plant .cores) → s .semaphore .holder ≡ 0 → mode (at s k) ≡ 0
       → drop (at s k .registers .cycles) (t .samples k) ≡ r ∷ rs
-      → Sim t (after s k (readTaken r (at s k)) (s .plant .shared) (suc k)) (wholeOne t (reading k) w)
+      → Sim t (after s k (readTaken r (at s k)) (s .plant .shared) (acquiredBy k (s .semaphore))) (wholeOne t (reading k) w)
   unfolding wholeOne readTaken readAcquired readDone readReleased pick
   by-takesRead r rs i f e d =
       let q : core w k ≡ at s k = sim .same-core k ∙ rw e in
       let c : Core = readTaken r (at s k) in
       let v : Plant = put w k (execute t (suc (t .limit k)) k (readDone (copy (t .reads k) (w .shared) (c .memory)) c)) in
       let eq : wholeOne t (reading k) w ≡ v = rw (q, e, d) in
-      rw eq (advance c (s .plant .shared) (suc k) v i (λ j n y. refl) (omega arith) (length-set (w .cores) k _)
+      rw eq (advance c (s .plant .shared) (acquiredBy k (s .semaphore)) v i (λ j n y. refl) (omega arith) (length-set (w .cores) k _)
       (getD-set-same (w .cores) k _ absent (rw (sim .same-length) i) ∙ rw (free-shared t k s w sim f, sub-zero))
       (λ j n. getD-set-other (w .cores) k j _ absent n)
       (free-shared t k s w sim f ∙ rw (there s k c i)))
 
   by-readsOn : (m : Move) (ms : List Move) → k < length (s .plant .cores) → mode (at s k) ≡ 1 → drop 1 (left (at s k) (t .reads k)) ≡ m ∷ ms
-      → Sim t (after s k (readNext (readByte t k s) (at s k)) (s .plant .shared) (s .holder)) w
+      → Sim t (after s k (readNext (readByte t k s) (at s k)) (s .plant .shared) (s .semaphore)) w
   unfolding readNext byteCopied readDone readReleased pick
   by-readsOn m ms i e d =
       let c : Core = readNext (readByte t k s) (at s k) in
-      let h : s .holder ≡ suc k = x .held k (inl e) in
-      advance c (s .plant .shared) (s .holder) w i (λ j n y. refl) (omega arith) refl
+      let h : s .semaphore .holder ≡ suc k = x .held k (inl e) in
+      advance c (s .plant .shared) (s .semaphore) w i (λ j n y. refl) (omega arith) refl
       (sim .same-core k
       ∙ rw e (ap (λ (d : List ℕ). finish t k (readDone d (at s k))) (copy-on (at s k .registers .exchange) (t .reads k) (s .plant .shared) (at s k .memory))))
       (λ j n. refl)
       (sim .same-shared ∙ rw (h, there s k c i, e))
 
   by-readsLast : k < length (s .plant .cores) → mode (at s k) ≡ 1 → drop 1 (left (at s k) (t .reads k)) ≡ []
-      → Sim t (after s k (readDone (readByte t k s) (at s k)) (s .plant .shared) 0) w
+      → Sim t (after s k (readDone (readByte t k s) (at s k)) (s .plant .shared) (released (s .semaphore))) w
   unfolding readDone readReleased pick
   by-readsLast i e d =
       let c : Core = readDone (readByte t k s) (at s k) in
-      let h : s .holder ≡ suc k = x .held k (inl e) in
-      advance c (s .plant .shared) 0 w i (λ j n y. refl) (omega arith) refl
+      let h : s .semaphore .holder ≡ suc k = x .held k (inl e) in
+      advance c (s .plant .shared) (released (s .semaphore)) w i (λ j n y. refl) (omega arith) refl
       (sim .same-core k
       ∙ rw e (ap (λ (d : List ℕ). finish t k (readDone d (at s k))) (copy-last (left (at s k) (t .reads k)) (s .plant .shared) (at s k .memory) d)))
       (λ j n. refl)
       (sim .same-shared ∙ rw (h, e))
 
-  by-runs : Laws t → k < length (s .plant .cores) → mode (at s k) ≡ 2 → Sim t (after s k (t .instruction k (at s k)) (s .plant .shared) (s .holder)) w
+  by-runs : Laws t → k < length (s .plant .cores) → mode (at s k) ≡ 2 → Sim t (after s k (t .instruction k (at s k)) (s .plant .shared) (s .semaphore)) w
   by-runs l i e =
       let c : Core = t .instruction k (at s k) in
-      advance c (s .plant .shared) (s .holder) w i (λ j n y. refl) (λ g. omega (arith, sim .bounded k e, l .limited k (at s k) e g, l .counted k (at s k) e g)) refl
+      advance c (s .plant .shared) (s .semaphore) w i (λ j n y. refl) (λ g. omega (arith, sim .bounded k e, l .limited k (at s k) e g, l .counted k (at s k) e g)) refl
       (sim .same-core k
       ∙ rw e (sym (ended-finish t k (s .plant .shared) c (mode c) refl (l .no-read k (at s k) e) (l .no-write k (at s k) e)
       ∙ finish-step t l k (at s k) e (sim .bounded k e))))
       (λ j n. refl)
-      (sim .same-shared ∙ settled-off t (s .plant) k c i (omega arith) (l .no-write k (at s k) e) (s .holder))
+      (sim .same-shared ∙ settled-off t (s .plant) k c i (omega arith) (l .no-write k (at s k) e) (s .semaphore .holder))
 
-  by-takesWrite : k < length (s .plant .cores) → s .holder ≡ 0 → mode (at s k) ≡ 3
-      → Sim t (after s k (writeTaken (at s k)) (s .plant .shared) (suc k)) (wholeOne t (writing k) w)
+  by-takesWrite : k < length (s .plant .cores) → s .semaphore .holder ≡ 0 → mode (at s k) ≡ 3
+      → Sim t (after s k (writeTaken (at s k)) (s .plant .shared) (acquiredBy k (s .semaphore))) (wholeOne t (writing k) w)
   unfolding writeTaken writeAcquired writeDone writeReleased pick
   by-takesWrite i f e =
       let c : Core = writeTaken (at s k) in
       let v : Plant = record { cores = set (w .cores) k (writeDone (at s k)); shared = copy (t .writes k) (at s k .memory) (w .shared) } in
-      rw (whole-write t k s w sim e) (advance c (s .plant .shared) (suc k) v i (λ j n y. refl) (omega arith) (length-set (w .cores) k _)
+      rw (whole-write t k s w sim e) (advance c (s .plant .shared) (acquiredBy k (s .semaphore)) v i (λ j n y. refl) (omega arith) (length-set (w .cores) k _)
       (getD-set-same (w .cores) k _ absent (rw (sim .same-length) i))
       (λ j n. getD-set-other (w .cores) k j _ absent n)
       (rw (there s k c i, free-shared t k s w sim f)))
 
   by-writesOn : (m : Move) (ms : List Move) → k < length (s .plant .cores) → mode (at s k) ≡ 4 → drop 1 (left (at s k) (t .writes k)) ≡ m ∷ ms
-      → Sim t (after s k (writeNext (at s k)) (writeByte t k s) (s .holder)) w
+      → Sim t (after s k (writeNext (at s k)) (writeByte t k s) (s .semaphore)) w
   unfolding writeNext byteCopied writeDone writeReleased pick
   by-writesOn m ms i e d =
       let c : Core = writeNext (at s k) in
-      let h : s .holder ≡ suc k = x .held k (inr e) in
-      advance c (writeByte t k s) (s .holder) w i (λ j n y. absurd (only s x k (inr e) j n (inl y))) (omega arith) refl
+      let h : s .semaphore .holder ≡ suc k = x .held k (inr e) in
+      advance c (writeByte t k s) (s .semaphore) w i (λ j n y. absurd (only s x k (inr e) j n (inl y))) (omega arith) refl
       (sim .same-core k ∙ rw e)
       (λ j n. refl)
       (sim .same-shared ∙ rw (h, there s k c i, e) (copy-on (at s k .registers .exchange) (t .writes k) (at s k .memory) (s .plant .shared)))
 
   by-writesLast : k < length (s .plant .cores) → mode (at s k) ≡ 4 → drop 1 (left (at s k) (t .writes k)) ≡ []
-      → Sim t (after s k (writeDone (at s k)) (writeByte t k s) 0) w
+      → Sim t (after s k (writeDone (at s k)) (writeByte t k s) (released (s .semaphore))) w
   unfolding writeDone writeReleased pick
   by-writesLast i e d =
       let c : Core = writeDone (at s k) in
-      let h : s .holder ≡ suc k = x .held k (inr e) in
-      advance c (writeByte t k s) 0 w i (λ j n y. absurd (only s x k (inr e) j n (inl y))) (omega arith) refl
+      let h : s .semaphore .holder ≡ suc k = x .held k (inr e) in
+      advance c (writeByte t k s) (released (s .semaphore)) w i (λ j n y. absurd (only s x k (inr e) j n (inl y))) (omega arith) refl
       (sim .same-core k ∙ rw e)
       (λ j n. refl)
       (sim .same-shared ∙ rw (h, e) (copy-last (left (at s k) (t .writes k)) (at s k .memory) (s .plant .shared) d))
 
   sim-of : Laws t → (s′ : State) (ts : List Taking) → Moves t k s s′ ts → Sim t s′ (whole t ts w)
   sim-of l s′ ts (rests z) = sim
-  sim-of l s′ ts (takesRead r rs i f e d) = by-takesRead r rs i f e d
+  sim-of l s′ ts (waits i wt b) = record { same-length = sim .same-length; same-core = sim .same-core; same-shared = sim .same-shared; bounded = sim .bounded }
+  sim-of l s′ ts (takesRead r rs i f b e d) = by-takesRead r rs i f e d
   sim-of l s′ ts (readsOn m ms i e d) = by-readsOn m ms i e d
   sim-of l s′ ts (readsLast i e d) = by-readsLast i e d
   sim-of l s′ ts (runs i e) = by-runs l i e
-  sim-of l s′ ts (takesWrite i f e) = by-takesWrite i f e
+  sim-of l s′ ts (takesWrite i f b e) = by-takesWrite i f e
   sim-of l s′ ts (writesOn m ms i e d) = by-writesOn m ms i e d
   sim-of l s′ ts (writesLast i e d) = by-writesLast i e d
 
@@ -256,7 +257,7 @@ pub sim-still : (t : Task) (s : State) (w : Plant) → Sim t s w → ((k : ℕ) 
 sim-still t s w sim b =
     let p : s .plant .cores ≡ w .cores
     = ext-getD absent (s .plant .cores) (w .cores) (sym (sim .same-length)) (λ j h. sym (sim .same-core j ∙ ended-still t j (s .plant .shared) (at s j) (b j))) in
-    let q : s .plant .shared ≡ w .shared = sym (sim .same-shared ∙ settled-still t s b (s .holder)) in
+    let q : s .plant .shared ≡ w .shared = sym (sim .same-shared ∙ settled-still t s b (s .semaphore .holder)) in
     λ i. record { cores = p i; shared = q i }
 
 pub between-still : (c : Core) → (mode c ≡ 0) ⊎ (mode c ≡ 5) → Still c
@@ -268,7 +269,7 @@ pub sim-at-rest : (t : Task) (s : State) → ((k : ℕ) → Still (at s k)) → 
 sim-at-rest t s still = record {
   same-length = refl;
   same-core = λ j. sym (ended-still t j (s .plant .shared) (at s j) (still j));
-  same-shared = sym (settled-still t s still (s .holder));
+  same-shared = sym (settled-still t s still (s .semaphore .holder));
   bounded = λ j e. absurd (still j .1 e);
 }
 

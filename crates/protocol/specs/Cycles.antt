@@ -115,6 +115,6 @@ howOften k (j ∷ ks) = pick (eqb k j) (suc (howOften k ks)) (howOften k ks)
 pub record Serial (t : Task) (s : State) (ks : List ℕ) : Type 0 where
   pub order : List ℕ
   pub ends : run t ks s .plant ≡ cycles t order (s .plant)
-  pub free : run t ks s .holder ≡ 0
+  pub free : run t ks s .semaphore .holder ≡ 0
   pub real : EachRuns t order (s .plant)
   pub all : (k : ℕ) → howOften k order ≡ howOften k (begun (takings t ks s))

@@ -1,6 +1,7 @@
 -- What the result on interleaving asks of an instruction and of a start state; and names for what a core has left to do.
 use mathlib.Core.Path.{_≡_}
 use mathlib.Core.Logic.{_≢_, _⊎_}
+use mathlib.Core.List.{[]}
 use Prim.Native.Nat.{ℕ, suc, _+_, _≤_}
 use lib.ListN.{length}
 use Rattle.protocol.specs.State.{Core, State, Task, core, mode}
@@ -22,8 +23,9 @@ abbrev pub Between : State → Type 0
 Between s = (k : ℕ) → (mode (core (s .plant) k) ≡ 0) ⊎ (mode (core (s .plant) k) ≡ 5)
 
 pub record Fresh (s : State) : Type 0 where
-  pub free : s .holder ≡ 0
+  pub free : s .semaphore .holder ≡ 0
   pub between : Between s
+  pub empty : s .semaphore .line ≡ []
 
 -- Nothing is left to do: no exchange, no execution
 abbrev pub Still : Core → Type 0
@@ -35,5 +37,5 @@ Holding c = (mode c ≡ 1) ⊎ (mode c ≡ 4)
 
 -- The semaphore: a core in an exchange holds it, and a holder is in an exchange; so at most one core is
 pub record Held (s : State) : Type 0 where
-  pub held : (k : ℕ) → Holding (core (s .plant) k) → s .holder ≡ suc k
-  pub holding : (k : ℕ) → s .holder ≡ suc k → Holding (core (s .plant) k)
+  pub held : (k : ℕ) → Holding (core (s .plant) k) → s .semaphore .holder ≡ suc k
+  pub holding : (k : ℕ) → s .semaphore .holder ≡ suc k → Holding (core (s .plant) k)

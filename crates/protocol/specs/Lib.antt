@@ -9,3 +9,4 @@ pub mod Laws
 pub mod Fresh
 pub mod Interleaving
 pub mod Cycles
+pub mod Fair

@@ -18,10 +18,14 @@ pub record Plant : Type 0 where
   pub cores : List Core
   pub shared : List ℕ
 
--- holder: 0 where the semaphore is free, k + 1 where core k holds it
+-- holder: 0 where the semaphore is free, k + 1 where core k holds it; line: the cores that wait for it, the first one first
+pub record Semaphore : Type 0 where
+  pub holder : ℕ
+  pub line : List ℕ
+
 pub record State : Type 0 where
   pub plant : Plant
-  pub holder : ℕ
+  pub semaphore : Semaphore
 
 -- registers that are all 0, in a mode
 abbrev pub cleared : ℕ → ℕ → Registers

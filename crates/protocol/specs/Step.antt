@@ -1,4 +1,6 @@
--- Document 01, "One step of a core": the machine that moves one core by one step, over any instruction; runs and their takings.
+-- Document 01, "One step of a core": the machine that moves one core by one step, over any instruction, with the line of document 02, 2.4; runs and their
+-- takings.
+use mathlib.Core.Bool.{Bool, true, false}
 use mathlib.Core.List.{List, [], _∷_, _++_, map}
 use Prim.Native.Nat.{ℕ, zero, suc, _+_}
 use lib.Dec.{eqb}
@@ -6,7 +8,7 @@ use lib.ListN.{getD, set, take, drop}
 use Rattle.verdict.specs.Verdict.{pick, both}
 use Rattle.memory.specs.Memory.{splice}
 use Rattle.protocol.specs.Registers.{readAcquired, byteCopied, readReleased, writeAcquired, writeReleased}
-use Rattle.protocol.specs.State.{Core, State, Move, Sample, Task, core, mode, put}
+use Rattle.protocol.specs.State.{Core, Semaphore, State, Move, Sample, Task, core, mode, put}
 
 -- ---- exchanges
 
@@ -43,35 +45,69 @@ writeNext c = record { registers = byteCopied (c .registers); stack = c .stack; 
 unfoldable pub writeDone : Core → Core
 writeDone c = record { registers = writeReleased (c .registers); stack = c .stack; memory = c .memory }
 
+-- ---- the semaphore and its line
+
+-- core k stands in the line
+abbrev pub inLine : ℕ → List ℕ → Bool
+inLine k [] = false
+inLine k (x ∷ xs) = pick (eqb x k) true (inLine k xs)
+
+-- the line that core k has joined: at its end, once
+abbrev pub joined : ℕ → List ℕ → List ℕ
+joined k xs = pick (inLine k xs) xs (xs ++ (k ∷ []))
+
+-- core k may take the semaphore: it is free, and the line is empty or k is the first in it
+abbrev pub turnIn : ℕ → List ℕ → ℕ → Bool
+turnIn zero [] k = true
+turnIn zero (x ∷ xs) k = eqb x k
+turnIn (suc h) xs k = false
+
+abbrev pub turn : Semaphore → ℕ → Bool
+turn m k = turnIn (m .holder) (m .line) k
+
+-- taken by core k in its turn, which leaves the line by that; released, the line kept; with core k in line
+abbrev pub acquiredBy : ℕ → Semaphore → Semaphore
+acquiredBy k m = record { holder = suc k; line = drop 1 (m .line) }
+
+abbrev pub released : Semaphore → Semaphore
+released m = record { holder = 0; line = m .line }
+
+abbrev pub joinedBy : ℕ → Semaphore → Semaphore
+joinedBy k m = record { holder = m .holder; line = joined k (m .line) }
+
+-- a step of core k that waits for the semaphore: it joins the line, and changes nothing if it stands there
+abbrev pub wait : ℕ → State → State
+wait k s = record { plant = s .plant; semaphore = joinedBy k (s .semaphore) }
+
 -- ---- one step of core k, which is c, in state s
 
--- mode 0: nothing, if the input records that are left are none or the semaphore is held; else take it
-abbrev pub takeRead : List Sample → ℕ → ℕ → Core → State → State
-takeRead [] holder k c s = s
-takeRead (r ∷ rs) zero k c s = record { plant = put (s .plant) k (readTaken r c); holder = suc k }
-takeRead (r ∷ rs) (suc h) k c s = s
+-- mode 0: nothing, if no input records are left; else take the semaphore in core k's turn, and wait out of it
+abbrev pub takeRead : List Sample → Bool → ℕ → Core → State → State
+takeRead [] b k c s = s
+takeRead (r ∷ rs) true k c s = record { plant = put (s .plant) k (readTaken r c); semaphore = acquiredBy k (s .semaphore) }
+takeRead (r ∷ rs) false k c s = wait k s
 
 -- mode 1: d is the data with this step's byte; where no bytes are left after it, release
 abbrev pub readOn : List Move → List ℕ → ℕ → Core → State → State
-readOn [] d k c s = record { plant = put (s .plant) k (readDone d c); holder = 0 }
-readOn (m ∷ ms) d k c s = record { plant = put (s .plant) k (readNext d c); holder = s .holder }
+readOn [] d k c s = record { plant = put (s .plant) k (readDone d c); semaphore = released (s .semaphore) }
+readOn (m ∷ ms) d k c s = record { plant = put (s .plant) k (readNext d c); semaphore = s .semaphore }
 
--- mode 3: nothing, if the semaphore is held; else take it
-abbrev pub takeWrite : ℕ → ℕ → Core → State → State
-takeWrite zero k c s = record { plant = put (s .plant) k (writeTaken c); holder = suc k }
-takeWrite (suc h) k c s = s
+-- mode 3: take the semaphore in core k's turn, and wait out of it
+abbrev pub takeWrite : Bool → ℕ → Core → State → State
+takeWrite true k c s = record { plant = put (s .plant) k (writeTaken c); semaphore = acquiredBy k (s .semaphore) }
+takeWrite false k c s = wait k s
 
 -- mode 4: sh is shared memory with this step's byte; where no bytes are left after it, release
 abbrev pub writeOn : List Move → List ℕ → ℕ → Core → State → State
-writeOn [] sh k c s = record { plant = record { cores = set (s .plant .cores) k (writeDone c); shared = sh }; holder = 0 }
-writeOn (m ∷ ms) sh k c s = record { plant = record { cores = set (s .plant .cores) k (writeNext c); shared = sh }; holder = s .holder }
+writeOn [] sh k c s = record { plant = record { cores = set (s .plant .cores) k (writeDone c); shared = sh }; semaphore = released (s .semaphore) }
+writeOn (m ∷ ms) sh k c s = record { plant = record { cores = set (s .plant .cores) k (writeNext c); shared = sh }; semaphore = s .semaphore }
 
 -- by the mode
 abbrev pub stepIn : ℕ → Task → ℕ → Core → State → State
-stepIn zero t k c s = takeRead (drop (c .registers .cycles) (t .samples k)) (s .holder) k c s
+stepIn zero t k c s = takeRead (drop (c .registers .cycles) (t .samples k)) (turn (s .semaphore) k) k c s
 stepIn (suc zero) t k c s = readOn (drop 1 (left c (t .reads k))) (copy (take 1 (left c (t .reads k))) (s .plant .shared) (c .memory)) k c s
-stepIn (suc (suc zero)) t k c s = record { plant = put (s .plant) k (t .instruction k c); holder = s .holder }
-stepIn (suc (suc (suc zero))) t k c s = takeWrite (s .holder) k c s
+stepIn (suc (suc zero)) t k c s = record { plant = put (s .plant) k (t .instruction k c); semaphore = s .semaphore }
+stepIn (suc (suc (suc zero))) t k c s = takeWrite (turn (s .semaphore) k) k c s
 stepIn (suc (suc (suc (suc zero)))) t k c s = writeOn (drop 1 (left c (t .writes k))) (copy (take 1 (left c (t .writes k))) (c .memory) (s .plant .shared)) k c s
 stepIn (suc (suc (suc (suc (suc m))))) t k c s = s
 
