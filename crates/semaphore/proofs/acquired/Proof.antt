@@ -1,0 +1,46 @@
+-- `semaphore::acquired` meets its contract. Assumes nothing.
+use mathlib.Core.Path.{refl, _∙_}
+use mathlib.Core.Logic.{⊎-elim}
+use native.Mathlib.Numerals.{add-one}
+use native.Mathlib.Omega.{arith}
+use Rattle.semaphore.proofs.Laws.{acquired-is}
+use borrow.Author.Needs.{needs}
+use Rattle.semaphore.proofs.acquired.Statement.{statement}
+use Rattle.semaphore.proofs.acquired.Tie as tie
+
+sub-waiting : tie.Need-sub-waiting
+sub-waiting c = search needs
+
+cast-t8 : tie.Need-cast-t8
+cast-t8 c = search needs
+
+add-t9 : tie.Need-add-t9
+add-t9 c = search needs
+
+element-copy-out-t12 : tie.Need-element-copy-out-t12
+element-copy-out-t12 c = search needs
+
+element-copy-out-t15 : tie.Need-element-copy-out-t15
+element-copy-out-t15 c = search needs
+
+element-copy-out-t18 : tie.Need-element-copy-out-t18
+element-copy-out-t18 c = search needs
+
+array-write-standing : tie.Need-array-write-standing
+array-write-standing c = search needs
+
+returns : tie.Need-returns
+returns c = acquired-is (c .before .before .before .before .before .before .pre .0) _ (c .before .before .before .before .before .before .pre .1) (c .before .before .before .before .before .before .pre .2) (c .before .before .before .before .before .before .pre .3) (add-one _) (⊎-elim (λ w. w .1) (λ w. omega (arith, w .0, w .1)) (c .before .before .before .before .if1 .came)) refl refl
+
+pub acquired-spec : {M : Type 1} → statement M
+acquired-spec =
+    tie.close
+    (tie.spec
+    sub-waiting
+    cast-t8
+    add-t9
+    element-copy-out-t12
+    element-copy-out-t15
+    element-copy-out-t18
+    array-write-standing
+    returns)

@@ -1,0 +1,64 @@
+-- `semaphore::in_line` meets its contract: what is left of the line from entry i on says the same as the line. Assumes nothing.
+use mathlib.Core.Path.{_≡_, refl, sym, ap, _∙_}
+use Prim.Native.Nat.{_-_, _≤_}
+use native.Mathlib.Omega.{arith}
+use borrow.Author.Needs.{needs}
+use borrow.Author.Tests.{eq-eqb, ne-eqb}
+use lib.ListN.{length, drop}
+use Rattle.verdict.specs.Verdict.{pick}
+use Rattle.protocol.specs.Step.{inLine}
+use Rattle.semaphore.specs.Line.{semaphoreOf}
+use Rattle.semaphore.proofs.Laws.{line-end, line-past, line-entry}
+use Rattle.semaphore.proofs.in_line.Statement.{statement}
+use Rattle.semaphore.proofs.in_line.Tie as tie
+
+abbrev Inv-loop : tie.InvT-loop
+Inv-loop from k m i₀ i = inLine k (drop from (semaphoreOf m .line)) ≡ inLine k (drop i (semaphoreOf m .line))
+
+abbrev μ-loop : tie.MeasureT-loop
+μ-loop from k m i₀ i = 4 - i
+
+loop-holds : tie.Need-loop-holds Inv-loop μ-loop
+loop-holds c = refl
+
+cast-if1 : tie.Need-cast-if1 Inv-loop μ-loop
+cast-if1 c = search needs
+
+returns : tie.Need-returns Inv-loop μ-loop
+returns c = sym (c .before .before .loop .inv ∙ rw (line-end (c .before .before .before .args .t1 .line) (c .before .before .before .args .t1 .waiting) (c .before .before .loop .i) (c .if1 .taken)))
+
+element-copy-out-if2 : tie.Need-element-copy-out-if2 Inv-loop μ-loop
+element-copy-out-if2 c = search needs
+
+returns-2 : tie.Need-returns-2 Inv-loop μ-loop
+unfolding pick
+returns-2 c = (let n : length (c .before .before .before .before .before .args .t1 .line) ≡ 4 = search needs in sym (c .before .before .before .before .loop .inv ∙ rw (line-entry (c .before .before .before .before .before .args .t1 .line) (c .before .before .before .before .before .args .t1 .waiting) (c .before .before .before .before .loop .i) (omega (arith, c .before .before .if1 .left)) (omega (arith, n, c .before .before .before .loop-test .taken)), eq-eqb _ _ (c .if2 .taken))))
+
+add-i : tie.Need-add-i Inv-loop μ-loop
+add-i c = search needs
+
+loop-less : tie.Need-loop-less Inv-loop μ-loop
+loop-less c = search needs
+
+loop-again : tie.Need-loop-again Inv-loop μ-loop
+unfolding pick
+loop-again c = (let n : length (c .before .before .before .before .before .args .t1 .line) ≡ 4 = search needs in c .before .before .before .before .loop .inv ∙ rw (line-entry (c .before .before .before .before .before .args .t1 .line) (c .before .before .before .before .before .args .t1 .waiting) (c .before .before .before .before .loop .i) (omega (arith, c .before .before .if1 .left)) (omega (arith, n, c .before .before .before .loop-test .taken)), ne-eqb _ _ (c .if2 .left)))
+
+returns-3 : tie.Need-returns-3 Inv-loop μ-loop
+returns-3 c = (let n : length (c .before .before .args .t1 .line) ≡ 4 = search needs in sym (c .before .loop .inv ∙ rw (line-past (c .before .before .args .t1 .line) (c .before .before .args .t1 .waiting) (c .before .loop .i) (omega (arith, n, c .loop-test .left)))))
+
+pub in-line-spec : {M : Type 1} → statement M
+in-line-spec =
+    tie.close
+    (tie.spec
+    Inv-loop
+    μ-loop
+    loop-holds
+    cast-if1
+    returns
+    element-copy-out-if2
+    returns-2
+    add-i
+    loop-less
+    loop-again
+    returns-3)
