@@ -1,12 +1,13 @@
 -- `fit-exactly`: the test of refusal 23 holds exactly of the states that are fit. In order: what the test of a core says; a core's stack
 -- and data in the caller's arrays; one core, from its rules and back; the state. Assumes nothing.
 use mathlib.Core.Path.{_≡_, refl, sym, ap, _∙_, subst}
-use mathlib.Core.Logic.{_⊎_, inl, inr, ⊎-elim}
+use mathlib.Core.Logic.{_≢_, _⊎_, inl, inr, ⊎-elim}
 use mathlib.Core.Bool.{Bool, true, false}
 use mathlib.Core.List.{List, []}
 use Prim.Native.Nat.{ℕ, zero, suc, _+_, _*_, _≤_, _<_}
 use native.Mathlib.Numerals.{add-one}
 use native.Mathlib.Omega.{arith}
+use lib.Dec.{T}
 use lib.ListN.{length, getD, take, drop, length-take, length-drop, List·getD-eq-default}
 use lib.Seq.{getD-take, getD-drop, length-take-le}
 use Rattle.verdict.specs.Verdict.{pick}
@@ -18,7 +19,10 @@ use Rattle.code.specs.Code.{isStart}
 use Rattle.protocol.specs.declared.Registers.{Registers}
 use Rattle.protocol.specs.State.{Core, State as Whole, absent, core}
 use Rattle.protocol.specs.Variables.{readsOf, writesOf}
+use Rattle.protocol.specs.Step.{inLine}
 use Rattle.protocol.specs.Laws.{Holding}
+use Rattle.protocol.specs.Fair.{Once, FitLine}
+use Rattle.semaphore.specs.Line.{semaphoreOf}
 use Rattle.processor.specs.Placed.{Placed}
 use Rattle.records.specs.File.{cores, dataSize, limit}
 use Rattle.taskset.specs.Judge.{codeOf}
@@ -26,11 +30,13 @@ use Rattle.taskset.specs.Task.{sizesOf, variablesOf}
 use Rattle.taskset.specs.Trace.{recordCount}
 use Rattle.taskset.proofs.Accepted.{length-listed, listed-at}
 use Rattle.states.specs.declared.State.{State}
+use Rattle.states.specs.Task.{taskOf}
 use Rattle.states.specs.Machine.{none, coreIn, stateIn, stateOf, Sized}
 use Rattle.states.specs.Set.{Set}
-use Rattle.states.specs.Fit.{entry, placesFit, offsetsFit, depthFit, exchangeFit, cyclesFit, holderFit, freedFit, executionFit, exchangesFit, coreFit, fitAt, stateFit, stateRefusal, FitCore, Fit}
+use Rattle.states.specs.Fit.{entry, placesFit, offsetsFit, depthFit, exchangeFit, cyclesFit, holderFit, freedFit, executionFit, exchangesFit, coreFit, fitAt, lineFit, stateFit, stateRefusal, FitCore, Fit}
 use Rattle.states.proofs.Tables.{listed-none}
 use Rattle.states.proofs.Says.{Says, known, says-itself, says-less, says-most, says-equal, says-both, says-within, says-either, says-pick, says-agree, says-upto}
+use Rattle.states.proofs.Line.{records-left, left-records, Stands, says-line}
 use Rattle.states.proofs.Fresh.{sizes-length, sizes-at}
 
 -- ---- what the test of a core says, rule by rule
@@ -269,9 +275,36 @@ module _ (f t : List ℕ) (ok : Set f t) (h : State) (d sh : List ℕ) (z : Size
       go (inl i) = i
       go (inr n) = absurd (none-holds (subst Holding (core-none k (omega arith)) x))
 
-  fit-whole : h .semaphore .holder ≤ cores f → ((k : ℕ) → k < cores f → Kept k) → Fit f t whole
+  -- the line of the state, and who stands in it
+  abbrev InLine : Type 0
+  InLine = Once (semaphoreOf (h .semaphore) .line) × ((j : ℕ) → T (inLine j (semaphoreOf (h .semaphore) .line)) → Stands f t h j)
+
+  line-of : InLine → FitLine (taskOf f t) whole
   unfolding stateIn
-  fit-whole few x = record {
+  line-of y = record {
+    once = y .0;
+    below = λ j g. rw (length-listed mine (cores f) 0) (y .1 j g .0);
+    modes = λ j g. subst (λ (c : Core). (c .registers .mode ≡ 0) ⊎ (c .registers .mode ≡ 3)) (sym (core-of j (y .1 j g .0))) (y .1 j g .1 .0);
+    records = λ j g. subst (λ (c : Core). drop (c .registers .cycles) (taskOf f t .samples j) ≢ []) (sym (core-of j (y .1 j g .0))) (records-left f t j _ (y .1 j g .1 .1));
+  }
+
+  of-line : FitLine (taskOf f t) whole → InLine
+  unfolding stateIn
+  of-line y = (
+    y .once,
+    λ j g.
+        let i : j < cores f = rw (length-listed mine (cores f) 0) at (y .below j g) in (
+          i,
+          (
+            subst (λ (c : Core). (c .registers .mode ≡ 0) ⊎ (c .registers .mode ≡ 3)) (core-of j i) (y .modes j g),
+            left-records f t j _ (subst (λ (c : Core). drop (c .registers .cycles) (taskOf f t .samples j) ≢ []) (core-of j i) (y .records j g)),
+          ),
+        ),
+  )
+
+  fit-whole : h .semaphore .holder ≤ cores f → ((k : ℕ) → k < cores f → Kept k) → InLine → Fit f t whole
+  unfolding stateIn
+  fit-whole few x y = record {
     table = length-listed mine (cores f) 0;
     each = λ k i. subst (FitCore f t k) (sym (core-of k i)) (fit-core k i (x k i));
     held = record {
@@ -282,6 +315,7 @@ module _ (f t : List ℕ) (ok : Set f t) (h : State) (d sh : List ℕ) (z : Size
           let i : k < cores f = omega arith in
           subst Holding (sym (core-of k i)) (x k i .holds .1 (e ∙ sym (add-one k)));
     };
+    line = line-of y;
     shared = z .shared;
   }
 
@@ -301,22 +335,23 @@ module _ (f t : List ℕ) (ok : Set f t) (h : State) (d sh : List ℕ) (z : Size
         (λ e. subst Holding (core-of k i) (x .held .holding k (e ∙ add-one k))),
       )
 
-  -- The test of a caller's state holds exactly if its table has n records and the state is fit
-  pub fit-exactly : Says (stateFit f t h) ((h .count ≡ cores f) × Fit f t whole)
-  unfolding stateFit fitAt
+  -- The test of a caller's state holds exactly if its table has n records, its line at most four entries, and the state is fit
+  pub fit-exactly : Says (stateFit f t h) (((h .count ≡ cores f) × (h .semaphore .waiting ≤ 4)) × Fit f t whole)
+  unfolding stateFit fitAt lineFit
   fit-exactly =
       let all = says-both (says-equal (h .count) (cores f)) (says-both (says-most (h .semaphore .holder) (cores f))
-      (says-upto (fitAt f t h) Kept (cores f) (λ k i. says-rules f t (h .semaphore .holder) k _ _ _))) in
+      (says-both (says-upto (fitAt f t h) Kept (cores f) (λ k i. says-rules f t (h .semaphore .holder) k _ _ _))
+      (says-both (says-most (h .semaphore .waiting) 4) (says-line f t h (semaphoreOf (h .semaphore) .line))))) in
       record {
-        tested = λ e. let x = all .tested e in (x .0, fit-whole (x .1 .0) (x .1 .1));
-        holds = λ x. all .holds (x .0, (whole-holder (x .1), whole-kept (x .1)));
+        tested = λ e. let x = all .tested e in ((x .0, x .1 .1 .1 .0), fit-whole (x .1 .0) (x .1 .1 .0) (x .1 .1 .1 .1));
+        holds = λ x. all .holds (x .0 .0, (whole-holder (x .1), (whole-kept (x .1), (x .0 .1, of-line (x .1 .line)))));
       }
 
   -- the same of the refusal: none exactly of a fit state
-  pub not-refused : (h .count ≡ cores f) × Fit f t whole → stateRefusal f t h ≡ 0
+  pub not-refused : ((h .count ≡ cores f) × (h .semaphore .waiting ≤ 4)) × Fit f t whole → stateRefusal f t h ≡ 0
   unfolding stateRefusal
   not-refused x = yes _ 23 (fit-exactly .holds x)
 
-  pub fit-accepted : stateRefusal f t h ≡ 0 → (h .count ≡ cores f) × Fit f t whole
+  pub fit-accepted : stateRefusal f t h ≡ 0 → ((h .count ≡ cores f) × (h .semaphore .waiting ≤ 4)) × Fit f t whole
   unfolding stateRefusal
   fit-accepted e = fit-exactly .tested (unless-zero _ 22 e)

@@ -65,5 +65,6 @@ fresh-fit f t ok = record {
     held = λ k h. absurd (still (fresh-is (sizesOf f) .between k) h);
     holding = λ k e. absurd (let y : ⊥ = omega arith in y);
   };
+  line = record { once = tt; below = λ j h. absurd h; modes = λ j h. absurd h; records = λ j h. absurd h };
   shared = length-replicate {A = ℕ} 1024 0;
 }

@@ -1,4 +1,4 @@
--- Every step of a core keeps a state fit. In order: the flag byte; an instruction; the eight cases of a step.
+-- Every step of a core keeps a state fit. In order: the flag byte; an instruction; the nine cases of a step.
 -- Assumes nothing.
 use mathlib.Core.Path.{_≡_, refl, ap, _∙_}
 use mathlib.Core.Logic.{_≢_, _⊎_, inl, inr}
@@ -17,12 +17,14 @@ use Rattle.protocol.specs.declared.Stack.{Stack}
 use Rattle.protocol.specs.declared.Outcome.{Outcome}
 use Rattle.protocol.specs.declared.Outcome.the-variants.{Fault, Next, Call, Return}
 use Rattle.protocol.specs.Registers.{withFlag, warm, readAcquired, byteCopied, readReleased, writeAcquired, writeReleased, advanced, called, returned, cycleEnded, faulted}
-use Rattle.protocol.specs.State.{Core, State, Task, Move, Sample, mode}
-use Rattle.protocol.specs.Step.{left, readTaken, readNext, readDone, writeTaken, writeNext, writeDone, step, Taking, takingOf}
+use Rattle.protocol.specs.State.{Core, Semaphore, State, Task, Move, Sample, mode}
+use Rattle.protocol.specs.Step.{acquiredBy, released, left, readTaken, readNext, readDone, writeTaken, writeNext, writeDone, step, Taking, takingOf}
 use Rattle.protocol.specs.Instruction.{Executed, backFrom, appliedBy, applied, halted, limited, instructionBy}
 use Rattle.protocol.specs.Variables.{readsOf, writesOf}
 use Rattle.protocol.specs.Laws.{Laws, Held}
-use Rattle.protocol.proofs.View.{after, at, readByte, writeByte, Moves, rests, takesRead, readsOn, readsLast, runs, takesWrite, writesOn, writesLast, view}
+use Rattle.protocol.specs.Fair.{FitLine}
+use Rattle.protocol.proofs.Fair.{Lined, fit-step}
+use Rattle.protocol.proofs.View.{after, at, readByte, writeByte, Moves, rests, waits, takesRead, readsOn, readsLast, runs, takesWrite, writesOn, writesLast, view, inside}
 use Rattle.protocol.proofs.Steps.{each, lengths, SameLengths, held-step}
 use Rattle.protocol.proofs.Copy.{copy-length}
 use Rattle.processor.specs.Placed.{Placed}
@@ -34,6 +36,7 @@ use Rattle.taskset.specs.Trace.{recordCount}
 use Rattle.states.specs.Task.{taskOf}
 use Rattle.states.specs.Fit.{FitCore, Fit}
 use Rattle.states.specs.Set.{Set}
+use Rattle.states.proofs.Line.{records-left}
 use Rattle.taskset.proofs.Accepted.{length-listed}
 
 -- ---- the flag byte has six bits
@@ -134,11 +137,12 @@ read-length t k s = copy-length (take 1 (left (at s k) (t .reads k))) (s .plant 
 
 module _ (f t : List ℕ) (ok : Set f t) (ex : Executes f t) (k : ℕ) (s : State) (fit : Fit f t s) where
   -- core k and the rest of the state after a step
-  fit-after : (c : Core) (sh : List ℕ) (h : ℕ) → k < length (s .plant .cores) → FitCore f t k c → Held (after s k c sh h) → length sh ≡ 1024 → Fit f t (after s k c sh h)
-  fit-after c sh h i x held long = record {
+  fit-after : (c : Core) (sh : List ℕ) (h : Semaphore) → k < length (s .plant .cores) → FitCore f t k c → Held (after s k c sh h) → FitLine (taskOf f t) (after s k c sh h) → length sh ≡ 1024 → Fit f t (after s k c sh h)
+  fit-after c sh h i x held line long = record {
     table = length-set (s .plant .cores) k c ∙ fit .table;
     each = each (λ j y. j < cores f → FitCore f t j y) (s .plant .cores) k c i (λ z. x) (λ j n z. fit .each j z);
     held = held;
+    line = line;
     shared = long;
   }
 
@@ -311,23 +315,33 @@ module _ (f t : List ℕ) (ok : Set f t) (ex : Executes f t) (k : ℕ) (s : Stat
         size = x .size;
       }
 
-  fit-moved : (s′ : State) (ts : List Taking) → Moves (taskOf f t) k s s′ ts → Held s′ → SameLengths s s′ → Fit f t s′
+  fit-moved : (s′ : State) (ts : List Taking) → Moves (taskOf f t) k s s′ ts → Held s′ → FitLine (taskOf f t) s′ → SameLengths s s′ → Fit f t s′
   unfolding taskOf
-  fit-moved s′ ts (rests z) held same = fit
-  fit-moved s′ ts (takesRead r rs i g e d) held same = fit-after (readTaken r (at s k)) (s .plant .shared) (suc k) i (by-takesRead r rs i e d) held (fit .shared)
-  fit-moved s′ ts (readsOn m ms i e d) held same =
-      fit-after (readNext (readByte (taskOf f t) k s) (at s k)) (s .plant .shared) (s .holder) i (by-readsOn m ms i e d (read-length (taskOf f t) k s)) held (fit .shared)
-  fit-moved s′ ts (readsLast i e d) held same =
-      fit-after (readDone (readByte (taskOf f t) k s) (at s k)) (s .plant .shared) 0 i (by-readsLast i e (read-length (taskOf f t) k s)) held (fit .shared)
-  fit-moved s′ ts (runs i e) held same = fit-after (taskOf f t .instruction k (at s k)) (s .plant .shared) (s .holder) i (by-runs i e) held (fit .shared)
-  fit-moved s′ ts (takesWrite i g e) held same = fit-after (writeTaken (at s k)) (s .plant .shared) (suc k) i (by-takesWrite i e) held (fit .shared)
-  fit-moved s′ ts (writesOn m ms i e d) held same =
-      fit-after (writeNext (at s k)) (writeByte (taskOf f t) k s) (s .holder) i (by-writesOn m ms i e d) held (same .shared ∙ fit .shared)
-  fit-moved s′ ts (writesLast i e d) held same =
-      fit-after (writeDone (at s k)) (writeByte (taskOf f t) k s) 0 i (by-writesLast i e) held (same .shared ∙ fit .shared)
+  fit-moved s′ ts (rests z) held line same = fit
+  fit-moved s′ ts (waits i z b) held line same = record { table = fit .table; each = fit .each; held = held; line = line; shared = fit .shared }
+  fit-moved s′ ts (takesRead r rs i g b e d) held line same = fit-after (readTaken r (at s k)) (s .plant .shared) (acquiredBy k (s .semaphore)) i (by-takesRead r rs i e d) held line (fit .shared)
+  fit-moved s′ ts (readsOn m ms i e d) held line same =
+      fit-after (readNext (readByte (taskOf f t) k s) (at s k)) (s .plant .shared) (s .semaphore) i (by-readsOn m ms i e d (read-length (taskOf f t) k s)) held line (fit .shared)
+  fit-moved s′ ts (readsLast i e d) held line same =
+      fit-after (readDone (readByte (taskOf f t) k s) (at s k)) (s .plant .shared) (released (s .semaphore)) i (by-readsLast i e (read-length (taskOf f t) k s)) held line (fit .shared)
+  fit-moved s′ ts (runs i e) held line same = fit-after (taskOf f t .instruction k (at s k)) (s .plant .shared) (s .semaphore) i (by-runs i e) held line (fit .shared)
+  fit-moved s′ ts (takesWrite i g b e) held line same = fit-after (writeTaken (at s k)) (s .plant .shared) (acquiredBy k (s .semaphore)) i (by-takesWrite i e) held line (fit .shared)
+  fit-moved s′ ts (writesOn m ms i e d) held line same =
+      fit-after (writeNext (at s k)) (writeByte (taskOf f t) k s) (s .semaphore) i (by-writesOn m ms i e d) held line (same .shared ∙ fit .shared)
+  fit-moved s′ ts (writesLast i e d) held line same =
+      fit-after (writeDone (at s k)) (writeByte (taskOf f t) k s) (released (s .semaphore)) i (by-writesLast i e) held line (same .shared ∙ fit .shared)
+
+  -- a core in a cycle has records left
+  lined : Lined (taskOf f t) s
+  lined = record {
+    fit = fit .line;
+    held = fit .held;
+    supplied = λ j a b. records-left f t j (at s j .registers .cycles) (fit .each j (rw (fit .table) at (inside (s .plant .cores) j (mode (at s j)) refl (omega arith))) .under-way a b);
+  }
 
 -- Every step of every core keeps a fit state fit
 pub fit-kept : (f t : List ℕ) → Set f t → Executes f t → (k : ℕ) (s : State) → Fit f t s → Fit f t (step (taskOf f t) k s)
 fit-kept f t ok ex k s fit =
     let same = lengths (taskOf f t) (ex .laws) k s in
-    fit-moved f t ok ex k s fit (step (taskOf f t) k s) (takingOf (taskOf f t) k s) (view (taskOf f t) k s) (held-step (taskOf f t) (ex .laws) k s (fit .held)) same
+    fit-moved f t ok ex k s fit (step (taskOf f t) k s) (takingOf (taskOf f t) k s) (view (taskOf f t) k s) (held-step (taskOf f t) (ex .laws) k s (fit .held))
+    (fit-step (taskOf f t) (ex .laws) k s (lined f t ok ex k s fit) (step (taskOf f t) k s) (takingOf (taskOf f t) k s) (view (taskOf f t) k s)) same

@@ -1,5 +1,6 @@
 pub mod Tables
 pub mod Tasks
+pub mod Line
 pub mod Kept
 pub mod Accepted
 pub mod Executes

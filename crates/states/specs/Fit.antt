@@ -3,8 +3,8 @@
 use mathlib.Core.Path.{_≡_}
 use mathlib.Core.Logic.{_≢_}
 use Prim.Native.Nat.{ℕ, _+_, _*_, _≤_, _<_}
-use mathlib.Core.Bool.{Bool, true, false}
-use mathlib.Core.List.{List}
+use mathlib.Core.Bool.{Bool, true, false, not}
+use mathlib.Core.List.{List, [], _∷_}
 use lib.ListN.{getD, length}
 use lib.Dec.{ltb, leb, eqb}
 use Rattle.verdict.specs.Verdict.{pick, both, either, within, upto, unless}
@@ -12,13 +12,17 @@ use Rattle.code.specs.Code.{isStart}
 use Rattle.protocol.specs.declared.Registers.{Registers}
 use Rattle.protocol.specs.State.{Core, State as Whole, core, mode}
 use Rattle.protocol.specs.Variables.{readsOf, writesOf}
+use Rattle.protocol.specs.Step.{inLine}
 use Rattle.protocol.specs.Laws.{Held}
+use Rattle.protocol.specs.Fair.{FitLine}
+use Rattle.semaphore.specs.Line.{semaphoreOf}
 use Rattle.processor.specs.Placed.{Placed}
 use Rattle.records.specs.File.{cores, dataSize, limit}
 use Rattle.taskset.specs.Judge.{codeOf}
 use Rattle.taskset.specs.Task.{variablesOf}
 use Rattle.taskset.specs.Trace.{recordCount}
 use Rattle.states.specs.declared.State.{State}
+use Rattle.states.specs.Task.{taskOf}
 use Rattle.states.specs.Machine.{none}
 
 -- two tests agree
@@ -83,9 +87,23 @@ coreFit f t holder k r place offset =
 unfoldable pub fitAt : List ℕ → List ℕ → State → ℕ → Bool
 fitAt f t s k = coreFit f t (s .semaphore .holder) k (getD (s .cores) k none) (entry (s .places) k) (entry (s .offsets) k)
 
--- the table has n records, the semaphore names one of them or is free, and each core is fit
+-- a core with these registers and so many input records is in mode 0 or 3, and has records left
+unfoldable pub mayWait : ℕ → Registers → Bool
+mayWait count r = both (either (eqb (r .mode) 0) (eqb (r .mode) 3)) (ltb (r .cycles) count)
+
+-- document 02, 2.4: the line names no core twice, none from n on, none that is not in mode 0 or 3, and none that is out of records
+abbrev pub lineFitIn : List ℕ → List ℕ → State → List ℕ → Bool
+lineFitIn f t s [] = true
+lineFitIn f t s (k ∷ ks) =
+    both (not (inLine k ks)) (both (ltb k (cores f)) (both (mayWait (recordCount f t k) (getD (s .cores) k none)) (lineFitIn f t s ks)))
+
+-- a line has at most four entries
+unfoldable pub lineFit : List ℕ → List ℕ → State → Bool
+lineFit f t s = both (leb (s .semaphore .waiting) 4) (lineFitIn f t s (semaphoreOf (s .semaphore) .line))
+
+-- the table has n records, the semaphore names one of them or is free, each core is fit, and so is the line
 unfoldable pub stateFit : List ℕ → List ℕ → State → Bool
-stateFit f t s = both (eqb (s .count) (cores f)) (both (leb (s .semaphore .holder) (cores f)) (upto (fitAt f t s) (cores f)))
+stateFit f t s = both (eqb (s .count) (cores f)) (both (leb (s .semaphore .holder) (cores f)) (both (upto (fitAt f t s) (cores f)) (lineFit f t s)))
 
 unfoldable pub stateRefusal : List ℕ → List ℕ → State → ℕ
 stateRefusal f t s = unless (stateFit f t s) 23
@@ -106,9 +124,10 @@ pub record FitCore (f t : List ℕ) (k : ℕ) (c : Core) : Type 0 where
   pub flags : c .registers .flags < 64
   pub size : length (c .memory) ≡ dataSize f k
 
--- The state: its n cores, the semaphore, and lent memory of the right size
+-- The state: its n cores, the semaphore and its line, and lent memory of the right size
 pub record Fit (f t : List ℕ) (s : Whole) : Type 0 where
   pub table : length (s .plant .cores) ≡ cores f
   pub each : (k : ℕ) → k < cores f → FitCore f t k (core (s .plant) k)
   pub held : Held s
+  pub line : FitLine (taskOf f t) s
   pub shared : length (s .plant .shared) ≡ 1024

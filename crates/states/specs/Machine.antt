@@ -8,7 +8,8 @@ use Rattle.verdict.specs.Verdict.{pick}
 use Rattle.memory.specs.Memory.{part, total, split, flat}
 use Rattle.protocol.specs.declared.Registers.{Registers}
 use Rattle.protocol.specs.declared.Stack.{Stack}
-use Rattle.protocol.specs.State.{Core, State, core, cleared}
+use Rattle.protocol.specs.State.{Core, Semaphore, State, core, cleared}
+use Rattle.semaphore.specs.Line.{semaphoreOf, semaphoreBack}
 use Rattle.records.specs.File.{cores}
 use Rattle.taskset.specs.Task.{listed, sizesOf}
 use Rattle.states.specs.declared.State.{State as Held}
@@ -26,12 +27,12 @@ abbrev pub coreIn : List ℕ → List Registers → List ℕ → List ℕ → Li
 coreIn f cs places offsets d k = record { registers = getD cs k none; stack = stackIn places offsets k; memory = getD (split (sizesOf f) d) k [] }
 
 -- the state of the n cores of the file f, from its parts
-unfoldable pub stateIn : List ℕ → List Registers → List ℕ → List ℕ → ℕ → List ℕ → List ℕ → State
-stateIn f cs places offsets holder d sh =
-    record { plant = record { cores = listed (coreIn f cs places offsets d) (cores f) 0; shared = sh }; holder = holder }
+unfoldable pub stateIn : List ℕ → List Registers → List ℕ → List ℕ → Semaphore → List ℕ → List ℕ → State
+stateIn f cs places offsets m d sh =
+    record { plant = record { cores = listed (coreIn f cs places offsets d) (cores f) 0; shared = sh }; semaphore = m }
 
 abbrev pub stateOf : List ℕ → Held → List ℕ → List ℕ → State
-stateOf f h d sh = stateIn f (h .cores) (h .places) (h .offsets) (h .semaphore .holder) d sh
+stateOf f h d sh = stateIn f (h .cores) (h .places) (h .offsets) (semaphoreOf (h .semaphore)) d sh
 
 -- lent memory of the right sizes, and the entries of four call stacks
 pub record Sized (f : List ℕ) (h : Held) (d sh : List ℕ) : Type 0 where
@@ -52,7 +53,7 @@ entryBack part n old s i = pick (ltb (i / 16) n) (getD (part (core (s .plant) (i
 unfoldable pub heldAfter : ℕ → Held → State → Held
 heldAfter n h s = record {
   count = h .count;
-  semaphore = record { holder = s .holder };
+  semaphore = semaphoreBack (s .semaphore);
   cores = listed (registersBack n (h .cores) s) 4 0;
   places = listed (entryBack (λ k. k .places) n (h .places) s) 64 0;
   offsets = listed (entryBack (λ k. k .offsets) n (h .offsets) s) 64 0;

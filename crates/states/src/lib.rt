@@ -10,17 +10,12 @@ ghost use Rattle.taskset.specs.Judge.{judge};
 ghost use Rattle.taskset.specs.Trace.{traceLayout};
 ghost use Rattle.states.specs.Set.{Set};
 ghost use Rattle.states.specs.Tasks.{noTask, coreTask, taskAt, tasksOf};
-ghost use Rattle.states.specs.Fit.{entry, placesFit, offsetsFit, depthFit, exchangeFit, cyclesFit, holderFit, freedAt, freedFit, executionFit, exchangesFit, fitAt, stateRefusal};
+ghost use Rattle.states.specs.Fit.{entry, placesFit, offsetsFit, depthFit, exchangeFit, cyclesFit, holderFit, freedAt, freedFit, executionFit, exchangesFit, fitAt, mayWait, lineFit, stateRefusal};
 ghost use Rattle.states.specs.Preparing.{prepared};
 use protocol::Registers;
+use semaphore::Semaphore;
 use taskset::Layout;
 use taskset::TraceLayout;
-
-// The semaphore.
-#[repr(C)]
-pub struct Semaphore {
-    pub holder: u8, // 0 where it is free, k + 1 where core k holds it
-}
 
 // The state of up to four cores. The call stack of core k is entries 16k to 16k + 15 of `places` and `offsets`.
 pub struct State {
@@ -125,6 +120,8 @@ const ENTRIES: usize = 16; // of a call stack
 const CALLS: u8 = 16; // that may be open
 
 const FLAGS: u8 = 64; // above the six flag bits
+
+const LINE: usize = 4; // entries of a line
 
 // An instruction starts at a place of accepted code; place 0 is the start of the first.
 fn starts(code: &[u8], place: u16) -> bool
@@ -325,6 +322,47 @@ fn core_fit(file: &[u8], trace: &[u8], task: CoreTask, s: State, k: usize) -> bo
     r.flags < FLAGS
 }
 
+// A core with these registers and so many input records is in mode 0 or 3, and has records left.
+fn may_wait(count: usize, r: Registers) -> bool
+    ensures { λ ok. ⌜ ok ≡ mayWait count r ⌝ }
+{
+    if (r.cycles as usize) < count {
+        if r.mode == protocol::BETWEEN {
+            return true;
+        }
+        return r.mode == protocol::WAITING;
+    }
+    false
+}
+
+// The line names no core twice, none from n on, none that is not in mode 0 or 3, and none that is out of records.
+fn line_fit(file: &[u8], trace: &[u8], tasks: [CoreTask; 4], n: usize, s: State) -> bool
+    requires { ⌜ Set (now file) (now trace) × (tasks ≡ tasksOf (now file) (now trace)) × (n ≡ cores (now file)) ⌝ }
+    ensures { λ ok. ⌜ ok ≡ lineFit (now (file .entry)) (now (trace .entry)) s ⌝ }
+{
+    let m = s.semaphore;
+    let waiting = m.waiting as usize;
+    if LINE < waiting {
+        return false;
+    }
+    let mut i: usize = 0;
+    while i < waiting {
+        let k = m.line[i];
+        if semaphore::in_line(m, i + 1, k) {
+            return false;
+        }
+        let core = k as usize;
+        if n <= core {
+            return false;
+        }
+        if !may_wait(tasks[core].count, s.cores[core]) {
+            return false;
+        }
+        i += 1;
+    }
+    true
+}
+
 // The refusal of a state of an accepted file with n cores, whose tasks on a sound trace are given; 0 where it is fit.
 pub fn state_refusal(file: &[u8], trace: &[u8], tasks: [CoreTask; 4], n: usize, s: State) -> u8
     requires { ⌜ Set (now file) (now trace) × (tasks ≡ tasksOf (now file) (now trace)) × (n ≡ cores (now file)) ⌝ }
@@ -342,6 +380,9 @@ pub fn state_refusal(file: &[u8], trace: &[u8], tasks: [CoreTask; 4], n: usize, 
             return UNFIT;
         }
         k += 1;
+    }
+    if !line_fit(file, trace, tasks, n, s) {
+        return UNFIT;
     }
     0
 }

@@ -1,4 +1,4 @@
--- The table, the semaphore, and every core passed is fit.
+-- The table, the semaphore, and every core passed is fit; then the line.
 use mathlib.Core.Path.{sym, _∙_}
 use Prim.Native.Nat.{_-_}
 use native.Mathlib.Omega.{arith}
@@ -46,7 +46,7 @@ core-fit-requires c κs = (c .before .before .before .before .before .before .be
 
 returns-3 : tie.Need-returns-3 Inv-loop μ-loop
 unfolding stateRefusal stateFit
-returns-3 c = sym (no _ 23 (sym (passes (eq-eqb _ _ (c .before .before .before .before .before .before .before .if1 .left ∙ c .before .before .before .before .before .before .before .before .before .before .before .pre .2)) (passes (le-leb _ _ (rw (c .before .before .before .before .before .before .before .before .before .before .before .pre .2) at (c .before .before .before .before .before .if2 .left))) (passing-stop _ _ _ (c .before .before .before .before .loop .inv) (rw (c .before .before .before .before .before .before .before .before .before .before .before .pre .2) at (c .before .before .before .loop-test .taken)) (sym (c .before .core-fit .ensures) ∙ not-true _ (c .if3 .taken)))))))
+returns-3 c = sym (no _ 23 (sym (passes (eq-eqb _ _ (c .before .before .before .before .before .before .before .if1 .left ∙ c .before .before .before .before .before .before .before .before .before .before .before .pre .2)) (passes (le-leb _ _ (rw (c .before .before .before .before .before .before .before .before .before .before .before .pre .2) at (c .before .before .before .before .before .if2 .left))) (fails _ (sym (passing-stop _ _ _ (c .before .before .before .before .loop .inv) (rw (c .before .before .before .before .before .before .before .before .before .before .before .pre .2) at (c .before .before .before .loop-test .taken)) (sym (c .before .core-fit .ensures) ∙ not-true _ (c .if3 .taken)))))))))
 
 add-k : tie.Need-add-k Inv-loop μ-loop
 add-k c = omega arith
@@ -57,9 +57,16 @@ loop-less c = omega arith
 loop-again : tie.Need-loop-again Inv-loop μ-loop
 loop-again c = passing-more _ _ _ (c .before .before .before .before .loop .inv) (rw (c .before .before .before .before .before .before .before .before .before .before .before .pre .2) at (c .before .before .before .loop-test .taken)) (sym (c .before .core-fit .ensures) ∙ not-false _ (c .if3 .left))
 
+line-fit-requires : tie.Need-line-fit-requires Inv-loop μ-loop
+line-fit-requires c κs = search needs
+
 returns-4 : tie.Need-returns-4 Inv-loop μ-loop
 unfolding stateRefusal stateFit
-returns-4 c = sym (yes _ 23 (sym (passes (eq-eqb _ _ (c .before .before .before .before .if1 .left ∙ c .before .before .before .before .before .before .before .before .pre .2)) (passes (le-leb _ _ (rw (c .before .before .before .before .before .before .before .before .pre .2) at (c .before .before .if2 .left))) (passing-end _ _ _ (c .before .loop .inv) (rw (c .before .before .before .before .before .before .before .before .pre .2) at (c .loop-test .left)))))))
+returns-4 c = sym (no _ 23 (sym (passes (eq-eqb _ _ (c .before .before .before .before .before .before .if1 .left ∙ c .before .before .before .before .before .before .before .before .before .before .pre .2)) (passes (le-leb _ _ (rw (c .before .before .before .before .before .before .before .before .before .before .pre .2) at (c .before .before .before .before .if2 .left))) (passes (sym (passing-end _ _ _ (c .before .before .before .loop .inv) (rw (c .before .before .before .before .before .before .before .before .before .before .pre .2) at (c .before .before .loop-test .left)))) (sym (not-true _ (c .if4 .taken)) ∙ c .before .line-fit .ensures))))))
+
+returns-5 : tie.Need-returns-5 Inv-loop μ-loop
+unfolding stateRefusal stateFit
+returns-5 c = sym (yes _ 23 (sym (passes (eq-eqb _ _ (c .before .before .before .before .before .before .if1 .left ∙ c .before .before .before .before .before .before .before .before .before .before .pre .2)) (passes (le-leb _ _ (rw (c .before .before .before .before .before .before .before .before .before .before .pre .2) at (c .before .before .before .before .if2 .left))) (passes (sym (passing-end _ _ _ (c .before .before .before .loop .inv) (rw (c .before .before .before .before .before .before .before .before .before .before .pre .2) at (c .before .before .loop-test .left)))) (sym (not-false _ (c .if4 .left)) ∙ c .before .line-fit .ensures))))))
 
 pub state-refusal-spec : {M : Type 1} → statement M
 state-refusal-spec =
@@ -79,4 +86,6 @@ state-refusal-spec =
     add-k
     loop-less
     loop-again
-    returns-4)
+    line-fit-requires
+    returns-4
+    returns-5)
