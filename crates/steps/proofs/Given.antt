@@ -3,6 +3,7 @@
 -- core k in the buffer of all. Assumes nothing.
 use mathlib.Core.Path.{_≡_, refl, sym, ap, ap₂, _∙_, subst, subst⁻¹}
 use mathlib.Core.Logic.{_≢_}
+use mathlib.Core.Bool.{true, false}
 use mathlib.Core.List.{List, [], _∷_, _++_}
 use Prim.Native.Nat.{ℕ, zero, suc, _+_, _-_, _*_, _≤_, _<_}
 use native.Mathlib.Omega.{arith}
@@ -16,8 +17,8 @@ use Rattle.memory.proofs.Cores.{split-at, flat-set, split-flat-of, lengths-spli
 use Rattle.protocol.specs.declared.Registers.{Registers}
 use Rattle.protocol.specs.declared.Outcome.{Outcome}
 use Rattle.protocol.specs.declared.Outcome.the-variants.{Fault as Failed, Next as Onward, Call as Calls, Return as Returns}
-use Rattle.protocol.specs.State.{Core, Sample}
-use Rattle.protocol.specs.Step.{copy}
+use Rattle.protocol.specs.State.{Core, Semaphore, Sample}
+use Rattle.protocol.specs.Step.{turn, copy}
 use Rattle.protocol.specs.Variables.{readsOf, writesOf}
 use Rattle.protocol.specs.Instruction.{Executed, halted, applied, limited, instructionBy}
 use Rattle.records.specs.File.{cores, dataSize, inputSize, limit}
@@ -38,9 +39,9 @@ use Rattle.processor.proofs.Kept.{executed-leads}
 use Rattle.states.specs.declared.CoreTask.{CoreTask}
 use Rattle.states.specs.Task.{taskOf}
 use Rattle.states.specs.Tasks.{coreTask}
-use Rattle.steps.specs.Effects.{Effect, Idle, ReadAcquired, ByteRead, ReadReleased, ByteWritten, WriteReleased, backAt, effectOf, Takes, Does, Alone, Steps}
+use Rattle.steps.specs.Effects.{Effect, Idle, Joined, ReadAcquired, ByteRead, ReadReleased, ByteWritten, WriteReleased, backAt, effectOf, Takes, Does, Alone, Steps}
 use Rattle.steps.specs.Moving.{Ready}
-use Rattle.steps.proofs.Does.{does-spent, does-read-acquired, does-byte-read, does-read-released, does-byte-written, does-write-released, Leaves, does-instruction}
+use Rattle.steps.proofs.Does.{does-spent, does-joined-0, does-read-acquired, does-byte-read, does-read-released, does-byte-written, does-write-released, Leaves, does-instruction}
 
 -- ---- input records
 
@@ -109,18 +110,24 @@ module _ {f t : List ℕ} {k : ℕ} {c : CoreTask} {r : Registers} {d : List ℕ
   pub inputs-inside : c .inputs ≤ length d
   inputs-inside = omega (arith, inputs-are, w .accepted .inputs k (w .known), w .fit .size)
 
-  pub spent : (h : ℕ) → r .mode ≡ 0 → c .count ≤ r .cycles → Alone f t k r d h Idle d
+  pub spent : (h : Semaphore) → r .mode ≡ 0 → c .count ≤ r .cycles → Alone f t k r d h Idle d
   unfolding taskOf
   spent h m l sh = does-spent (taskOf f t) k r d sh h m (samples-spent f t k (r .cycles) (omega (arith, count-is)))
 
-  pub read-acquired : (time place : ℕ) (d′ : List ℕ) → r .mode ≡ 0 → r .cycles < c .count → place ≡ c .records + r .cycles * (4 + c .inputs)
-      → time ≡ readLE t place 4 → d′ ≡ splice d 0 (part t (place + 4) (c .inputs)) → Alone f t k r d 0 (ReadAcquired time) d′
+  -- out of its turn
+  pub joined : (h : Semaphore) → r .mode ≡ 0 → r .cycles < c .count → turn h k ≡ false → Alone f t k r d h Joined d
+  unfolding taskOf
+  joined h m l u sh =
+      does-joined-0 (taskOf f t) k r d sh h (sampleAt f t k (r .cycles)) (drop (suc (r .cycles)) (samplesOf f t k)) m (samples-left f t k (r .cycles) (omega (arith, count-is))) u
+
+  pub read-acquired : (h : Semaphore) (time place : ℕ) (d′ : List ℕ) → r .mode ≡ 0 → r .cycles < c .count → place ≡ c .records + r .cycles * (4 + c .inputs)
+      → time ≡ readLE t place 4 → d′ ≡ splice d 0 (part t (place + 4) (c .inputs)) → turn h k ≡ true → Alone f t k r d h (ReadAcquired time) d′
   unfolding taskOf sampleAt
-  read-acquired time place d′ m l p e g sh =
-      does-read-acquired (taskOf f t) k r d sh (sampleAt f t k (r .cycles)) (drop (suc (r .cycles)) (samplesOf f t k)) time d′ m
+  read-acquired h time place d′ m l p e g u sh =
+      does-read-acquired (taskOf f t) k r d sh h (sampleAt f t k (r .cycles)) (drop (suc (r .cycles)) (samplesOf f t k)) time d′ m
       (samples-left f t k (r .cycles) (omega (arith, count-is)))
       (e ∙ ap (λ (q : ℕ). readLE t q 4) (p ∙ record-is))
-      (g ∙ ap₂ (λ (q n : ℕ). splice d 0 (part t (q + 4) n)) (p ∙ record-is) inputs-are)
+      (g ∙ ap₂ (λ (q n : ℕ). splice d 0 (part t (q + 4) n)) (p ∙ record-is) inputs-are) u
 
   -- ---- modes 1 and 4: the bytes of an exchange
 
@@ -144,7 +151,7 @@ module _ {f t : List ℕ} {k : ℕ} {c : CoreTask} {r : Registers} {d : List ℕ
   cycles-few : r .mode ≡ 4 → r .cycles < 65535
   cycles-few m = omega (arith, w .fit .under-way (omega arith) (omega arith), w .accepted .counts k)
 
-  module _ (sh : List ℕ) (h : ℕ) where
+  module _ (sh : List ℕ) (h : Semaphore) where
     pub read-none : r .mode ≡ 1 → c .reads ≤ r .exchange → Does (taskOf f t) k r d sh h ReadReleased d sh
     unfolding taskOf
     read-none m l =
@@ -226,11 +233,11 @@ module _ {f t : List ℕ} {k : ℕ} {c : CoreTask} {r : Registers} {d : List ℕ
         (pick-false _ _ _ (ne-eqb (x .registers .count) (limit f k) (λ z. n (sym (ap (λ (u : Registers). u .count) p) ∙ z ∙ sym limit-is)))
         ∙ ap₂ (executed (codeOf f k)) p q)
 
-  pub limit-reached : (h : ℕ) → r .mode ≡ 2 → r .count ≡ c .limit → Alone f t k r d h (effectOf (r .depth) (Failed 1)) d
+  pub limit-reached : (h : Semaphore) → r .mode ≡ 2 → r .count ≡ c .limit → Alone f t k r d h (effectOf (r .depth) (Failed 1)) d
   limit-reached h m e sh =
       does-instruction (taskOf f t) k r d sh h (halted 1 d) d m (λ x p q. at-limit x p q e) refl refl (omega arith)
 
-  pub instruction-done : (h e : ℕ) (o : Outcome) (d′ : List ℕ) → r .mode ≡ 2 → r .count ≢ c .limit → e ≡ c .code + c .length
+  pub instruction-done : (h : Semaphore) (e : ℕ) (o : Outcome) (d′ : List ℕ) → r .mode ≡ 2 → r .count ≢ c .limit → e ≡ c .code + c .length
       → answer o d′ ≡ executed (take (e - c .code) (drop (c .code) f)) r d → Alone f t k r d h (effectOf (r .depth) o) d′
   instruction-done h e o d′ m n p a sh =
       let b : answer o d′ ≡ executed (codeOf f k) r d = a ∙ ap (λ (u : List ℕ). executed u r d) (code-is e p) in
@@ -284,7 +291,7 @@ module _ {f t : List ℕ} {k : ℕ} {c : CoreTask} {r : Registers} (d : List ℕ
         stretch-set (sizesOf f) d m k (c .base) e core-at (n) base-is (omega (arith, size-is)) (l ∙ ap length stretch-is)
 
     -- the step in the stretch is the step in the buffer
-    pub steps-in : (h : ℕ) (z : Effect) (m sh sh′ : List ℕ) → Does (taskOf f t) k r (take (e - c .base) (drop (c .base) d)) sh h z m sh′
+    pub steps-in : (h : Semaphore) (z : Effect) (m sh sh′ : List ℕ) → Does (taskOf f t) k r (take (e - c .base) (drop (c .base) d)) sh h z m sh′
         → length m ≡ length (take (e - c .base) (drop (c .base) d))
         → Steps f t k r d sh h z (take (c .base) d ++ (m ++ drop (e - c .base) (drop (c .base) d))) sh′
     steps-in h z m sh sh′ q l = record {

@@ -3,29 +3,29 @@
 -- what a step's function promises.
 use mathlib.Core.Path.{_≡_}
 use mathlib.Core.List.{List, [], _∷_}
-use mathlib.Core.Bool.{Bool, false, not}
+use mathlib.Core.Bool.{Bool, true, false}
 use Prim.Native.Nat.{ℕ, zero, suc, _+_, _<_}
-use lib.Dec.{eqb}
 use lib.ListN.{length, set, getD}
 use Rattle.protocol.specs.declared.Registers.{Registers}
 use Rattle.protocol.specs.declared.Stack.{Stack}
 use Rattle.protocol.specs.declared.Outcome.{Outcome}
 use Rattle.protocol.specs.declared.Outcome.the-variants.{Fault as Failed, Next as Onward, Call as Calls, Return as Returns}
 use Rattle.protocol.specs.Registers.{readAcquired, byteCopied, readReleased, writeAcquired, writeReleased, advanced, called, returned, cycleEnded, faulted, pushed, popped}
-use Rattle.protocol.specs.State.{Core, State, Task, core}
-use Rattle.protocol.specs.Step.{step, Taking, reading, writing, takingOf}
+use Rattle.protocol.specs.State.{Core, Semaphore, State, Task, core}
+use Rattle.protocol.specs.Step.{turn, acquiredBy, released, joinedBy, step, Taking, reading, writing, takingOf}
 use Rattle.memory.specs.Memory.{split}
 use Rattle.taskset.specs.Task.{sizesOf}
-use Rattle.verdict.specs.Verdict.{both, either}
 use Rattle.exchange.specs.Exchange.{At}
 use Rattle.states.specs.Task.{taskOf}
 use Rattle.steps.specs.declared.Exchange.{Exchange}
-use Rattle.steps.specs.declared.Exchange.the-variants.{Rests, ReadBegun, ReadOn, ReadEnded, WriteBegun, WriteOn, WriteEnded}
+use Rattle.steps.specs.declared.Exchange.the-variants.{Rests, Joins, ReadBegun, ReadOn, ReadEnded, WriteBegun, WriteOn, WriteEnded}
 
 -- ---- the effects
 
 pub data Effect : Type 0 where
   Idle : Effect
+  -- the core waits for the semaphore, in line
+  Joined : Effect
   -- a reading takes the semaphore, with the time of its record; one byte of it; its release
   ReadAcquired : ℕ → Effect
   ByteRead : Effect
@@ -56,6 +56,7 @@ effectOf depth Returns = backAt depth
 -- what a step between two instructions answers
 abbrev pub exchanged : Exchange → Effect
 exchanged Rests = Idle
+exchanged Joins = Joined
 exchanged (ReadBegun time) = ReadAcquired time
 exchanged (ReadOn cursor) = ByteRead
 exchanged ReadEnded = ReadReleased
@@ -63,14 +64,11 @@ exchanged WriteBegun = WriteAcquired
 exchanged (WriteOn cursor) = ByteWritten
 exchanged WriteEnded = WriteReleased
 
--- a core that waits for the semaphore while another holds it: modes 0 and 3
-abbrev pub waiting : ℕ → ℕ → Bool
-waiting mode holder = both (not (eqb holder 0)) (either (eqb mode 0) (eqb mode 3))
-
 -- ---- the parts
 
 abbrev pub registersBy : Effect → Core → Registers
 registersBy Idle c = c .registers
+registersBy Joined c = c .registers
 registersBy (ReadAcquired time) c = readAcquired time (c .registers)
 registersBy ByteRead c = byteCopied (c .registers)
 registersBy ReadReleased c = readReleased (c .registers)
@@ -85,6 +83,7 @@ registersBy CycleEnded c = cycleEnded (c .registers)
 
 abbrev pub stackBy : Effect → Core → Stack
 stackBy Idle c = c .stack
+stackBy Joined c = c .stack
 stackBy (ReadAcquired time) c = c .stack
 stackBy ByteRead c = c .stack
 stackBy ReadReleased c = c .stack
@@ -97,23 +96,25 @@ stackBy (Call next target offset) c = pushed (c .registers .depth) next (c .regi
 stackBy (Return d) c = popped d (c .stack)
 stackBy CycleEnded c = c .stack
 
--- the holder afterwards, by core k
-abbrev pub holderBy : Effect → ℕ → ℕ → ℕ
-holderBy Idle k h = h
-holderBy (ReadAcquired time) k h = suc k
-holderBy ByteRead k h = h
-holderBy ReadReleased k h = 0
-holderBy WriteAcquired k h = suc k
-holderBy ByteWritten k h = h
-holderBy WriteReleased k h = 0
-holderBy (Fault b) k h = h
-holderBy (Next p) k h = h
-holderBy (Call next target offset) k h = h
-holderBy (Return d) k h = h
-holderBy CycleEnded k h = h
+-- the semaphore afterwards, by core k
+abbrev pub semaphoreBy : Effect → ℕ → Semaphore → Semaphore
+semaphoreBy Idle k m = m
+semaphoreBy Joined k m = joinedBy k m
+semaphoreBy (ReadAcquired time) k m = acquiredBy k m
+semaphoreBy ByteRead k m = m
+semaphoreBy ReadReleased k m = released m
+semaphoreBy WriteAcquired k m = acquiredBy k m
+semaphoreBy ByteWritten k m = m
+semaphoreBy WriteReleased k m = released m
+semaphoreBy (Fault b) k m = m
+semaphoreBy (Next p) k m = m
+semaphoreBy (Call next target offset) k m = m
+semaphoreBy (Return d) k m = m
+semaphoreBy CycleEnded k m = m
 
 abbrev pub takenBy : Effect → ℕ → List Taking
 takenBy Idle k = []
+takenBy Joined k = []
 takenBy (ReadAcquired time) k = reading k ∷ []
 takenBy ByteRead k = []
 takenBy ReadReleased k = []
@@ -135,7 +136,7 @@ effected z k m sh s = record {
     cores = set (s .plant .cores) k record { registers = registersBy z (core (s .plant) k); stack = stackBy z (core (s .plant) k); memory = m };
     shared = sh;
   };
-  holder = holderBy z k (s .holder);
+  semaphore = semaphoreBy z k (s .semaphore);
 }
 
 -- ---- what a step's function promises
@@ -143,6 +144,7 @@ effected z k m sh s = record {
 -- the registers can take the effect: no number passes its width
 abbrev pub Takes : Registers → Effect → Type 0
 Takes r Idle = Unit {0}
+Takes r Joined = Unit {0}
 Takes r (ReadAcquired time) = Unit {0}
 Takes r ByteRead = r .exchange < 65535
 Takes r ReadReleased = Unit {0}
@@ -155,45 +157,54 @@ Takes r (Call next target offset) = (r .count < 65535) × (r .depth < 16)
 Takes r (Return d) = (r .count < 65535) × (0 < r .depth) × (d < 16)
 Takes r CycleEnded = r .count < 65535
 
--- In a state whose core k has the registers r and the data d, with this shared memory and holder, the effect z with the data and shared memory
+-- In a state whose core k has the registers r and the data d, with this shared memory and semaphore, the effect z with the data and shared memory
 -- afterwards is the step of core k, and its taking is z's
-pub record Does (t : Task) (k : ℕ) (r : Registers) (d sh : List ℕ) (holder : ℕ) (z : Effect) (d′ sh′ : List ℕ) : Type 0 where
-  pub moves : (s : State) → k < length (s .plant .cores) → core (s .plant) k .registers ≡ r → core (s .plant) k .memory ≡ d → s .plant .shared ≡ sh → s .holder ≡ holder
+pub record Does (t : Task) (k : ℕ) (r : Registers) (d sh : List ℕ) (m : Semaphore) (z : Effect) (d′ sh′ : List ℕ) : Type 0 where
+  pub moves : (s : State) → k < length (s .plant .cores) → core (s .plant) k .registers ≡ r → core (s .plant) k .memory ≡ d → s .plant .shared ≡ sh → s .semaphore ≡ m
       → effected z k d′ sh′ s ≡ step t k s
-  pub takes : (s : State) → k < length (s .plant .cores) → core (s .plant) k .registers ≡ r → core (s .plant) k .memory ≡ d → s .plant .shared ≡ sh → s .holder ≡ holder
+  pub takes : (s : State) → k < length (s .plant .cores) → core (s .plant) k .registers ≡ r → core (s .plant) k .memory ≡ d → s .plant .shared ≡ sh → s .semaphore ≡ m
       → takingOf t k s ≡ takenBy z k
   pub ready : Takes r z
 
 -- The same of a step that leaves shared memory alone
-abbrev pub Alone : List ℕ → List ℕ → ℕ → Registers → List ℕ → ℕ → Effect → List ℕ → Type 0
-Alone f t k r d holder z d′ = (sh : List ℕ) → Does (taskOf f t) k r d sh holder z d′ sh
+abbrev pub Alone : List ℕ → List ℕ → ℕ → Registers → List ℕ → Semaphore → Effect → List ℕ → Type 0
+Alone f t k r d m z d′ = (sh : List ℕ) → Does (taskOf f t) k r d sh m z d′ sh
 
--- where a byte was copied and others are left, the core is in that exchange, and the cursor stands at the next byte
-abbrev pub More : List ℕ → ℕ → Registers → Exchange → Type 0
-More f k r Rests = Unit {0}
-More f k r (ReadBegun time) = Unit {0}
-More f k r (ReadOn cursor) = (r .mode ≡ 1) × At f (4 + k) (r .exchange + 1) cursor
-More f k r ReadEnded = Unit {0}
-More f k r WriteBegun = Unit {0}
-More f k r (WriteOn cursor) = (r .mode ≡ 4) × At f k (r .exchange + 1) cursor
-More f k r WriteEnded = Unit {0}
+-- what goes with an answer: the semaphore is taken in the core's turn, and the line joined out of it; where a byte was copied and others are left, the core is
+-- in that exchange, and the cursor stands at the next byte
+abbrev pub More : List ℕ → ℕ → Registers → Bool → Exchange → Type 0
+More f k r turns Rests = Unit {0}
+More f k r turns Joins = turns ≡ false
+More f k r turns (ReadBegun time) = turns ≡ true
+More f k r turns (ReadOn cursor) = (r .mode ≡ 1) × At f (4 + k) (r .exchange + 1) cursor
+More f k r turns ReadEnded = Unit {0}
+More f k r turns WriteBegun = turns ≡ true
+More f k r turns (WriteOn cursor) = (r .mode ≡ 4) × At f k (r .exchange + 1) cursor
+More f k r turns WriteEnded = Unit {0}
 
--- an instruction that answers o, whoever holds the semaphore
+-- an instruction that answers o, whatever the semaphore
 abbrev pub Instructs : List ℕ → List ℕ → ℕ → Registers → List ℕ → Outcome → List ℕ → Type 0
-Instructs f t k r d o d′ = (h : ℕ) → Alone f t k r d h (effectOf (r .depth) o) d′
+Instructs f t k r d o d′ = (m : Semaphore) → Alone f t k r d m (effectOf (r .depth) o) d′
 
--- another step that answers z, of a core that does not wait
-abbrev pub Exchanges : List ℕ → List ℕ → ℕ → Registers → List ℕ → List ℕ → Exchange → List ℕ → List ℕ → Type 0
-Exchanges f t k r d sh z d′ sh′ = ((h : ℕ) → waiting (r .mode) h ≡ false → Does (taskOf f t) k r d sh h (exchanged z) d′ sh′) × More f k r z
+-- another step that answers z, at a semaphore that the core may take or not
+abbrev pub Exchanges : List ℕ → List ℕ → ℕ → Registers → List ℕ → List ℕ → Bool → Exchange → List ℕ → List ℕ → Type 0
+Exchanges f t k r d sh turns z d′ sh′ = ((m : Semaphore) → turn m k ≡ turns → Does (taskOf f t) k r d sh m (exchanged z) d′ sh′) × More f k r turns z
+
+-- the same whatever shared memory is, and in turn or out of it
+abbrev pub ExchangesAlone : List ℕ → List ℕ → ℕ → Registers → List ℕ → Bool → Exchange → List ℕ → Type 0
+ExchangesAlone f t k r d turns z d′ = (sh : List ℕ) → Exchanges f t k r d sh turns z d′ sh
+
+abbrev pub ExchangesOn : List ℕ → List ℕ → ℕ → Registers → List ℕ → List ℕ → Exchange → List ℕ → List ℕ → Type 0
+ExchangesOn f t k r d sh z d′ sh′ = (turns : Bool) → Exchanges f t k r d sh turns z d′ sh′
 
 -- The same in the data buffer of all cores: the data of core k change, those of the others stay
-pub record Steps (f t : List ℕ) (k : ℕ) (r : Registers) (d sh : List ℕ) (holder : ℕ) (z : Effect) (d′ sh′ : List ℕ) : Type 0 where
+pub record Steps (f t : List ℕ) (k : ℕ) (r : Registers) (d sh : List ℕ) (m : Semaphore) (z : Effect) (d′ sh′ : List ℕ) : Type 0 where
   pub memory : List ℕ
-  pub does : Does (taskOf f t) k r (getD (split (sizesOf f) d) k []) sh holder z memory sh′
+  pub does : Does (taskOf f t) k r (getD (split (sizesOf f) d) k []) sh m z memory sh′
   pub kept : split (sizesOf f) d′ ≡ set (split (sizesOf f) d) k memory
 
 abbrev pub InstructsIn : List ℕ → List ℕ → ℕ → Registers → List ℕ → Outcome → List ℕ → Type 0
-InstructsIn f t k r d o d′ = (h : ℕ) (sh : List ℕ) → Steps f t k r d sh h (effectOf (r .depth) o) d′ sh
+InstructsIn f t k r d o d′ = (m : Semaphore) (sh : List ℕ) → Steps f t k r d sh m (effectOf (r .depth) o) d′ sh
 
-abbrev pub ExchangesIn : List ℕ → List ℕ → ℕ → Registers → List ℕ → List ℕ → Exchange → List ℕ → List ℕ → Type 0
-ExchangesIn f t k r d sh z d′ sh′ = ((h : ℕ) → waiting (r .mode) h ≡ false → Steps f t k r d sh h (exchanged z) d′ sh′) × More f k r z
+abbrev pub ExchangesIn : List ℕ → List ℕ → ℕ → Registers → List ℕ → List ℕ → Bool → Exchange → List ℕ → List ℕ → Type 0
+ExchangesIn f t k r d sh turns z d′ sh′ = ((m : Semaphore) → turn m k ≡ turns → Steps f t k r d sh m (exchanged z) d′ sh′) × More f k r turns z

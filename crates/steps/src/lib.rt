@@ -14,13 +14,17 @@ ghost use Rattle.memory.specs.Memory.{total, split};
 ghost use Rattle.exchange.specs.Exchange.{At};
 ghost use Rattle.records.specs.File.{variables, recordPlace};
 ghost use Rattle.taskset.specs.Task.{sizesOf};
-ghost use Rattle.steps.specs.Effects.{exchanged, waiting, Alone, More, Instructs, Exchanges, InstructsIn, ExchangesIn};
+ghost use Rattle.steps.specs.Effects.{Instructs, Exchanges, ExchangesAlone, ExchangesOn, InstructsIn, ExchangesIn};
+ghost use Rattle.steps.specs.declared.Exchange.the-variants.{Joins, WriteBegun};
+ghost use Rattle.verdict.specs.Verdict.{pick};
 ghost use Rattle.steps.specs.Moving.{Ready, Aimed, Moving};
 
 // What one step besides the instructions changes, apart from memory; the run applies it to the core in its table.
 pub enum Exchange {
     // nothing: the input records are spent, or the core is stopped
     Rests,
+    // it waits for the semaphore, in line
+    Joins,
     // a reading takes the semaphore, with the time of its record; one byte of it, and where the next one stands; its release
     ReadBegun(u32),
     ReadOn(Cursor),
@@ -33,20 +37,7 @@ pub enum Exchange {
 
 // ---- one step of core k, by its mode: c is its task, r its registers, d its data
 
-// Modes 0 and 3: nothing, if the semaphore is held. Told from two bytes, since most steps of waiting cores are such.
-pub fn waits(mode: u8, holder: u8) -> bool
-    ensures { λ w. ⌜ w ≡ waiting mode holder ⌝ }
-{
-    if holder == 0 {
-        return false;
-    }
-    if mode == 0 {
-        return true;
-    }
-    mode == 3
-}
-
-// Mode 0, the semaphore free: nothing, if the input records are spent; else time and inputs of the record of this cycle.
+// Mode 0: nothing, if the input records are spent; else, in the core's turn, time and inputs of the record of this cycle, and out of it a place in line.
 fn begin_reading(
     r: Registers,
     k: usize,
@@ -54,13 +45,17 @@ fn begin_reading(
     file: &[u8],
     trace: &[u8],
     d: &mut [u8],
+    turn: bool,
 ) -> Exchange
     requires { ⌜ Ready (now file) (now trace) k c r (now d) × (r .mode ≡ 0) ⌝ }
-    ensures { λ z. ⌜ Alone (now (file .entry)) (now (trace .entry)) k r (now (d .entry)) 0 (exchanged z) (now (d .exit)) × More (now (file .entry)) k r z ⌝ }
+    ensures { λ z. ⌜ ExchangesAlone (now (file .entry)) (now (trace .entry)) k r (now (d .entry)) turn z (now (d .exit)) ⌝ }
 {
     let cycles = r.cycles as usize;
     if c.count <= cycles {
         return Exchange::Rests;
+    }
+    if !turn {
+        return Exchange::Joins;
     }
     let place = c.records + cycles * (4 + c.inputs);
     memory::copy(d, 0, trace, place + 4, c.inputs);
@@ -80,7 +75,7 @@ fn read_byte(
     cursor: Cursor,
 ) -> Exchange
     requires { ⌜ Ready (now file) (now trace) k c r (now d) × (r .mode ≡ 1) × (length (now shared) ≡ 1024) × At (now file) (4 + k) (r .exchange) cursor × (end ≡ recordPlace (now file) (variables (now file))) ⌝ }
-    ensures { λ z. ⌜ Exchanges (now (file .entry)) (now (trace .entry)) k r (now (d .entry)) (now (shared .entry)) z (now (d .exit)) (now (shared .entry)) ⌝ }
+    ensures { λ z. ⌜ ExchangesOn (now (file .entry)) (now (trace .entry)) k r (now (d .entry)) (now (shared .entry)) z (now (d .exit)) (now (shared .entry)) ⌝ }
 {
     let x = r.exchange as usize;
     if c.reads <= x {
@@ -106,6 +101,16 @@ fn execute(r: Registers, k: usize, c: CoreTask, file: &[u8], trace: &[u8], d: &m
     processor::execute(r, &file[a..e], d)
 }
 
+// Mode 3: in the core's turn a writing takes the semaphore, and out of it the core goes in line.
+fn begin_writing(turn: bool) -> Exchange
+    ensures { λ z. ⌜ z ≡ pick turn WriteBegun Joins ⌝ }
+{
+    if !turn {
+        return Exchange::Joins;
+    }
+    Exchange::WriteBegun
+}
+
 // Mode 4: the next byte of the written variables, if any is left; if then none is left, release.
 fn write_byte(
     r: Registers,
@@ -119,7 +124,7 @@ fn write_byte(
     cursor: Cursor,
 ) -> Exchange
     requires { ⌜ Ready (now file) (now trace) k c r (now d) × (r .mode ≡ 4) × (length (now shared) ≡ 1024) × At (now file) k (r .exchange) cursor × (end ≡ recordPlace (now file) (variables (now file))) ⌝ }
-    ensures { λ z. ⌜ Exchanges (now (file .entry)) (now (trace .entry)) k r (now (d .entry)) (now (shared .entry)) z (now (d .entry)) (now (shared .exit)) ⌝ }
+    ensures { λ z. ⌜ ExchangesOn (now (file .entry)) (now (trace .entry)) k r (now (d .entry)) (now (shared .entry)) z (now (d .entry)) (now (shared .exit)) ⌝ }
 {
     let x = r.exchange as usize;
     if c.writes <= x {
@@ -132,7 +137,7 @@ fn write_byte(
     Exchange::WriteOn(exchange::onward(file, end, k, r.exchange, cursor))
 }
 
-// A step of a core that neither executes nor waits, by the mode.
+// A step of a core that does not execute, by the mode; `turn` says whether it may take the semaphore.
 fn exchange_in(
     r: Registers,
     k: usize,
@@ -143,15 +148,16 @@ fn exchange_in(
     shared: &mut [u8],
     end: usize,
     cursor: Cursor,
+    turn: bool,
 ) -> Exchange
     requires { ⌜ Ready (now file) (now trace) k c r (now d) × (r .mode ≢ 2) × (length (now shared) ≡ 1024) × Aimed (now file) k r cursor × (end ≡ recordPlace (now file) (variables (now file))) ⌝ }
-    ensures { λ z. ⌜ Exchanges (now (file .entry)) (now (trace .entry)) k r (now (d .entry)) (now (shared .entry)) z (now (d .exit)) (now (shared .exit)) ⌝ }
+    ensures { λ z. ⌜ Exchanges (now (file .entry)) (now (trace .entry)) k r (now (d .entry)) (now (shared .entry)) turn z (now (d .exit)) (now (shared .exit)) ⌝ }
 {
     let mode = r.mode;
     match mode {
-        0 => begin_reading(r, k, c, file, trace, d),
+        0 => begin_reading(r, k, c, file, trace, d, turn),
         1 => read_byte(r, k, c, file, trace, d, shared, end, cursor),
-        3 => Exchange::WriteBegun,
+        3 => begin_writing(turn),
         4 => write_byte(r, k, c, file, trace, d, shared, end, cursor),
         _ => Exchange::Rests,
     }
@@ -176,7 +182,7 @@ pub fn instruction_of(
     execute(r, k, c, file, trace, &mut buffer[a..e])
 }
 
-// Any other step, of a core that does not wait.
+// Any other step; `turn` says whether the core may take the semaphore.
 pub fn exchange_of(
     r: Registers,
     k: usize,
@@ -187,11 +193,23 @@ pub fn exchange_of(
     shared: &mut [u8],
     end: usize,
     cursor: Cursor,
+    turn: bool,
 ) -> Exchange
     requires { ⌜ Moving (now file) (now trace) k c r (now buffer) (now shared) end cursor × (r .mode ≢ 2) ⌝ }
-    ensures { λ z. ⌜ ExchangesIn (now (file .entry)) (now (trace .entry)) k r (now (buffer .entry)) (now (shared .entry)) z (now (buffer .exit)) (now (shared .exit)) ⌝ }
+    ensures { λ z. ⌜ ExchangesIn (now (file .entry)) (now (trace .entry)) k r (now (buffer .entry)) (now (shared .entry)) turn z (now (buffer .exit)) (now (shared .exit)) ⌝ }
 {
     let a = c.base;
     let e = a + c.size;
-    exchange_in(r, k, c, file, trace, &mut buffer[a..e], shared, end, cursor)
+    exchange_in(
+        r,
+        k,
+        c,
+        file,
+        trace,
+        &mut buffer[a..e],
+        shared,
+        end,
+        cursor,
+        turn,
+    )
 }

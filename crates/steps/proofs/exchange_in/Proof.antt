@@ -1,6 +1,6 @@
--- Each arm is what its function ensures; modes 0 and 3 find the semaphore free; from mode 5 on a core is stopped. Assumes nothing.
+-- Each arm is what its function ensures; from mode 5 on a core is stopped. Assumes nothing.
 use native.Mathlib.Omega.{arith}
-use Rattle.steps.proofs.Does.{does-write-acquired, does-stopped, free-0, free-3, does-free}
+use Rattle.steps.proofs.Does.{begins-writing, does-stopped}
 use borrow.Author.Needs.{needs}
 use Rattle.steps.proofs.exchange_in.Statement.{statement}
 use Rattle.steps.proofs.exchange_in.Tie as tie
@@ -14,11 +14,14 @@ read-byte-requires c κs = (c .before .before .before .before .before .before .b
 write-byte-requires : tie.Need-write-byte-requires
 write-byte-requires c κs = (c .before .before .before .before .before .before .before .pre .0, c .before .before .match .keys4, c .before .before .before .before .before .before .before .pre .2, c .before .before .before .before .before .before .before .pre .3 .writing (c .before .before .match .keys4), c .before .before .before .before .before .before .before .pre .4)
 
+begin-writing-requires : tie.Need-begin-writing-requires
+begin-writing-requires c κs = search needs
+
 same-length : tie.Need-same-length
 same-length c = search needs
 
 returns : tie.Need-returns
-returns c = ((λ h z. does-free _ _ _ _ _ h _ _ _ (free-0 _ h (c .before .before .before .before .match .keys1) z) (c .before .before .begin-reading .ensures .0 _)), c .before .before .begin-reading .ensures .1)
+returns c = c .before .before .begin-reading .ensures _
 
 same-length-2 : tie.Need-same-length-2
 same-length-2 c = search needs
@@ -27,10 +30,10 @@ same-length-3 : tie.Need-same-length-3
 same-length-3 c = search needs
 
 returns-2 : tie.Need-returns-2
-returns-2 c = c .before .before .read-byte .ensures
+returns-2 c = c .before .before .read-byte .ensures _
 
 returns-3 : tie.Need-returns-3
-returns-3 c = ((λ h z. does-free _ _ _ _ _ h _ _ _ (free-3 _ h (c .match .keys3) z) (does-write-acquired _ _ _ _ _ (c .match .keys3))), tt)
+returns-3 c = begins-writing _ _ _ _ _ _ _ _ (c .begin-writing .ensures) (c .before .match .keys3)
 
 same-length-4 : tie.Need-same-length-4
 same-length-4 c = search needs
@@ -39,7 +42,7 @@ same-length-5 : tie.Need-same-length-5
 same-length-5 c = search needs
 
 returns-4 : tie.Need-returns-4
-returns-4 c = c .before .before .write-byte .ensures
+returns-4 c = c .before .before .write-byte .ensures _
 
 returns-5 : tie.Need-returns-5
 returns-5 c = ((λ h z. does-stopped _ _ _ _ _ h (omega (arith, c .before .before .before .before .before .pre .1, c .match .rest .1, c .match .rest .0 .1, c .match .rest .0 .0 .1, c .match .rest .0 .0 .0 .1))), tt)
@@ -50,6 +53,7 @@ exchange-in-spec =
     (tie.spec
     begin-reading-requires
     read-byte-requires
+    begin-writing-requires
     write-byte-requires
     same-length
     returns

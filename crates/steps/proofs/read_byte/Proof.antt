@@ -9,7 +9,7 @@ cast-x : tie.Need-cast-x
 cast-x c = search needs
 
 returns : tie.Need-returns
-returns c = ((λ h z. read-none (c .before .before .before .before .before .before .before .pre .0) _ h (c .before .before .before .before .before .before .before .pre .1) (c .if1 .taken)), tt)
+returns c = λ b. ((λ h z. read-none (c .before .before .before .before .before .before .before .pre .0) _ h (c .before .before .before .before .before .before .before .pre .1) (c .if1 .taken)), tt)
 
 bring-requires : tie.Need-bring-requires
 bring-requires c κs = (c .before .before .before .before .before .before .before .before .pre .0 .accepted .laid, c .before .before .before .before .before .before .before .before .pre .0 .known, c .before .before .before .before .before .before .before .before .pre .3, reads-left (c .before .before .before .before .before .before .before .before .pre .0) (c .before .if1 .left), c .before .before .before .before .before .before .before .before .pre .0 .fit .size, c .before .before .before .before .before .before .before .before .pre .2)
@@ -21,7 +21,7 @@ same-length : tie.Need-same-length
 same-length c = search needs
 
 returns-2 : tie.Need-returns-2
-returns-2 c = ((λ h z. read-last (c .before .before .before .before .before .before .before .before .before .before .before .before .before .pre .0) _ h _ (c .before .before .before .before .before .before .before .before .before .before .before .before .before .pre .1) (c .if2 .taken) (c .before .before .before .before .bring .ensures)), tt)
+returns-2 c = λ b. ((λ h z. read-last (c .before .before .before .before .before .before .before .before .before .before .before .before .before .pre .0) _ h _ (c .before .before .before .before .before .before .before .before .before .before .before .before .before .pre .1) (c .if2 .taken) (c .before .before .before .before .bring .ensures)), tt)
 
 add-onward : tie.Need-add-onward
 add-onward c = search needs
@@ -33,7 +33,7 @@ same-length-2 : tie.Need-same-length-2
 same-length-2 c = search needs
 
 returns-3 : tie.Need-returns-3
-returns-3 c = ((λ h z. read-more (c .before .before .before .before .before .before .before .before .before .before .before .before .before .before .pre .0) _ h _ (c .before .before .before .before .before .before .before .before .before .before .before .before .before .before .pre .1) (c .before .if2 .left) (c .before .before .before .before .before .bring .ensures)), (c .before .before .before .before .before .before .before .before .before .before .before .before .before .before .pre .1, c .onward .ensures))
+returns-3 c = λ b. ((λ h z. read-more (c .before .before .before .before .before .before .before .before .before .before .before .before .before .before .pre .0) _ h _ (c .before .before .before .before .before .before .before .before .before .before .before .before .before .before .pre .1) (c .before .if2 .left) (c .before .before .before .before .before .bring .ensures)), (c .before .before .before .before .before .before .before .before .before .before .before .before .before .before .pre .1, c .onward .ensures))
 
 pub read-byte-spec : {M : Type 1} → statement M
 read-byte-spec =

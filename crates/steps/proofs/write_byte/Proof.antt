@@ -9,7 +9,7 @@ cast-x : tie.Need-cast-x
 cast-x c = search needs
 
 returns : tie.Need-returns
-returns c = ((λ h z. write-none (c .before .before .before .before .before .before .before .pre .0) _ h (c .before .before .before .before .before .before .before .pre .1) (c .if1 .taken)), tt)
+returns c = λ b. ((λ h z. write-none (c .before .before .before .before .before .before .before .pre .0) _ h (c .before .before .before .before .before .before .before .pre .1) (c .if1 .taken)), tt)
 
 publish-requires : tie.Need-publish-requires
 publish-requires c κs = (c .before .before .before .before .before .before .before .before .pre .0 .accepted .laid, c .before .before .before .before .before .before .before .before .pre .0 .known, c .before .before .before .before .before .before .before .before .pre .3, writes-left (c .before .before .before .before .before .before .before .before .pre .0) (c .before .if1 .left), c .before .before .before .before .before .before .before .before .pre .0 .fit .size, c .before .before .before .before .before .before .before .before .pre .2)
@@ -21,7 +21,7 @@ same-length : tie.Need-same-length
 same-length c = search needs
 
 returns-2 : tie.Need-returns-2
-returns-2 c = ((λ h z. write-last (c .before .before .before .before .before .before .before .before .before .before .before .before .before .pre .0) _ h _ (c .before .before .before .before .before .before .before .before .before .before .before .before .before .pre .1) (c .if2 .taken) (c .before .before .before .before .publish .ensures)), tt)
+returns-2 c = λ b. ((λ h z. write-last (c .before .before .before .before .before .before .before .before .before .before .before .before .before .pre .0) _ h _ (c .before .before .before .before .before .before .before .before .before .before .before .before .before .pre .1) (c .if2 .taken) (c .before .before .before .before .publish .ensures)), tt)
 
 onward-requires : tie.Need-onward-requires
 onward-requires c κs = (c .before .before .before .before .before .before .before .before .before .before .before .before .before .pre .0 .accepted .laid, c .before .before .before .before .before .before .before .before .before .before .before .before .before .pre .4, omega (arith, core-few (c .before .before .before .before .before .before .before .before .before .before .before .before .before .pre .0)), c .before .before .before .before .before .before .before .before .before .before .before .before .before .pre .3, writes-left (c .before .before .before .before .before .before .before .before .before .before .before .before .before .pre .0) (c .before .before .before .before .before .before .if1 .left))
@@ -30,7 +30,7 @@ same-length-2 : tie.Need-same-length-2
 same-length-2 c = search needs
 
 returns-3 : tie.Need-returns-3
-returns-3 c = ((λ h z. write-more (c .before .before .before .before .before .before .before .before .before .before .before .before .before .before .pre .0) _ h _ (c .before .before .before .before .before .before .before .before .before .before .before .before .before .before .pre .1) (c .before .if2 .left) (c .before .before .before .before .before .publish .ensures)), (c .before .before .before .before .before .before .before .before .before .before .before .before .before .before .pre .1, c .onward .ensures))
+returns-3 c = λ b. ((λ h z. write-more (c .before .before .before .before .before .before .before .before .before .before .before .before .before .before .pre .0) _ h _ (c .before .before .before .before .before .before .before .before .before .before .before .before .before .before .pre .1) (c .before .if2 .left) (c .before .before .before .before .before .publish .ensures)), (c .before .before .before .before .before .before .before .before .before .before .before .before .before .before .pre .1, c .onward .ensures))
 
 pub write-byte-spec : {M : Type 1} → statement M
 write-byte-spec =
