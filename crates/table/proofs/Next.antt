@@ -1,19 +1,21 @@
 -- `next-core`: what the answer on the next core says of steps. A fit state's semaphore is held only by a core in an exchange, which moves; so
--- where no core moves it is free, and none waits. In order: a core and its step; the first; none. Assumes nothing.
+-- where no core moves it is free, nobody stands in line, and none waits. In order: a core and its step; the first; none. Assumes nothing.
 use mathlib.Core.Path.{_≡_, refl, sym, ap, _∙_}
-use mathlib.Core.Logic.{inl, inr}
+use mathlib.Core.Logic.{_⊎_, inl, inr}
 use mathlib.Core.Bool.{Bool, true, false}
-use mathlib.Core.List.{List}
+use mathlib.Core.List.{List, [], _∷_}
 use Prim.Native.Nat.{ℕ, zero, suc, _≤_, _<_}
 use native.Mathlib.Omega.{arith}
-use borrow.Author.Tests.{ltb-true, ltb-false}
-use lib.Dec.{ltb, eqb}
+use borrow.Author.Tests.{ltb-true, ltb-false, lt-ltb, eq-eqb}
+use lib.Dec.{T, ltb}
 use lib.ListN.{length, getD}
-use Rattle.verdict.proofs.Verdict.{absurd-bool, both-not}
+use Rattle.verdict.proofs.Verdict.{absurd-bool, both-not, either-true}
+use Rattle.verdict.proofs.Truth.{tested}
 use Rattle.protocol.specs.State.{Core as Whole, State, absent, mode}
-use Rattle.protocol.specs.Step.{step}
+use Rattle.protocol.specs.Step.{inLine, turn, step}
 use Rattle.protocol.specs.Laws.{Holding}
 use Rattle.protocol.proofs.View.{at, inside}
+use Rattle.protocol.proofs.Fair.{line-here}
 use Rattle.records.specs.File.{cores}
 use Rattle.taskset.specs.Task.{sampleAt, samplesOf}
 use Rattle.taskset.specs.Trace.{recordCount}
@@ -23,8 +25,9 @@ use Rattle.states.specs.Fit.{Fit}
 use Rattle.states.specs.Task.{taskOf}
 use Rattle.states.specs.Machine.{none, coreIn, stateIn, stateOf}
 use Rattle.states.specs.declared.State.{State as Held}
+use Rattle.states.proofs.Line.{left-records}
 use Rattle.states.proofs.Executes.{executes}
-use Rattle.table.specs.Table.{canMoveIn, canMove, moves, roundFrom, nextMoving}
+use Rattle.table.specs.Table.{goesOn, canMoveIn, canMove, moves, roundFrom, nextMoving}
 use Rattle.table.specs.Next.{First, AtRest, DoneAt, Done, NextCore}
 use Rattle.table.specs.declared.Moving.the-variants.{Core, Nothing}
 use Rattle.table.proofs.Moves.{Seen, moving-changes, changing-moves, resting-stays, staying-rests, step-seen}
@@ -49,7 +52,7 @@ module _ (f t : List ℕ) (h : Held) (d sh : List ℕ) (ok : Set f t) (fit : Fit
   seen k l = rw (← samples-count k, ← registers-in k l) (step-seen (taskOf f t) k whole (executes f t ok .laws))
 
   -- the test by the mode
-  moves-in : (k : ℕ) → k < cores f → (m : ℕ) → mode (at whole k) ≡ m → moves f t h k ≡ canMoveIn m (whole .holder) (recordCount f t k) (at whole k .registers .cycles)
+  moves-in : (k : ℕ) → k < cores f → (m : ℕ) → mode (at whole k) ≡ m → moves f t h k ≡ canMoveIn m (goesOn (whole .semaphore) k) (recordCount f t k) (at whole k .registers .cycles)
   unfolding moves canMove stateIn
   moves-in k l m e = rw (← registers-in k l, e)
 
@@ -87,7 +90,7 @@ module _ (f t : List ℕ) (h : Held) (d sh : List ℕ) (ok : Set f t) (fit : Fit
         (λ e a b. let l = round-inside (cores f) given e g in staying-rests (seen (roundFrom (cores f) given e) l) (s (roundFrom (cores f) given e) l))
 
   -- where no step changes anything the semaphore is free: its holder, in an exchange, would move
-  free : AtRest (taskOf f t) (cores f) whole → (j : ℕ) → whole .holder ≡ j → j ≡ 0
+  free : AtRest (taskOf f t) (cores f) whole → (j : ℕ) → whole .semaphore .holder ≡ j → j ≡ 0
   free s zero e = refl
   free s (suc j) e = absurd (go (fit .held .holding j e))
     where
@@ -101,17 +104,43 @@ module _ (f t : List ℕ) (h : Held) (d sh : List ℕ) (ok : Set f t) (fit : Fit
       go (inl q) = let l = there 1 q (omega arith) in never l (moves-in j l 1 q)
       go (inr q) = let l = there 4 q (omega arith) in never l (moves-in j l 4 q)
 
+  -- and the line is empty: its first core would take it
+  nobody : AtRest (taskOf f t) (cores f) whole → (q : List ℕ) → whole .semaphore .line ≡ q → (k : ℕ) → T (inLine k q) → ⊥
+  nobody s [] e k i = i
+  nobody s (y ∷ ys) e k i = go (fit .line .modes y here)
+    where
+      here : T (inLine y (whole .semaphore .line))
+      here = rw e (line-here y ys)
+
+      low : y < cores f
+      low = rw (fit .table) at (fit .line .below y here)
+
+      never : moves f t h y ≡ true → ⊥
+      never q = absurd-bool (sym (staying-rests (seen y low) (s y low)) ∙ q)
+
+      goes : goesOn (whole .semaphore) y ≡ true
+      goes = rw (free s (whole .semaphore .holder) refl, e, eq-eqb y y refl)
+
+      go : (mode (at whole y) ≡ 0) ⊎ (mode (at whole y) ≡ 3) → ⊥
+      go (inl q) = never (moves-in y low 0 q ∙ rw (goes, lt-ltb _ _ (left-records f t y (at whole y .registers .cycles) (fit .line .records y here))))
+      go (inr q) = never (moves-in y low 3 q ∙ goes)
+
+  -- so whoever would have the semaphore takes it
+  go-on : AtRest (taskOf f t) (cores f) whole → (k : ℕ) → goesOn (whole .semaphore) k ≡ true
+  go-on s k = go (inLine k (whole .semaphore .line)) refl
+    where
+      go : (b : Bool) → inLine k (whole .semaphore .line) ≡ b → goesOn (whole .semaphore) k ≡ true
+      go true e = absurd (nobody s (whole .semaphore .line) refl k (tested _ e))
+      go false e = rw e (either-true (turn (whole .semaphore) k))
+
   rest-done : AtRest (taskOf f t) (cores f) whole → Done f t whole
   rest-done s k l = go (mode (at whole k)) refl
     where
       no : moves f t h k ≡ true → ⊥
       no q = absurd-bool (sym (staying-rests (seen k l) (s k l)) ∙ q)
 
-      no-holder : whole .holder ≡ 0
-      no-holder = free s (whole .holder) refl
-
       spent : mode (at whole k) ≡ 0 → (b : Bool) → ltb (at whole k .registers .cycles) (recordCount f t k) ≡ b → at whole k .registers .cycles ≡ recordCount f t k
-      spent e true q = absurd (no (moves-in k l 0 e ∙ rw (no-holder, q)))
+      spent e true q = absurd (no (moves-in k l 0 e ∙ rw (go-on s k, q)))
       spent e false q =
           let left : recordCount f t k ≤ at whole k .registers .cycles = ltb-false _ _ q in
           omega (arith, fit .each k l .cycles)
@@ -120,7 +149,7 @@ module _ (f t : List ℕ) (h : Held) (d sh : List ℕ) (ok : Set f t) (fit : Fit
       go zero e = inr (e, spent e _ refl)
       go (suc zero) e = absurd (no (moves-in k l 1 e))
       go (suc (suc zero)) e = absurd (no (moves-in k l 2 e))
-      go (suc (suc (suc zero))) e = absurd (no (moves-in k l 3 e ∙ rw no-holder))
+      go (suc (suc (suc zero))) e = absurd (no (moves-in k l 3 e ∙ go-on s k))
       go (suc (suc (suc (suc zero)))) e = absurd (no (moves-in k l 4 e))
       go (suc (suc (suc (suc (suc zero))))) e = inl e
       go (suc (suc (suc (suc (suc (suc m)))))) e = absurd (let z : ⊥ = omega (arith, fit .each k l .modes) in z)
@@ -132,7 +161,7 @@ module _ (f t : List ℕ) (h : Held) (d sh : List ℕ) (ok : Set f t) (fit : Fit
       go (inl e) = moves-in k l 5 e
       go (inr y) =
           moves-in k l 0 (y .0)
-          ∙ both-not (eqb (whole .holder) 0) (ltb (at whole k .registers .cycles) (recordCount f t k))
+          ∙ both-not (goesOn (whole .semaphore) k) (ltb (at whole k .registers .cycles) (recordCount f t k))
           (λ a b. let left : at whole k .registers .cycles < recordCount f t k = ltb-true _ _ b in omega (arith, y .1))
 
   -- ---- all of it

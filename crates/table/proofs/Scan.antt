@@ -7,6 +7,7 @@ use native.Mathlib.Omega.{arith}
 use lib.ListN.{getD}
 use Rattle.records.specs.File.{cores}
 use Rattle.taskset.specs.Trace.{recordCount}
+use Rattle.semaphore.specs.Line.{semaphoreOf}
 use Rattle.states.specs.Set.{Set}
 use Rattle.states.specs.Machine.{none}
 use Rattle.states.specs.Tasks.{coreTask, noTask, tasksOf}
@@ -26,7 +27,7 @@ module _ (f t : List ℕ) (s : State) (tasks : List CoreTask) (n given : ℕ) (p
   pub inside-four : (i : ℕ) → (given + i) % n < 4
   inside-four i = omega (arith, round-inside n given i (p .3), p .0 .few, p .2)
 
-  module _ (i : ℕ) (b : Bool) (w : Scanning f t s given i) (h : i ≤ n) (e : b ≡ canMove (s .semaphore .holder) (getD tasks ((given + i) % n) noTask .count) (getD (s .cores) ((given + i) % n) none)) where
+  module _ (i : ℕ) (b : Bool) (w : Scanning f t s given i) (h : i ≤ n) (e : b ≡ canMove (semaphoreOf (s .semaphore)) ((given + i) % n) (getD tasks ((given + i) % n) noTask .count) (getD (s .cores) ((given + i) % n) none)) where
     answered : b ≡ moves f t s (roundFrom (cores f) given i)
     unfolding moves coreTask
     answered =

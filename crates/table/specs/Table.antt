@@ -1,12 +1,15 @@
 -- Document 01, the core table: "the next core to move is the first after a given one, round the ring and that one last, whose step would
 -- change something". In order: whether a core can move, by its mode; the order round the ring; the first core that moves.
 use Prim.Native.Nat.{ℕ, zero, suc, _+_, _%_}
-use mathlib.Core.Bool.{Bool, true, false}
+use mathlib.Core.Bool.{Bool, true, false, not}
 use mathlib.Core.List.{List, [], _∷_}
-use lib.Dec.{ltb, eqb}
+use lib.Dec.{ltb}
 use lib.ListN.{getD}
-use Rattle.verdict.specs.Verdict.{pick, both}
+use Rattle.verdict.specs.Verdict.{pick, both, either}
 use Rattle.protocol.specs.declared.Registers.{Registers}
+use Rattle.protocol.specs.State.{Semaphore}
+use Rattle.protocol.specs.Step.{inLine, turn}
+use Rattle.semaphore.specs.Line.{semaphoreOf}
 use Rattle.records.specs.File.{cores}
 use Rattle.taskset.specs.Task.{listed}
 use Rattle.taskset.specs.Trace.{recordCount}
@@ -17,22 +20,26 @@ use Rattle.table.specs.declared.Moving.the-variants.{Core, Nothing}
 
 -- ---- a core
 
--- by the mode: in 0 while the semaphore is free and records are left, in 1, 2 and 4 always, in 3 while it is free, in 5 never
-abbrev pub canMoveIn : ℕ → ℕ → ℕ → ℕ → Bool
-canMoveIn zero holder count cycles = both (eqb holder 0) (ltb cycles count)
-canMoveIn (suc zero) holder count cycles = true
-canMoveIn (suc (suc zero)) holder count cycles = true
-canMoveIn (suc (suc (suc zero))) holder count cycles = eqb holder 0
-canMoveIn (suc (suc (suc (suc zero)))) holder count cycles = true
-canMoveIn (suc (suc (suc (suc (suc m))))) holder count cycles = false
+-- document 02, 2.4: a step of core k that would have the semaphore changes something if it is its turn, and also if it is not in line yet: joining is a change
+abbrev pub goesOn : Semaphore → ℕ → Bool
+goesOn m k = either (turn m k) (not (inLine k (m .line)))
 
--- a core with these registers and so many input records, at the semaphore's holder
-unfoldable pub canMove : ℕ → ℕ → Registers → Bool
-canMove holder count r = canMoveIn (r .mode) holder count (r .cycles)
+-- by the mode: in 0 where that is so and records are left, in 1, 2 and 4 always, in 3 where that is so, in 5 never
+abbrev pub canMoveIn : ℕ → Bool → ℕ → ℕ → Bool
+canMoveIn zero goes count cycles = both goes (ltb cycles count)
+canMoveIn (suc zero) goes count cycles = true
+canMoveIn (suc (suc zero)) goes count cycles = true
+canMoveIn (suc (suc (suc zero))) goes count cycles = goes
+canMoveIn (suc (suc (suc (suc zero)))) goes count cycles = true
+canMoveIn (suc (suc (suc (suc (suc m))))) goes count cycles = false
+
+-- core k with these registers and so many input records, at a semaphore
+unfoldable pub canMove : Semaphore → ℕ → ℕ → Registers → Bool
+canMove m k count r = canMoveIn (r .mode) (goesOn m k) count (r .cycles)
 
 -- core k of a state
 unfoldable pub moves : List ℕ → List ℕ → State → ℕ → Bool
-moves f t s k = canMove (s .semaphore .holder) (recordCount f t k) (getD (s .cores) k none)
+moves f t s k = canMove (semaphoreOf (s .semaphore)) k (recordCount f t k) (getD (s .cores) k none)
 
 -- ---- the table
 

@@ -4,8 +4,10 @@ ghost use Prim.Native.Nat.{_<_};
 ghost use Rattle.records.specs.File.{cores};
 ghost use Rattle.states.specs.Set.{Set};
 ghost use Rattle.states.specs.Tasks.{tasksOf};
-ghost use Rattle.table.specs.Table.{canMove, nextMoving};
+ghost use Rattle.semaphore.specs.Line.{semaphoreOf};
+ghost use Rattle.table.specs.Table.{goesOn, canMove, nextMoving};
 use protocol::Registers;
+use semaphore::Semaphore;
 use states::CoreTask;
 use states::State;
 
@@ -15,18 +17,28 @@ pub enum Moving {
     Nothing,
 }
 
-// A step of a core with these registers and so many input records would change something.
-pub fn can_move(count: usize, holder: u8, r: Registers) -> bool
-    ensures { λ ok. ⌜ ok ≡ canMove holder count r ⌝ }
+// A step of core k that would have the semaphore changes something: it is its turn, or it is not in line yet.
+fn goes_on(m: Semaphore, k: u8) -> bool
+    ensures { λ ok. ⌜ ok ≡ goesOn (semaphoreOf m) k ⌝ }
+{
+    if semaphore::turn(m, k) {
+        return true;
+    }
+    !semaphore::in_line(m, 0, k)
+}
+
+// A step of core k, with these registers and so many input records, would change something.
+pub fn can_move(count: usize, m: Semaphore, k: u8, r: Registers) -> bool
+    ensures { λ ok. ⌜ ok ≡ canMove (semaphoreOf m) k count r ⌝ }
 {
     if r.mode == protocol::BETWEEN {
-        if holder != 0 {
+        if count <= r.cycles as usize {
             return false;
         }
-        return (r.cycles as usize) < count;
+        return goes_on(m, k);
     }
     if r.mode == protocol::WAITING {
-        return holder == 0;
+        return goes_on(m, k);
     }
     r.mode < protocol::STOPPED
 }
@@ -43,10 +55,11 @@ pub fn next_moving(
     requires { ⌜ Set (now file) (now trace) × (tasks ≡ tasksOf (now file) (now trace)) × (n ≡ cores (now file)) × (given < n) ⌝ }
     ensures { λ r. ⌜ r ≡ nextMoving (now (file .entry)) (now (trace .entry)) s given ⌝ }
 {
+    let m = s.semaphore;
     let mut i: usize = 1;
     while i <= n {
         let k = (given as usize + i) % n;
-        if can_move(tasks[k].count, s.semaphore.holder, s.cores[k]) {
+        if can_move(tasks[k].count, m, k as u8, s.cores[k]) {
             return Moving::Core(k as u8);
         }
         i += 1;

@@ -1,29 +1,41 @@
 -- By the mode. Assumes nothing.
-use borrow.Author.Needs.{needs}
-use borrow.Author.Tests.{ne-eqb}
-use Rattle.table.specs.Table.{canMove}
+use mathlib.Core.Path.{_∙_}
+use mathlib.Core.Bool.{true, false}
+use borrow.Author.Tests.{lt-ltb, le-ltb}
+use Rattle.verdict.proofs.Truth.{both-swap}
+use Rattle.semaphore.specs.Line.{semaphoreOf}
+use Rattle.table.specs.Table.{goesOn, canMove}
 use Rattle.table.proofs.Moves.{other-modes}
+use borrow.Author.Needs.{needs}
 use Rattle.table.proofs.can_move.Statement.{statement}
 use Rattle.table.proofs.can_move.Tie as tie
 
+cast-if2 : tie.Need-cast-if2
+cast-if2 c = search needs
+
 returns : tie.Need-returns
 unfolding canMove
-returns c = rw (c .before .if1 .taken, ne-eqb _ _ (c .if2 .taken))
+returns c = rw (c .before .before .if1 .taken, le-ltb _ _ (c .if2 .taken)) (both-swap false (goesOn (semaphoreOf (c .before .before .before .before .args .m)) (c .before .before .before .before .args .k)))
 
-cast-result : tie.Need-cast-result
-cast-result c = search needs
+goes-on-requires : tie.Need-goes-on-requires
+goes-on-requires c κs = search needs
 
 returns-2 : tie.Need-returns-2
 unfolding canMove
-returns-2 c = rw (c .before .before .if1 .taken, c .before .if2 .left)
+returns-2 c = rw (c .before .before .before .if1 .taken, lt-ltb _ _ (c .before .if2 .left)) (c .goes-on .ensures ∙ both-swap true (goesOn (semaphoreOf (c .before .before .before .before .before .args .m)) (c .before .before .before .before .before .args .k)))
+
+goes-on-requires-2 : tie.Need-goes-on-requires-2
+goes-on-requires-2 c κs = search needs
 
 returns-3 : tie.Need-returns-3
 unfolding canMove
-returns-3 c = rw (c .if3 .taken)
+returns-3 c = rw (c .before .if3 .taken) (c .goes-on2 .ensures)
 
 returns-4 : tie.Need-returns-4
 unfolding canMove
 returns-4 c = other-modes _ _ _ _ (c .before .before .before .if1 .left) (c .before .if3 .left)
 
 pub can-move-spec : {M : Type 1} → statement M
-can-move-spec = tie.close (tie.spec returns cast-result returns-2 returns-3 returns-4)
+can-move-spec =
+    tie.close
+    (tie.spec cast-if2 returns goes-on-requires returns-2 goes-on-requires-2 returns-3 returns-4)
