@@ -1,12 +1,12 @@
 -- Steps that carry a run on: one law for each outcome of an instruction, and for the idle steps of cores that wait. In order: an instruction;
 -- a run hands its core over; waiting. Assumes nothing.
 use mathlib.Core.Path.{_≡_, refl, sym, ap, _∙_, subst, subst⁻¹}
-use mathlib.Core.Bool.{true}
+use mathlib.Core.Bool.{true, not}
 use mathlib.Core.Logic.{_≢_}
 use mathlib.Core.List.{List, []}
 use Prim.Native.Nat.{ℕ, zero, suc, _+_, _-_, _*_, _<_}
 use native.Mathlib.Omega.{arith}
-use borrow.Author.Tests.{ltb-true, eqb-true, lt-ltb, eq-eqb}
+use borrow.Author.Tests.{ltb-true, eqb-true, lt-ltb, eq-eqb, not-true}
 use lib.Dec.{ltb, eqb}
 use lib.ListN.{length, getD, set, length-set}
 use lib.Seq.{getD-set-same, set-set, set-getD}
@@ -16,7 +16,9 @@ use Rattle.protocol.specs.declared.Registers.{Registers}
 use Rattle.protocol.specs.declared.Outcome.{Outcome}
 use Rattle.protocol.specs.declared.Outcome.the-variants.{Fault as Failed, Next as Onward, Call as Calls, Return as Returns}
 use Rattle.protocol.specs.Registers.{advanced, called, returned, cycleEnded, faulted, pushed, popped}
-use Rattle.protocol.specs.State.{State}
+use Rattle.protocol.specs.State.{Semaphore, State}
+use Rattle.protocol.specs.Step.{inLine, turn}
+use Rattle.semaphore.specs.Line.{waitsAt}
 use Rattle.exchange.specs.declared.Cursor.{Cursor}
 use Rattle.records.specs.File.{cores}
 use Rattle.taskset.specs.Task.{sizesOf}
@@ -24,11 +26,11 @@ use Rattle.states.specs.Set.{Set}
 use Rattle.states.specs.declared.CoreTask.{CoreTask}
 use Rattle.states.specs.Tasks.{coreTask}
 use Rattle.states.specs.Machine.{none}
-use Rattle.steps.specs.Effects.{Idle, Fault, Next, Call, Return, CycleEnded, backAt, effectOf, waiting, Takes, Steps, InstructsIn}
+use Rattle.steps.specs.Effects.{Idle, Fault, Next, Call, Return, CycleEnded, backAt, effectOf, Takes, Steps, InstructsIn}
 use Rattle.steps.specs.Moving.{Ready}
 use Rattle.steps.proofs.Does.{does-wait}
 use Rattle.runner.specs.Running.{stepsOn, executingAt, Looping, Stands, Carries}
-use Rattle.runner.proofs.Loop.{ready, stays, plain-arm, stack-arm, after-advanced, after-called, after-returned, after-faulted, after-ended, returned-by}
+use Rattle.runner.proofs.Loop.{ready, stays, plain-arm, stack-arm, after-advanced, after-called, after-returned, after-faulted, after-ended, returned-by, in-line}
 
 -- ---- an instruction
 
@@ -98,12 +100,12 @@ module _ {f t order : List ℕ} (ok : Set f t) {i k : ℕ} (b : stepsOn order i 
   here : (cs : List Registers) → length (set cs k r) ≡ 4 → getD (set cs k r) k none ≡ r
   here cs l = getD-set-same cs k r none (omega (arith, ok .few, length-set cs k r))
 
-  does : (cs : List Registers) → length (set cs k r) ≡ 4 → (h : ℕ) (sh : List ℕ) → Steps f t k (getD (set cs k r) k none) d sh h (effectOf (r .depth) o) d′ sh
+  does : (cs : List Registers) → length (set cs k r) ≡ 4 → (h : Semaphore) (sh : List ℕ) → Steps f t k (getD (set cs k r) k none) d sh h (effectOf (r .depth) o) d′ sh
   does cs l h sh = subst (λ (u : Registers). Steps f t k u d sh h (effectOf (r .depth) o) d′ sh) (sym (here cs l)) (y h sh)
 
   -- what the registers can take
   pub takes-outcome : (o₁ : Outcome) → o ≡ o₁ → Takes r (effectOf (r .depth) o₁)
-  takes-outcome o₁ e = subst (λ (u : Outcome). Takes r (effectOf (r .depth) u)) e (y 0 [] .does .ready)
+  takes-outcome o₁ e = subst (λ (u : Outcome). Takes r (effectOf (r .depth) u)) e (y record { holder = 0; line = [] } [] .does .ready)
 
   pub ended-takes : o ≡ Returns → r .depth ≡ 0 → r .count < 65535
   ended-takes e z = subst (Takes r) (ap backAt z) (takes-outcome Returns e)
@@ -167,7 +169,7 @@ pub steps-on : (order : List ℕ) (i k : ℕ) → i < length order → k ≡ get
 steps-on order i k b e = rw (lt-ltb i (length order) b, eq-eqb (getD order i 0) k (sym e))
 
 pub stands : {f t : List ℕ} {order list₀ : List ℕ} {s₀ : State} {cs₀ : List Registers} {places₀ offsets₀ : List ℕ}
-    {i : ℕ} {cs : List Registers} {places offsets : List ℕ} {h taken : ℕ} {d sh list : List ℕ} {cursor : Cursor} {k : ℕ} → Set f t
+    {i : ℕ} {cs : List Registers} {places offsets : List ℕ} {h : Semaphore} {taken : ℕ} {d sh list : List ℕ} {cursor : Cursor} {k : ℕ} → Set f t
     → Looping f t order list₀ s₀ cs₀ places₀ offsets₀ i cs places offsets h taken d sh list cursor → k < cores f → Stands f t order i k (getD cs k none) places offsets d
 stands {list₀ = list₀} {s₀ = s₀} {cs₀ = cs₀} {places₀ = places₀} {offsets₀ = offsets₀} {cs = cs} {h = h} {taken = taken} {sh = sh} {list = list} {cursor = cursor} ok w ik = record {
   accepted = ok;
@@ -190,7 +192,7 @@ stands {list₀ = list₀} {s₀ = s₀} {cs₀ = cs₀} {places₀ = places₀}
 -- ---- waiting
 
 -- the steps from i to before i′ change nothing
-abbrev pub Idles : List ℕ → List ℕ → List ℕ → List Registers → List ℕ → List ℕ → ℕ → ℕ → List ℕ → List ℕ → List ℕ → Cursor → ℕ → ℕ → Type 0
+abbrev pub Idles : List ℕ → List ℕ → List ℕ → List Registers → List ℕ → List ℕ → Semaphore → ℕ → List ℕ → List ℕ → List ℕ → Cursor → ℕ → ℕ → Type 0
 Idles f t order cs places offsets h taken d sh list cursor i i′ =
     (list₀ : List ℕ) (s₀ : State) (cs₀ : List Registers) (places₀ offsets₀ : List ℕ)
     → Looping f t order list₀ s₀ cs₀ places₀ offsets₀ i cs places offsets h taken d sh list cursor
@@ -198,10 +200,11 @@ Idles f t order cs places offsets h taken d sh list cursor i i′ =
 
 -- the step of a core that waits changes nothing
 pub idle : {f t : List ℕ} {order list₀ : List ℕ} {s₀ : State} {cs₀ : List Registers} {places₀ offsets₀ : List ℕ}
-    {i : ℕ} {cs : List Registers} {places offsets : List ℕ} {h taken : ℕ} {d sh list : List ℕ} {cursor : Cursor} → Set f t
+    {i : ℕ} {cs : List Registers} {places offsets : List ℕ} {h : Semaphore} {taken : ℕ} {d sh list : List ℕ} {cursor : Cursor} → Set f t
     → Looping f t order list₀ s₀ cs₀ places₀ offsets₀ i cs places offsets h taken d sh list cursor → i < length order → {k : ℕ} → k ≡ getD order i 0 → k < cores f
-    → waiting (getD cs k none .mode) h ≡ true → Looping f t order list₀ s₀ cs₀ places₀ offsets₀ (i + 1) cs places offsets h taken d sh list cursor
-idle {f} {cs = cs} {d = d} ok w b {k} e ik z =
+    → waitsAt h k ≡ true → Looping f t order list₀ s₀ cs₀ places₀ offsets₀ (i + 1) cs places offsets h taken d sh list cursor
+idle {f} {cs = cs} {h = h} {d = d} ok w b {k} e ik z =
+    let a = both-true (inLine k (h .line)) (not (turn h k)) z in
     plain-arm w ok b e ik
-    record { memory = getD (split (sizesOf f) d) k []; does = does-wait _ _ _ _ _ _ z; kept = sym (set-getD (split (sizesOf f) d) k []) }
+    record { memory = getD (split (sizesOf f) d) k []; does = does-wait _ _ _ _ _ _ (a .0) (not-true _ (a .1)) (in-line w ik (a .0)); kept = sym (set-getD (split (sizesOf f) d) k []) }
     refl Idle refl refl refl refl refl (sym (set-getD cs k none)) refl refl refl (stays (λ a. a) refl) refl

@@ -16,8 +16,11 @@ use Rattle.memory.specs.Memory.{splice, part, split, flat, total}
 use Rattle.memory.proofs.Cores.{length-split, flat-split}
 use Rattle.protocol.specs.declared.Registers.{Registers}
 use Rattle.protocol.specs.declared.Stack.{Stack}
-use Rattle.protocol.specs.State.{Core, State, core}
+use Rattle.protocol.specs.State.{Core, Semaphore, State, core}
 use Rattle.protocol.specs.Step.{run, takings, encoded, orderList}
+use Rattle.semaphore.specs.declared.Semaphore.{Semaphore as HeldSemaphore}
+use Rattle.semaphore.specs.declared.Line.{Line}
+use Rattle.semaphore.specs.Line.{semaphoreOf, semaphoreBack, lineOf, Lined}
 use Rattle.exchange.specs.declared.Cursor.{Cursor}
 use Rattle.records.specs.File.{cores, dataSize}
 use Rattle.taskset.specs.Task.{listed, sizesOf}
@@ -30,7 +33,7 @@ use Rattle.runner.specs.Runs.{left, ranCall}
 use Rattle.runner.specs.Going.{Going}
 use Rattle.runner.specs.Running.{Running, Looping}
 use Rattle.runner.proofs.Loop.{part-entry}
-use Rattle.runner.proofs.Running.{core-in, shared-in, holder-in}
+use Rattle.runner.proofs.Running.{core-in, shared-in, semaphore-in}
 
 -- ---- lists by their items
 
@@ -55,13 +58,13 @@ length-sizes f = length-listed (dataSize f) (cores f) 0
 
 -- ---- the data buffer
 
-pub data-back : (f : List ℕ) (cs : List Registers) (places offsets : List ℕ) (h : ℕ) (d sh : List ℕ) → length d ≡ total (sizesOf f) → dataOf (stateIn f cs places offsets h d sh) ≡ d
+pub data-back : (f : List ℕ) (cs : List Registers) (places offsets : List ℕ) (h : Semaphore) (d sh : List ℕ) → length d ≡ total (sizesOf f) → dataOf (stateIn f cs places offsets h d sh) ≡ d
 unfolding dataOf stateIn
 data-back f cs places offsets h d sh e =
     ap flat (memories (coreIn f cs places offsets d) (cores f) 0 ∙ listed-is (λ k. getD (split (sizesOf f) d) k []) (cores f) (split (sizesOf f) d) [] (length-split (sizesOf f) d ∙ length-sizes f) (λ k j. refl))
     ∙ flat-split (sizesOf f) d (sym e)
 
-module _ (f t : List ℕ) (order list₀ : List ℕ) (s₀ : State) (s : Held) (i : ℕ) (cs : List Registers) (places offsets : List ℕ) (h taken : ℕ) (d sh list : List ℕ)
+module _ (f t : List ℕ) (order list₀ : List ℕ) (s₀ : State) (s : Held) (i : ℕ) (cs : List Registers) (places offsets : List ℕ) (h : Semaphore) (taken : ℕ) (d sh list : List ℕ)
     (w : Running f t order list₀ s₀ (s .cores) (s .places) (s .offsets) i cs places offsets h taken d sh list) where
   -- ---- the table
 
@@ -90,17 +93,17 @@ module _ (f t : List ℕ) (order list₀ : List ℕ) (s₀ : State) (s : Held) (
       go false e =
           sym (here old) ∙ ap (λ (m : List ℕ). getD m (n % 16) 0) (sym (b (n / 16)) ∙ ap field (sym (w .spare (n / 16) (ltb-false (n / 16) (cores f) e) .1)) ∙ a (n / 16)) ∙ here l
 
-  held-back : heldAfter (cores f) s (stateIn f cs places offsets h d sh) ≡ record { count = s .count; semaphore = record { holder = h }; cores = cs; places = places; offsets = offsets }
+  held-back : (m : HeldSemaphore) → m ≡ semaphoreBack h → heldAfter (cores f) s (stateIn f cs places offsets h d sh) ≡ record { count = s .count; semaphore = m; cores = cs; places = places; offsets = offsets }
   unfolding heldAfter
-  held-back = same
-      (holder-in f cs places offsets h d sh)
+  held-back m e = same
+      (ap semaphoreBack (semaphore-in f cs places offsets h d sh) ∙ sym e)
       (listed-is _ 4 cs none (w .four) registers-back)
       (listed-is _ 64 places 0 (w .entries .0) (entry-back (λ k. k .places) places (s .places) (λ k. refl) (λ k. refl)))
       (listed-is _ 64 offsets 0 (w .entries .1) (entry-back (λ k. k .offsets) offsets (s .offsets) (λ k. refl) (λ k. refl)))
     where
-      same : {a a′ : ℕ} {b b′ : List Registers} {p p′ q q′ : List ℕ} → a ≡ a′ → b ≡ b′ → p ≡ p′ → q ≡ q′
-          → _≡_ {A = Held} record { count = s .count; semaphore = record { holder = a }; cores = b; places = p; offsets = q } record { count = s .count; semaphore = record { holder = a′ }; cores = b′; places = p′; offsets = q′ }
-      same u v x y = λ z. record { count = s .count; semaphore = record { holder = u z }; cores = v z; places = x z; offsets = y z }
+      same : {a a′ : HeldSemaphore} {b b′ : List Registers} {p p′ q q′ : List ℕ} → a ≡ a′ → b ≡ b′ → p ≡ p′ → q ≡ q′
+          → _≡_ {A = Held} record { count = s .count; semaphore = a; cores = b; places = p; offsets = q } record { count = s .count; semaphore = a′; cores = b′; places = p′; offsets = q′ }
+      same u v x y = λ z. record { count = s .count; semaphore = u z; cores = v z; places = x z; offsets = y z }
 
 -- ---- the end
 
@@ -108,13 +111,14 @@ drop-done : (l : List ℕ) (i : ℕ) → length l ≤ i → i ≤ length l → d
 drop-done l i h k = let e : i ≡ length l = omega arith in rw (e, drop-length)
 
 pub looping-end : {f t : List ℕ} {tasks : List CoreTask} {first end : ℕ} {order : List ℕ} {s : Held} {aim : Cursor} {d₀ sh₀ list₀ : List ℕ}
-    {i : ℕ} {cs : List Registers} {places offsets : List ℕ} {h taken : ℕ} {d sh list : List ℕ} {cursor : Cursor}
+    {i : ℕ} {cs : List Registers} {places offsets : List ℕ} {x : Line} {taken : ℕ} {d sh list : List ℕ} {cursor : Cursor}
     → Going f t tasks first end order s aim d₀ sh₀ list₀
-    → Looping f t order list₀ (stateOf f s d₀ sh₀) (s .cores) (s .places) (s .offsets) i cs places offsets h taken d sh list cursor → length order ≤ i
-    → left (record { refusal = 0; taken = taken; state = record { count = s .count; semaphore = record { holder = h }; cores = cs; places = places; offsets = offsets } }) d sh list
+    → Looping f t order list₀ (stateOf f s d₀ sh₀) (s .cores) (s .places) (s .offsets) i cs places offsets (semaphoreOf (x .semaphore)) taken d sh list cursor → Lined x → length order ≤ i
+    → left (record { refusal = 0; taken = taken; state = record { count = s .count; semaphore = x .semaphore; cores = cs; places = places; offsets = offsets } }) d sh list
     ≡ ranCall f t s d₀ sh₀ order list₀
-unfolding ranCall splice
-looping-end {f} {t} {order = order} {s = s} {d₀ = d₀} {sh₀ = sh₀} {list₀ = list₀} {i = i} {cs = cs} {places = places} {offsets = offsets} {h = h} {taken = taken} {d = d} {sh = sh} {list = list} g w b =
+unfolding ranCall splice lineOf
+looping-end {f} {t} {order = order} {s = s} {d₀ = d₀} {sh₀ = sh₀} {list₀ = list₀} {i = i} {cs = cs} {places = places} {offsets = offsets} {x = x} {taken = taken} {d = d} {sh = sh} {list = list} g w l b =
+    let h : Semaphore = semaphoreOf (x .semaphore) in
     let none-left : drop i order ≡ [] = drop-done order i b (w .running .within) in
     let ends : stateIn f cs places offsets h d sh ≡ run (taskOf f t) order (stateOf f s d₀ sh₀) =
     ap (λ (ks : List ℕ). run (taskOf f t) ks (stateIn f cs places offsets h d sh)) (sym none-left) ∙ w .running .rest in
@@ -124,7 +128,7 @@ looping-end {f} {t} {order = order} {s = s} {d₀ = d₀} {sh₀ = sh₀} {list�
     sym (add-zero taken) ∙ ap (λ (ks : List ℕ). taken + length (takings (taskOf f t) ks (stateIn f cs places offsets h d sh))) (sym none-left) ∙ w .running .counted
     ∙ sym (length-map (takings (taskOf f t) order (stateOf f s d₀ sh₀)) encoded) in
     same counted
-    (sym (held-back f t order list₀ (stateOf f s d₀ sh₀) s i cs places offsets h taken d sh list (w .running)) ∙ ap (heldAfter (cores f) s) ends)
+    (sym (held-back f t order list₀ (stateOf f s d₀ sh₀) s i cs places offsets h taken d sh list (w .running) (x .semaphore) (ap (λ (y : Line). y .semaphore) l)) ∙ ap (heldAfter (cores f) s) ends)
     (sym (data-back f cs places offsets h d sh (w .running .buffer)) ∙ ap dataOf ends)
     (sym (shared-in f cs places offsets h d sh) ∙ ap (λ (x : State). x .plant .shared) ends)
     wrote

@@ -1,4 +1,5 @@
 pub mod Running
 pub mod Loop
+pub mod Arms
 pub mod End
 pub mod Carrying

@@ -1,22 +1,32 @@
--- The loop of a run: what its calls ask, and what each of its arms leaves. In order: the start; a step's requirements; the cursor; an arm.
+-- The loop of a run: what its calls ask, and what each of its arms leaves. In order: the line; the start; a step's requirements; the
+-- cursor; an arm.
 -- Assumes nothing.
 use mathlib.Core.Path.{_≡_, refl, sym, ap, ap₂, _∙_, subst}
 use mathlib.Core.Logic.{_≢_, _⊎_, inl, inr}
+use mathlib.Core.Bool.{Bool, true, false, not}
 use mathlib.Core.List.{List, [], _∷_, map}
 use Prim.Native.Nat.{ℕ, suc, _+_, _-_, _*_, _≤_, _<_}
 use native.Mathlib.Nat.{add-zero, zero-add}
 use native.Mathlib.Decide.{ℕ-discrete, decLe}
 use native.Mathlib.Omega.{arith}
+use lib.Dec.{T}
 use lib.ListN.{length, getD, set, take, drop, length-set}
 use lib.Seq.{getD-set-same, getD-set-other, getD-take, getD-drop, drop-set-add, drop-set-lt, take-set-lt}
+use Rattle.verdict.specs.Verdict.{both}
+use Rattle.verdict.proofs.Truth.{tested}
 use Rattle.memory.specs.Memory.{splice, part, split}
 use Rattle.memory.proofs.Laws.{take-set-part}
 use Rattle.protocol.specs.Registers.{readAcquired, byteCopied, writeAcquired, advanced, called, returned, cycleEnded, faulted}
 use Rattle.exchange.specs.Exchange.{At}
 use Rattle.protocol.specs.declared.Registers.{Registers}
 use Rattle.protocol.specs.declared.Stack.{Stack}
-use Rattle.protocol.specs.State.{Core, State, core, mode}
-use Rattle.protocol.specs.Step.{Taking, takings, encoded}
+use Rattle.protocol.specs.State.{Core, Semaphore, State, core, mode}
+use Rattle.protocol.specs.Step.{inLine, turn, Taking, takings, encoded}
+use Rattle.protocol.specs.Fair.{Once, FitLine}
+use Rattle.protocol.proofs.Fair.{line-cases, few-below}
+use Rattle.semaphore.specs.declared.Line.{Line}
+use Rattle.semaphore.specs.Line.{semaphoreOf, waitsAt, lineOf, Lined}
+use Rattle.semaphore.proofs.Laws.{Becomes, becomes}
 use Rattle.exchange.specs.declared.Cursor.{Cursor}
 use Rattle.records.specs.File.{cores}
 use Rattle.taskset.specs.Task.{sizesOf}
@@ -25,48 +35,72 @@ use Rattle.states.specs.declared.CoreTask.{CoreTask}
 use Rattle.states.specs.Task.{taskOf}
 use Rattle.states.specs.Tasks.{coreTask, noTask}
 use Rattle.states.specs.Machine.{none, stackIn, coreIn, stateIn, stateOf}
-use Rattle.states.specs.Fit.{FitCore}
+use Rattle.states.specs.Fit.{FitCore, Fit}
 use Rattle.states.proofs.Executes.{executes}
-use Rattle.steps.specs.Effects.{Effect, registersBy, stackBy, holderBy, takenBy, Takes, More, Steps}
+use Rattle.steps.specs.Effects.{Effect, registersBy, stackBy, semaphoreBy, takenBy, Takes, More, Steps}
 use Rattle.steps.specs.declared.Exchange.{Exchange}
-use Rattle.steps.specs.declared.Exchange.the-variants.{ReadOn, WriteOn}
+use Rattle.steps.specs.declared.Exchange.the-variants.{Joins, ReadBegun, ReadOn, WriteBegun, WriteOn}
 use Rattle.steps.specs.Moving.{Aimed, Ready, Moving}
 use Rattle.runner.specs.Going.{Going}
 use Rattle.runner.specs.Running.{Looping}
 use Rattle.states.specs.Set.{Set}
-use Rattle.runner.proofs.Running.{core-in, shared-in, holder-in, running-on}
+use Rattle.runner.proofs.Running.{core-in, shared-in, semaphore-in, running-on}
 
 -- entry j of sixteen from place p on
 pub part-entry : (l : List ℕ) (p j : ℕ) → j < 16 → getD (part l p 16) j 0 ≡ getD l (p + j) 0
 unfolding part
 part-entry l p j h = rw (getD-take, getD-drop)
 
+-- ---- the line of a fit state
+
+module _ {f t : List ℕ} {s : State} {h : Semaphore} (ok : Set f t) (fit : Fit f t s) (e : s .semaphore ≡ h) where
+  line-fit : FitLine (taskOf f t) record { plant = s .plant; semaphore = h }
+  line-fit = subst (λ (m : Semaphore). FitLine (taskOf f t) record { plant = s .plant; semaphore = m }) e (fit .line)
+
+  low : (j : ℕ) → T (inLine j (h .line)) → j < cores f
+  low j g = rw (fit .table) at (line-fit .below j g)
+
+  pub line-few : length (h .line) ≤ 4
+  line-few = omega (arith, ok .few, few-below (cores f) (h .line) (line-fit .once) low)
+
+  -- a core that is not in line finds an entry for it
+  pub line-room : (k : ℕ) → k < cores f → inLine k (h .line) ≡ false → length (h .line) < 4
+  line-room k i out = omega (arith, ok .few, few-below (cores f) (k ∷ h .line) (out, line-fit .once) (λ j g. either-low j (line-cases j k (h .line) g)))
+    where
+      either-low : (j : ℕ) → (k ≡ j) ⊎ T (inLine j (h .line)) → j < cores f
+      either-low j (inl q) = rw (← q) i
+      either-low j (inr g) = low j g
+
 -- ---- the start
 
 pub looping-start : {f t : List ℕ} {tasks : List CoreTask} {first end : ℕ} {order : List ℕ} {s : Held} {cursor : Cursor} {d sh list : List ℕ} {cs : List Registers} {places offsets : List ℕ}
     → Going f t tasks first end order s cursor d sh list → (cs ≡ s .cores) × (length cs ≡ 4) → (places ≡ s .places) × (length places ≡ 64) → (offsets ≡ s .offsets) × (length offsets ≡ 64)
-    → Looping f t order list (stateOf f s d sh) (s .cores) (s .places) (s .offsets) 0 cs places offsets (s .semaphore .holder) 0 d sh list cursor
-looping-start {f} {t} {tasks} {first} {end} {order} {s} {cursor} {d} {sh} {list} {cs} {places} {offsets} g a b e =
-    rw (a .0, b .0, e .0) record {
-      running = record {
-        within = omega arith;
-        rest = refl;
-        listed = refl;
-        counted = zero-add (length (takings (taskOf f t) order (stateOf f s d sh)));
-        room = omega arith;
-        fit = g .fit;
-        four = sym (ap length (a .0)) ∙ a .1;
-        entries = (sym (ap length (b .0)) ∙ b .1, sym (ap length (e .0)) ∙ e .1);
-        buffer = g .buffer;
-        list-length = refl;
-        spare = λ j h. (refl, refl);
-      };
-      aimed = g .aimed;
-    }
+    → {x : Line} → x ≡ lineOf (semaphoreOf (s .semaphore))
+    → Looping f t order list (stateOf f s d sh) (s .cores) (s .places) (s .offsets) 0 cs places offsets (semaphoreOf (x .semaphore)) 0 d sh list cursor × Lined x
+looping-start {f} {t} {tasks} {first} {end} {order} {s} {cursor} {d} {sh} {list} {cs} {places} {offsets} g a b e {x} q =
+    let y : Becomes x (semaphoreOf (s .semaphore)) = becomes x (semaphoreOf (s .semaphore)) q (line-few (g .accepted) (g .fit) (semaphore-in f (s .cores) (s .places) (s .offsets) (semaphoreOf (s .semaphore)) d sh)) in (
+      rw (y .is, a .0, b .0, e .0) record {
+        running = record {
+          within = omega arith;
+          rest = refl;
+          listed = refl;
+          counted = zero-add (length (takings (taskOf f t) order (stateOf f s d sh)));
+          room = omega arith;
+          fit = g .fit;
+          four = sym (ap length (a .0)) ∙ a .1;
+          entries = (sym (ap length (b .0)) ∙ b .1, sym (ap length (e .0)) ∙ e .1);
+          buffer = g .buffer;
+          list-length = refl;
+          spare = λ j h. (refl, refl);
+        };
+        aimed = g .aimed;
+      },
+      y .lined,
+    )
 
 -- ---- what a step requires
 
-pub ready : {f t : List ℕ} {order list₀ : List ℕ} {s₀ : State} {cs₀ : List Registers} {places₀ offsets₀ : List ℕ} {i : ℕ} {cs : List Registers} {places offsets : List ℕ} {h taken : ℕ} {d sh list : List ℕ} {cursor : Cursor} {k : ℕ} {c : CoreTask}
+pub ready : {f t : List ℕ} {order list₀ : List ℕ} {s₀ : State} {cs₀ : List Registers} {places₀ offsets₀ : List ℕ} {i : ℕ} {cs : List Registers} {places offsets : List ℕ} {h : Semaphore} {taken : ℕ} {d sh list : List ℕ} {cursor : Cursor} {k : ℕ} {c : CoreTask}
     → Set f t → c ≡ coreTask f t k → Looping f t order list₀ s₀ cs₀ places₀ offsets₀ i cs places offsets h taken d sh list cursor → k < cores f
     → Ready f t k c (getD cs k none) (getD (split (sizesOf f) d) k [])
 ready {f} {t} {cs = cs} {places = places} {offsets = offsets} {h = h} {d = d} {sh = sh} {k = k} ok e w i = record {
@@ -78,7 +112,7 @@ ready {f} {t} {cs = cs} {places = places} {offsets = offsets} {h = h} {d = d} {s
 }
 
 pub moving : {f t : List ℕ} {tasks : List CoreTask} {first end : ℕ} {order : List ℕ} {s : Held} {aim : Cursor} {d₀ sh₀ list₀ : List ℕ}
-    {s₀ : State} {cs₀ : List Registers} {places₀ offsets₀ : List ℕ} {i : ℕ} {cs : List Registers} {places offsets : List ℕ} {h taken : ℕ} {d sh list : List ℕ} {cursor : Cursor} {k : ℕ}
+    {s₀ : State} {cs₀ : List Registers} {places₀ offsets₀ : List ℕ} {i : ℕ} {cs : List Registers} {places offsets : List ℕ} {h : Semaphore} {taken : ℕ} {d sh list : List ℕ} {cursor : Cursor} {k : ℕ}
     → Going f t tasks first end order s aim d₀ sh₀ list₀ → Looping f t order list₀ s₀ cs₀ places₀ offsets₀ i cs places offsets h taken d sh list cursor → k < cores f
     → Moving f t k (getD tasks k noTask) (getD cs k none) d sh end cursor
 moving {f} {t} {cs = cs} {places = places} {offsets = offsets} {h = h} {d = d} {sh = sh} {cursor = cursor} {k = k} g w i = record {
@@ -95,19 +129,35 @@ moving {f} {t} {cs = cs} {places = places} {offsets = offsets} {h = h} {d = d} {
     here : core (stateIn f cs places offsets h d sh .plant) k ≡ coreIn f cs places offsets d k
     here = core-in f cs places offsets h d sh k i
 
-    mine : (mode (core (stateIn f cs places offsets h d sh .plant) k) ≡ 1) ⊎ (mode (core (stateIn f cs places offsets h d sh .plant) k) ≡ 4) → h ≡ suc k
-    mine e = sym (holder-in f cs places offsets h d sh) ∙ w .running .fit .held .held k e
+    mine : (mode (core (stateIn f cs places offsets h d sh .plant) k) ≡ 1) ⊎ (mode (core (stateIn f cs places offsets h d sh .plant) k) ≡ 4) → h .holder ≡ suc k
+    mine e = ap (λ (m : Semaphore). m .holder) (sym (semaphore-in f cs places offsets h d sh)) ∙ w .running .fit .held .held k e
 
 -- what the effect that a step answered lets the registers take
-pub takes-of : {f t : List ℕ} {k : ℕ} {r : Registers} {d sh : List ℕ} {h : ℕ} {z : Effect} {d′ sh′ : List ℕ} → Steps f t k r d sh h z d′ sh′ → (z₀ : Effect) → z ≡ z₀ → Takes r z₀
+pub takes-of : {f t : List ℕ} {k : ℕ} {r : Registers} {d sh : List ℕ} {h : Semaphore} {z : Effect} {d′ sh′ : List ℕ} → Steps f t k r d sh h z d′ sh′ → (z₀ : Effect) → z ≡ z₀ → Takes r z₀
 takes-of {r = r} y z₀ e = subst (Takes r) e (y .does .ready)
 
--- where a byte was copied and others are left
-pub read-on : (f : List ℕ) (k : ℕ) (r : Registers) {z : Exchange} {next : Cursor} → z ≡ ReadOn next → More f k r z → (r .mode ≡ 1) × At f (4 + k) (r .exchange + 1) next
-read-on f k r = subst (More f k r)
+-- what goes with an answer
+module _ (f : List ℕ) (k : ℕ) (r : Registers) (turns : Bool) {z : Exchange} where
+  -- where a byte was copied and others are left
+  pub read-on : {next : Cursor} → z ≡ ReadOn next → More f k r turns z → (r .mode ≡ 1) × At f (4 + k) (r .exchange + 1) next
+  read-on = subst (More f k r turns)
 
-pub write-on : (f : List ℕ) (k : ℕ) (r : Registers) {z : Exchange} {next : Cursor} → z ≡ WriteOn next → More f k r z → (r .mode ≡ 4) × At f k (r .exchange + 1) next
-write-on f k r = subst (More f k r)
+  pub write-on : {next : Cursor} → z ≡ WriteOn next → More f k r turns z → (r .mode ≡ 4) × At f k (r .exchange + 1) next
+  write-on = subst (More f k r turns)
+
+  -- out of its turn, or in it
+  pub joins-out : z ≡ Joins → More f k r turns z → turns ≡ false
+  joins-out = subst (More f k r turns)
+
+  pub reads-in : {time : ℕ} → z ≡ ReadBegun time → More f k r turns z → turns ≡ true
+  reads-in = subst (More f k r turns)
+
+  pub writes-in : z ≡ WriteBegun → More f k r turns z → turns ≡ true
+  writes-in = subst (More f k r turns)
+
+-- a run's semaphore that is not changed
+pub kept-line : {x y : Line} → Lined x → y ≡ x → Becomes y (semaphoreOf (x .semaphore))
+kept-line {x} {y} l e = record { is = ap (λ (u : Line). semaphoreOf (u .semaphore)) e; lined = subst Lined (sym e) l }
 
 -- ---- the cursor
 
@@ -227,13 +277,13 @@ module _ (places offsets : List ℕ) {places′ offsets′ : List ℕ} (k i v u 
   stack-other j n = same-stack (ap (λ (l : List ℕ). part l (16 * j) 16) pe ∙ part-other places k i v h j n) (ap (λ (l : List ℕ). part l (16 * j) 16) oe ∙ part-other offsets k i u h j n)
 
 module _ {f t : List ℕ} {order list₀ : List ℕ} {s₀ : State} {cs₀ : List Registers} {places₀ offsets₀ : List ℕ}
-    {i : ℕ} {cs : List Registers} {places offsets : List ℕ} {h taken : ℕ} {d sh list : List ℕ} {cursor : Cursor}
+    {i : ℕ} {cs : List Registers} {places offsets : List ℕ} {h : Semaphore} {taken : ℕ} {d sh list : List ℕ} {cursor : Cursor}
     (w : Looping f t order list₀ s₀ cs₀ places₀ offsets₀ i cs places offsets h taken d sh list cursor) where
-  after-aimed : {k h′ : ℕ} {r′ : Registers} {cursor′ : Cursor} → k < cores f → k < length cs → After f k h (getD cs k none) r′ cursor cursor′ h′
+  after-aimed : {k h′ : ℕ} {r′ : Registers} {cursor′ : Cursor} → k < cores f → k < length cs → After f k (h .holder) (getD cs k none) r′ cursor cursor′ h′
       → (j : ℕ) → j < cores f → h′ ≡ suc j → Aimed f j (getD (set cs k r′) j none) cursor′
   after-aimed {k} {h′} {r′} {cursor′} ik il (stays g q) =
-      aimed-on f cs k r′ h cursor′ il (λ e. g (w .aimed k ik e)) (λ j n l e. rw q (w .aimed j l e))
-  after-aimed {k} {h′} {r′} {cursor′} ik il (moves q g) = aimed-on f cs k r′ h cursor′ il (λ e. g) (λ j n l e. absurd (n (omega arith)))
+      aimed-on f cs k r′ (h .holder) cursor′ il (λ e. g (w .aimed k ik e)) (λ j n l e. rw q (w .aimed j l e))
+  after-aimed {k} {h′} {r′} {cursor′} ik il (moves q g) = aimed-on f cs k r′ (h .holder) cursor′ il (λ e. g) (λ j n l e. absurd (n (omega arith)))
   after-aimed {k} {h′} {r′} {cursor′} ik il (takes g) = aimed-on f cs k r′ (suc k) cursor′ il (λ e. g) (λ j n l e. absurd (n (omega arith)))
   after-aimed {k} {h′} {r′} {cursor′} ik il frees = λ j l e. absurd (omega arith)
 
@@ -245,7 +295,7 @@ module _ {f t : List ℕ} {order list₀ : List ℕ} {s₀ : State} {cs₀ : Lis
       → {cs′ : List Registers} {r′ : Registers} → cs′ ≡ set cs k r′ → r′ ≡ registersBy z₀ (coreIn f cs places offsets d k)
       → {places′ offsets′ : List ℕ} → stackIn places′ offsets′ k ≡ stackBy z₀ (coreIn f cs places offsets d k)
       → ((j : ℕ) → j ≢ k → stackIn places′ offsets′ j ≡ stackIn places offsets j) → (length places′ ≡ 64) × (length offsets′ ≡ 64)
-      → {h′ : ℕ} → h′ ≡ holderBy z₀ k h → {cursor′ : Cursor} → After f k h (getD cs k none) r′ cursor cursor′ (holderBy z₀ k h)
+      → {h′ : Semaphore} → h′ ≡ semaphoreBy z₀ k h → {cursor′ : Cursor} → After f k (h .holder) (getD cs k none) r′ cursor cursor′ (semaphoreBy z₀ k h .holder)
       → {list′ : List ℕ} → list′ ≡ splice list taken (map encoded (takenBy z₀ k)) → {taken′ : ℕ} → taken′ ≡ taken + length (takenBy z₀ k) → length (takenBy z₀ k) ≤ 1
       → Looping f t order list₀ s₀ cs₀ places₀ offsets₀ (i + 1) cs′ places′ offsets′ h′ taken′ d′ sh′ list′ cursor′
   arm g b {k} e ik {z} {d′} {sh′} y dl z₀ ze {cs′} {r′} ce re {places′} {offsets′} se so en {h′} he {cursor′} ae {list′} le {taken′} te one =
@@ -253,23 +303,44 @@ module _ {f t : List ℕ} {order list₀ : List ℕ} {s₀ : State} {cs₀ : Lis
       record {
         running = running-on f t g (executes f t g) order list₀ s₀ cs₀ places₀ offsets₀ i cs places offsets h taken d sh list (w .running)
             b k (sym e) ik (g .few) z₀ (y₀ .memory) sh′ cs′ places′ offsets′ h′ taken′ d′ list′ (y₀ .does)
-            record { registers = ce ∙ ap (set cs k) re; stack = se; stacks = so; holder = he; memory = y₀ .kept } le te one en dl;
-        aimed = λ j l q. subst (λ (u : List Registers). Aimed f j (getD u j none) cursor′) (sym ce) (after-aimed ik (rw (w .running .four) (omega (arith, g .few))) (subst (After f k h (getD cs k none) r′ cursor cursor′) (sym he) ae) j l q);
+            record { registers = ce ∙ ap (set cs k) re; stack = se; stacks = so; semaphore = he; memory = y₀ .kept } le te one en dl;
+        aimed = λ j l q. subst (λ (u : List Registers). Aimed f j (getD u j none) cursor′) (sym ce) (after-aimed ik (rw (w .running .four) (omega (arith, g .few))) (subst (After f k (h .holder) (getD cs k none) r′ cursor cursor′) (sym (ap (λ (m : Semaphore). m .holder) he)) ae) j l q);
       }
 
   -- a core in an exchange is the holder
-  pub holds : {k : ℕ} → k < cores f → (mode (coreIn f cs places offsets d k) ≡ 1) ⊎ (mode (coreIn f cs places offsets d k) ≡ 4) → h ≡ suc k
+  pub holds : {k : ℕ} → k < cores f → (mode (coreIn f cs places offsets d k) ≡ 1) ⊎ (mode (coreIn f cs places offsets d k) ≡ 4) → h .holder ≡ suc k
   holds {k} ik m =
-      sym (holder-in f cs places offsets h d sh)
+      ap (λ (u : Semaphore). u .holder) (sym (semaphore-in f cs places offsets h d sh))
       ∙ w .running .fit .held .held k (subst (λ (c : Core). (mode c ≡ 1) ⊎ (mode c ≡ 4)) (sym (core-in f cs places offsets h d sh k ik)) m)
+
+  -- a core in line is in mode 0 or 3
+  pub in-line : {k : ℕ} → k < cores f → inLine k (h .line) ≡ true → (getD cs k none .mode ≡ 0) ⊎ (getD cs k none .mode ≡ 3)
+  unfolding stateIn
+  in-line {k} ik e = subst (λ (c : Core). (mode c ≡ 0) ⊎ (mode c ≡ 3)) (core-in f cs places offsets h d sh k ik) (w .running .fit .line .modes k (tested _ e))
+
+  pub line-once : Once (h .line)
+  unfolding stateIn
+  line-once = w .running .fit .line .once
+
+  pub room-in-line : Set f t → {k : ℕ} → k < cores f → inLine k (h .line) ≡ false → length (h .line) < 4
+  room-in-line ok {k} ik e = line-room ok (w .running .fit) (semaphore-in f cs places offsets h d sh) k ik e
+
+  -- a core that does not wait, and that it is not its turn, is not in line yet
+  pub joining : Set f t → {k : ℕ} → k < cores f → waitsAt h k ≡ false → turn h k ≡ false → (inLine k (h .line) ≡ false) × (length (h .line) < 4)
+  joining ok {k} ik e u = let out : inLine k (h .line) ≡ false = not-both (inLine k (h .line)) (turn h k) e u in (out, room-in-line ok ik out)
+    where
+      not-both : (a b : Bool) → both a (not b) ≡ false → b ≡ false → a ≡ false
+      not-both true true p q = q
+      not-both true false p q = p
+      not-both false b p q = refl
 
   -- the same for the effects of one kind
   module _ (g : Set f t) (b : i < length order) {k : ℕ} (e : k ≡ getD order i 0) (ik : k < cores f)
       {z : Effect} {d′ sh′ : List ℕ} (y : Steps f t k (getD cs k none) d sh h z d′ sh′) (dl : length d′ ≡ length d)
-      {list′ : List ℕ} {cs′ : List Registers} {places′ offsets′ : List ℕ} {h′ : ℕ} {cursor′ : Cursor} {taken′ : ℕ} {r′ : Registers} where
+      {list′ : List ℕ} {cs′ : List Registers} {places′ offsets′ : List ℕ} {h′ : Semaphore} {cursor′ : Cursor} {taken′ : ℕ} {r′ : Registers} where
     -- neither stack nor order list
     pub plain-arm : (z₀ : Effect) → z ≡ z₀ → takenBy z₀ k ≡ [] → stackBy z₀ (coreIn f cs places offsets d k) ≡ stackIn places offsets k → r′ ≡ registersBy z₀ (coreIn f cs places offsets d k)
-        → list′ ≡ list → cs′ ≡ set cs k r′ → places′ ≡ places → offsets′ ≡ offsets → h′ ≡ holderBy z₀ k h → After f k h (getD cs k none) r′ cursor cursor′ (holderBy z₀ k h) → taken′ ≡ taken
+        → list′ ≡ list → cs′ ≡ set cs k r′ → places′ ≡ places → offsets′ ≡ offsets → h′ ≡ semaphoreBy z₀ k h → After f k (h .holder) (getD cs k none) r′ cursor cursor′ (semaphoreBy z₀ k h .holder) → taken′ ≡ taken
         → Looping f t order list₀ s₀ cs₀ places₀ offsets₀ (i + 1) cs′ places′ offsets′ h′ taken′ d′ sh′ list′ cursor′
     plain-arm z₀ ze nt st re le ce pe oe he ae te =
         arm g b e ik y dl z₀ ze ce re (same-stack (ap (λ (l : List ℕ). part l (16 * k) 16) pe) (ap (λ (l : List ℕ). part l (16 * k) 16) oe) ∙ sym st)
@@ -280,8 +351,8 @@ module _ {f t : List ℕ} {order list₀ : List ℕ} {s₀ : State} {cs₀ : Lis
 
     -- a taking
     pub taking-arm : (z₀ : Effect) → z ≡ z₀ → (x : Taking) → takenBy z₀ k ≡ x ∷ [] → stackBy z₀ (coreIn f cs places offsets d k) ≡ stackIn places offsets k → r′ ≡ registersBy z₀ (coreIn f cs places offsets d k)
-        → list′ ≡ set list taken (encoded x) → cs′ ≡ set cs k r′ → places′ ≡ places → offsets′ ≡ offsets → h′ ≡ holderBy z₀ k h
-        → After f k h (getD cs k none) r′ cursor cursor′ (holderBy z₀ k h) → taken′ ≡ taken + 1
+        → list′ ≡ set list taken (encoded x) → cs′ ≡ set cs k r′ → places′ ≡ places → offsets′ ≡ offsets → h′ ≡ semaphoreBy z₀ k h
+        → After f k (h .holder) (getD cs k none) r′ cursor cursor′ (semaphoreBy z₀ k h .holder) → taken′ ≡ taken + 1
         → Looping f t order list₀ s₀ cs₀ places₀ offsets₀ (i + 1) cs′ places′ offsets′ h′ taken′ d′ sh′ list′ cursor′
     taking-arm z₀ ze x one st re le ce pe oe he ae te =
         arm g b e ik y dl z₀ ze ce re (same-stack (ap (λ (l : List ℕ). part l (16 * k) 16) pe) (ap (λ (l : List ℕ). part l (16 * k) 16) oe) ∙ sym st)
@@ -293,8 +364,8 @@ module _ {f t : List ℕ} {order list₀ : List ℕ} {s₀ : State} {cs₀ : Lis
     -- an entry of the call stack
     pub stack-arm : (z₀ : Effect) → z ≡ z₀ → takenBy z₀ k ≡ [] → r′ ≡ registersBy z₀ (coreIn f cs places offsets d k) → (n v u : ℕ) → n < 16
         → record { places = set (part places (16 * k) 16) n v; offsets = set (part offsets (16 * k) 16) n u } ≡ stackBy z₀ (coreIn f cs places offsets d k)
-        → list′ ≡ list → cs′ ≡ set cs k r′ → places′ ≡ set places (16 * k + n) v → offsets′ ≡ set offsets (16 * k + n) u → h′ ≡ holderBy z₀ k h
-        → After f k h (getD cs k none) r′ cursor cursor′ (holderBy z₀ k h) → taken′ ≡ taken
+        → list′ ≡ list → cs′ ≡ set cs k r′ → places′ ≡ set places (16 * k + n) v → offsets′ ≡ set offsets (16 * k + n) u → h′ ≡ semaphoreBy z₀ k h
+        → After f k (h .holder) (getD cs k none) r′ cursor cursor′ (semaphoreBy z₀ k h .holder) → taken′ ≡ taken
         → Looping f t order list₀ s₀ cs₀ places₀ offsets₀ (i + 1) cs′ places′ offsets′ h′ taken′ d′ sh′ list′ cursor′
     stack-arm z₀ ze nt re n v u m st le ce pe oe he ae te =
         arm g b e ik y dl z₀ ze ce re (stack-here places offsets k n v u m pe oe ∙ st) (stack-other places offsets k n v u m pe oe)
@@ -305,7 +376,7 @@ module _ {f t : List ℕ} {order list₀ : List ℕ} {s₀ : State} {cs₀ : Lis
 -- ---- lent memory keeps its length
 
 pub shared-length : {f t : List ℕ} {tasks : List CoreTask} {first end : ℕ} {order : List ℕ} {s : Held} {aim : Cursor} {d₀ sh₀ list₀ : List ℕ}
-    {s₀ : State} {cs₀ : List Registers} {places₀ offsets₀ : List ℕ} {i : ℕ} {cs : List Registers} {places offsets : List ℕ} {h taken : ℕ} {d sh list : List ℕ} {cursor : Cursor}
+    {s₀ : State} {cs₀ : List Registers} {places₀ offsets₀ : List ℕ} {i : ℕ} {cs : List Registers} {places offsets : List ℕ} {h : Semaphore} {taken : ℕ} {d sh list : List ℕ} {cursor : Cursor}
     → Going f t tasks first end order s aim d₀ sh₀ list₀ → Looping f t order list₀ s₀ cs₀ places₀ offsets₀ i cs places offsets h taken d sh list cursor → length sh ≡ length sh₀
 shared-length {f} {s = s} {d₀ = d₀} {sh₀ = sh₀} {cs = cs} {places = places} {offsets = offsets} {h = h} {d = d} {sh = sh} g w =
-    sym (ap length (shared-in f cs places offsets h d sh)) ∙ w .running .fit .shared ∙ sym (g .fit .shared) ∙ ap length (shared-in f (s .cores) (s .places) (s .offsets) (s .semaphore .holder) d₀ sh₀)
+    sym (ap length (shared-in f cs places offsets h d sh)) ∙ w .running .fit .shared ∙ sym (g .fit .shared) ∙ ap length (shared-in f (s .cores) (s .places) (s .offsets) (semaphoreOf (s .semaphore)) d₀ sh₀)

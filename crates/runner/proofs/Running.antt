@@ -20,7 +20,7 @@ use Rattle.memory.proofs.Laws.{splice-append, length-splice}
 use Rattle.memory.proofs.Cores.{length-split}
 use Rattle.protocol.specs.declared.Registers.{Registers}
 use Rattle.protocol.specs.declared.Stack.{Stack}
-use Rattle.protocol.specs.State.{Core, State, Task, absent, core}
+use Rattle.protocol.specs.State.{Core, Semaphore, State, Task, absent, core}
 use Rattle.protocol.specs.Step.{step, run, Taking, takingOf, takings, encoded, orderList}
 use Rattle.records.specs.File.{cores, dataSize}
 use Rattle.taskset.specs.Task.{listed, sizesOf}
@@ -31,28 +31,28 @@ use Rattle.states.specs.Machine.{none, stackIn, coreIn, stateIn}
 use Rattle.states.specs.Fit.{Fit}
 use Rattle.states.specs.Set.{Set}
 use Rattle.runner.specs.Running.{Running}
-use Rattle.steps.specs.Effects.{Effect, registersBy, stackBy, holderBy, takenBy, effected, Does}
+use Rattle.steps.specs.Effects.{Effect, registersBy, stackBy, semaphoreBy, takenBy, effected, Does}
 use Rattle.states.proofs.Kept.{Executes, fit-kept}
 
 -- ---- the state
 
 -- core k of a state from its parts
-pub core-in : (f : List ℕ) (cs : List Registers) (places offsets : List ℕ) (h : ℕ) (d sh : List ℕ) (k : ℕ) → k < cores f
+pub core-in : (f : List ℕ) (cs : List Registers) (places offsets : List ℕ) (h : Semaphore) (d sh : List ℕ) (k : ℕ) → k < cores f
     → core (stateIn f cs places offsets h d sh .plant) k ≡ coreIn f cs places offsets d k
 unfolding stateIn
 core-in f cs places offsets h d sh k i = listed-at (coreIn f cs places offsets d) (cores f) k absent i
 
-pub cores-in : (f : List ℕ) (cs : List Registers) (places offsets : List ℕ) (h : ℕ) (d sh : List ℕ) → length (stateIn f cs places offsets h d sh .plant .cores) ≡ cores f
+pub cores-in : (f : List ℕ) (cs : List Registers) (places offsets : List ℕ) (h : Semaphore) (d sh : List ℕ) → length (stateIn f cs places offsets h d sh .plant .cores) ≡ cores f
 unfolding stateIn
 cores-in f cs places offsets h d sh = length-listed (coreIn f cs places offsets d) (cores f) 0
 
-pub shared-in : (f : List ℕ) (cs : List Registers) (places offsets : List ℕ) (h : ℕ) (d sh : List ℕ) → stateIn f cs places offsets h d sh .plant .shared ≡ sh
+pub shared-in : (f : List ℕ) (cs : List Registers) (places offsets : List ℕ) (h : Semaphore) (d sh : List ℕ) → stateIn f cs places offsets h d sh .plant .shared ≡ sh
 unfolding stateIn
 shared-in f cs places offsets h d sh = refl
 
-pub holder-in : (f : List ℕ) (cs : List Registers) (places offsets : List ℕ) (h : ℕ) (d sh : List ℕ) → stateIn f cs places offsets h d sh .holder ≡ h
+pub semaphore-in : (f : List ℕ) (cs : List Registers) (places offsets : List ℕ) (h : Semaphore) (d sh : List ℕ) → stateIn f cs places offsets h d sh .semaphore ≡ h
 unfolding stateIn
-holder-in f cs places offsets h d sh = refl
+semaphore-in f cs places offsets h d sh = refl
 
 same-core : {a b : Registers} {c d : Stack} {l m : List ℕ} → a ≡ b → c ≡ d → l ≡ m
     → _≡_ {A = Core} record { registers = a; stack = c; memory = l } record { registers = b; stack = d; memory = m }
@@ -63,24 +63,24 @@ unfolding sizesOf
 length-sizes f = length-listed (dataSize f) (cores f) 0
 
 -- The parts after an effect of core k: its registers, its stack and its data change, those of other cores stay
-pub record Put (f : List ℕ) (k : ℕ) (z : Effect) (m : List ℕ) (cs : List Registers) (places offsets : List ℕ) (h : ℕ) (d : List ℕ)
-    (cs′ : List Registers) (places′ offsets′ : List ℕ) (h′ : ℕ) (d′ : List ℕ) : Type 0 where
+pub record Put (f : List ℕ) (k : ℕ) (z : Effect) (m : List ℕ) (cs : List Registers) (places offsets : List ℕ) (h : Semaphore) (d : List ℕ)
+    (cs′ : List Registers) (places′ offsets′ : List ℕ) (h′ : Semaphore) (d′ : List ℕ) : Type 0 where
   pub registers : cs′ ≡ set cs k (registersBy z (coreIn f cs places offsets d k))
   pub stack : stackIn places′ offsets′ k ≡ stackBy z (coreIn f cs places offsets d k)
   pub stacks : (j : ℕ) → j ≢ k → stackIn places′ offsets′ j ≡ stackIn places offsets j
-  pub holder : h′ ≡ holderBy z k h
+  pub semaphore : h′ ≡ semaphoreBy z k h
   pub memory : split (sizesOf f) d′ ≡ set (split (sizesOf f) d) k m
 
-module _ (f : List ℕ) (k : ℕ) (z : Effect) (m sh sh′ : List ℕ) (cs : List Registers) (places offsets : List ℕ) (h : ℕ) (d : List ℕ)
-    (cs′ : List Registers) (places′ offsets′ : List ℕ) (h′ : ℕ) (d′ : List ℕ) where
+module _ (f : List ℕ) (k : ℕ) (z : Effect) (m sh sh′ : List ℕ) (cs : List Registers) (places offsets : List ℕ) (h : Semaphore) (d : List ℕ)
+    (cs′ : List Registers) (places′ offsets′ : List ℕ) (h′ : Semaphore) (d′ : List ℕ) where
   pub put-effected : k < cores f → cores f ≤ length cs → Put f k z m cs places offsets h d cs′ places′ offsets′ h′ d′
       → stateIn f cs′ places′ offsets′ h′ d′ sh′ ≡ effected z k m sh′ (stateIn f cs places offsets h d sh)
   unfolding stateIn effected
   put-effected i n p =
       let c : core (stateIn f cs places offsets h d sh .plant) k ≡ coreIn f cs places offsets d k = core-in f cs places offsets h d sh k i in
-      ap₂ (λ (l : List Core) (u : ℕ). record { plant = record { cores = l; shared = sh′ }; holder = u })
+      ap₂ (λ (l : List Core) (u : Semaphore). record { plant = record { cores = l; shared = sh′ }; semaphore = u })
       (listed-set (coreIn f cs places offsets d) (coreIn f cs′ places′ offsets′ d′) (cores f) k _ i (here c) others)
-      (p .holder)
+      (p .semaphore)
     where
       here : core (stateIn f cs places offsets h d sh .plant) k ≡ coreIn f cs places offsets d k
           → coreIn f cs′ places′ offsets′ d′ k ≡ record {
@@ -128,8 +128,8 @@ rest-from order i k h e = drop-cons order i 0 h ∙ rw (e, ← add-one i)
 
 module _ (f t : List ℕ) (ok : Set f t) (ex : Executes f t) where
   -- the effect z of core k, with the data m of core k and the shared memory sh′ afterwards, is its step
-  next-state : (cs : List Registers) (places offsets : List ℕ) (h : ℕ) (d sh : List ℕ) (k : ℕ) → k < cores f → cores f ≤ length cs
-      → (z : Effect) (m sh′ : List ℕ) (cs′ : List Registers) (places′ offsets′ : List ℕ) (h′ : ℕ) (d′ : List ℕ)
+  next-state : (cs : List Registers) (places offsets : List ℕ) (h : Semaphore) (d sh : List ℕ) (k : ℕ) → k < cores f → cores f ≤ length cs
+      → (z : Effect) (m sh′ : List ℕ) (cs′ : List Registers) (places′ offsets′ : List ℕ) (h′ : Semaphore) (d′ : List ℕ)
       → Does (taskOf f t) k (getD cs k none) (getD (split (sizesOf f) d) k []) sh h z m sh′
       → Put f k z m cs places offsets h d cs′ places′ offsets′ h′ d′
       → (stateIn f cs′ places′ offsets′ h′ d′ sh′ ≡ step (taskOf f t) k (stateIn f cs places offsets h d sh)) × (takingOf (taskOf f t) k (stateIn f cs places offsets h d sh) ≡ takenBy z k)
@@ -138,16 +138,16 @@ module _ (f t : List ℕ) (ok : Set f t) (ex : Executes f t) where
       let l : k < length (stateIn f cs places offsets h d sh .plant .cores) = rw (cores-in f cs places offsets h d sh) i in
       let a : core (stateIn f cs places offsets h d sh .plant) k .registers ≡ getD cs k none = ap (λ (x : Core). x .registers) c in
       let b : core (stateIn f cs places offsets h d sh .plant) k .memory ≡ getD (split (sizesOf f) d) k [] = ap (λ (x : Core). x .memory) c in (
-        put-effected f k z m sh sh′ cs places offsets h d cs′ places′ offsets′ h′ d′ i n p ∙ y .moves (stateIn f cs places offsets h d sh) l a b (shared-in f cs places offsets h d sh) (holder-in f cs places offsets h d sh),
-        y .takes (stateIn f cs places offsets h d sh) l a b (shared-in f cs places offsets h d sh) (holder-in f cs places offsets h d sh),
+        put-effected f k z m sh sh′ cs places offsets h d cs′ places′ offsets′ h′ d′ i n p ∙ y .moves (stateIn f cs places offsets h d sh) l a b (shared-in f cs places offsets h d sh) (semaphore-in f cs places offsets h d sh),
+        y .takes (stateIn f cs places offsets h d sh) l a b (shared-in f cs places offsets h d sh) (semaphore-in f cs places offsets h d sh),
       )
 
 -- One turn of a run
 module _ (f t : List ℕ) (ok : Set f t) (ex : Executes f t) (order list₀ : List ℕ) (s₀ : State) (cs₀ : List Registers) (places₀ offsets₀ : List ℕ) where
-  pub running-on : (i : ℕ) (cs : List Registers) (places offsets : List ℕ) (h taken : ℕ) (d sh list : List ℕ)
+  pub running-on : (i : ℕ) (cs : List Registers) (places offsets : List ℕ) (h : Semaphore) (taken : ℕ) (d sh list : List ℕ)
       → Running f t order list₀ s₀ cs₀ places₀ offsets₀ i cs places offsets h taken d sh list
       → i < length order → (k : ℕ) → getD order i 0 ≡ k → k < cores f → cores f ≤ 4
-      → (z : Effect) (m sh′ : List ℕ) (cs′ : List Registers) (places′ offsets′ : List ℕ) (h′ taken′ : ℕ) (d′ list′ : List ℕ)
+      → (z : Effect) (m sh′ : List ℕ) (cs′ : List Registers) (places′ offsets′ : List ℕ) (h′ : Semaphore) (taken′ : ℕ) (d′ list′ : List ℕ)
       → Does (taskOf f t) k (getD cs k none) (getD (split (sizesOf f) d) k []) sh h z m sh′
       → Put f k z m cs places offsets h d cs′ places′ offsets′ h′ d′
       → list′ ≡ splice list taken (map encoded (takenBy z k)) → taken′ ≡ taken + length (takenBy z k) → length (takenBy z k) ≤ 1

@@ -9,7 +9,7 @@ use lib.ListN.{length, getD, set, drop}
 use Rattle.verdict.specs.Verdict.{both}
 use Rattle.memory.specs.Memory.{splice, total}
 use Rattle.protocol.specs.declared.Registers.{Registers}
-use Rattle.protocol.specs.State.{State}
+use Rattle.protocol.specs.State.{Semaphore, State}
 use Rattle.protocol.specs.Step.{run, takings, orderList}
 use Rattle.exchange.specs.declared.Cursor.{Cursor}
 use Rattle.records.specs.File.{cores}
@@ -46,7 +46,7 @@ executingAt r counter offset depth count = record {
 
 -- What holds before step i of a run: what is left of the order makes of the state now what the whole makes of the first one
 pub record Running (f t : List ℕ) (order list₀ : List ℕ) (s₀ : State) (cs₀ : List Registers) (places₀ offsets₀ : List ℕ)
-    (i : ℕ) (cs : List Registers) (places offsets : List ℕ) (h taken : ℕ) (d sh list : List ℕ) : Type 0 where
+    (i : ℕ) (cs : List Registers) (places offsets : List ℕ) (h : Semaphore) (taken : ℕ) (d sh list : List ℕ) : Type 0 where
   pub within : i ≤ length order
   pub rest : run (taskOf f t) (drop i order) (stateIn f cs places offsets h d sh) ≡ run (taskOf f t) order s₀
   pub listed : splice list taken (orderList (taskOf f t) (drop i order) (stateIn f cs places offsets h d sh)) ≡ splice list₀ 0 (orderList (taskOf f t) order s₀)
@@ -61,9 +61,9 @@ pub record Running (f t : List ℕ) (order list₀ : List ℕ) (s₀ : State) (c
 
 -- the same with the cursor
 pub record Looping (f t : List ℕ) (order list₀ : List ℕ) (s₀ : State) (cs₀ : List Registers) (places₀ offsets₀ : List ℕ)
-    (i : ℕ) (cs : List Registers) (places offsets : List ℕ) (h taken : ℕ) (d sh list : List ℕ) (cursor : Cursor) : Type 0 where
+    (i : ℕ) (cs : List Registers) (places offsets : List ℕ) (h : Semaphore) (taken : ℕ) (d sh list : List ℕ) (cursor : Cursor) : Type 0 where
   pub running : Running f t order list₀ s₀ cs₀ places₀ offsets₀ i cs places offsets h taken d sh list
-  pub aimed : (k : ℕ) → k < cores f → h ≡ suc k → Aimed f k (getD cs k none) cursor
+  pub aimed : (k : ℕ) → k < cores f → h .holder ≡ suc k → Aimed f k (getD cs k none) cursor
 
 -- ---- steps that carry a run on
 
@@ -77,7 +77,7 @@ pub record Stands (f t order : List ℕ) (i k : ℕ) (r : Registers) (places off
   pub places₀ : List ℕ
   pub offsets₀ : List ℕ
   pub cs : List Registers
-  pub h : ℕ
+  pub h : Semaphore
   pub taken : ℕ
   pub sh : List ℕ
   pub list : List ℕ
@@ -89,7 +89,7 @@ pub record Stands (f t order : List ℕ) (i k : ℕ) (r : Registers) (places off
 -- registers r′ of core k and these stacks and data; nothing else has changed
 abbrev pub Carries : List ℕ → List ℕ → List ℕ → ℕ → ℕ → Registers → List ℕ → List ℕ → List ℕ → ℕ → Registers → List ℕ → List ℕ → List ℕ → Type 0
 Carries f t order k i r places offsets d i′ r′ places′ offsets′ d′ =
-    (list₀ : List ℕ) (s₀ : State) (cs₀ : List Registers) (places₀ offsets₀ : List ℕ) (cs : List Registers) (h taken : ℕ) (sh list : List ℕ) (cursor : Cursor)
+    (list₀ : List ℕ) (s₀ : State) (cs₀ : List Registers) (places₀ offsets₀ : List ℕ) (cs : List Registers) (h : Semaphore) (taken : ℕ) (sh list : List ℕ) (cursor : Cursor)
     → getD cs k none ≡ r
     → Looping f t order list₀ s₀ cs₀ places₀ offsets₀ i cs places offsets h taken d sh list cursor
     → Looping f t order list₀ s₀ cs₀ places₀ offsets₀ i′ (set cs k r′) places′ offsets′ h taken d′ sh list cursor

@@ -4,7 +4,6 @@ use protocol::EXECUTING;
 use protocol::Outcome;
 use protocol::Registers;
 use states::CoreTask;
-use states::Semaphore;
 use states::State;
 use steps::Exchange;
 ghost use mathlib.Core.Path.{_≡_};
@@ -186,7 +185,7 @@ pub fn run_order(
     let mut cores = table_of(s);
     let mut places = places_of(s);
     let mut offsets = offsets_of(s);
-    let mut holder = s.semaphore.holder;
+    let mut line = semaphore::line_of(s.semaphore);
     let mut cursor = aim;
     let mut taken: usize = 0;
     let n = order.len();
@@ -210,18 +209,19 @@ pub fn run_order(
             let registers = x.registers;
             cores[k] = registers;
             i = x.step;
-        } else if steps::waits(mode, holder) {
-            // a loop of its own: most steps of waiting cores follow one another
+        } else if semaphore::waits(line, k) {
+            // a loop of its own: most steps of waiting cores follow one another, and what they test of a core is one byte
             let mut waiting = true;
             while waiting {
                 i += 1;
                 waiting = false;
                 if i < n {
                     let j = core_at(file, order, i);
-                    waiting = steps::waits(cores[j].mode, holder);
+                    waiting = semaphore::waits(line, j);
                 }
             }
         } else {
+            let turn = semaphore::turn(line.semaphore, k as u8);
             let z = steps::exchange_of(
                 cores[k],
                 k,
@@ -232,12 +232,16 @@ pub fn run_order(
                 shared,
                 end,
                 cursor,
+                turn,
             );
             match z {
                 Exchange::Rests => {}
+                Exchange::Joins => {
+                    line = semaphore::joined(line, k);
+                }
                 Exchange::ReadBegun(time) => {
                     cores[k] = protocol::read_acquired(cores[k], time);
-                    holder = k as u8 + 1;
+                    line = semaphore::acquired(line, k);
                     cursor = exchange::start(file, first, end, 4 + k);
                     list[taken] = k as u8;
                     taken = taken + 1;
@@ -248,11 +252,11 @@ pub fn run_order(
                 }
                 Exchange::ReadEnded => {
                     cores[k] = protocol::read_released(cores[k]);
-                    holder = 0;
+                    line = semaphore::released(line);
                 }
                 Exchange::WriteBegun => {
                     cores[k] = protocol::write_acquired(cores[k]);
-                    holder = k as u8 + 1;
+                    line = semaphore::acquired(line, k);
                     cursor = exchange::start(file, first, end, k);
                     list[taken] = 16 + k as u8;
                     taken = taken + 1;
@@ -263,13 +267,13 @@ pub fn run_order(
                 }
                 Exchange::WriteEnded => {
                     cores[k] = protocol::write_released(cores[k]);
-                    holder = 0;
+                    line = semaphore::released(line);
                 }
             }
             i += 1;
         }
     }
-    let semaphore = Semaphore { holder };
+    let semaphore = line.semaphore;
     let state = State {
         count: s.count,
         semaphore,
