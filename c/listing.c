@@ -36,7 +36,8 @@ int main(void) {
     static const uint8_t trace[] = {0x01, 0x00, 0x00, 0x00, 0x00, 0x00};
     static const uint8_t order[5] = {0, 0, 0, 0, 0};
     struct rikzord_core table[2], before[2], made;
-    uint8_t buffer[1] = {7}, shared[1024], list[5] = {9, 9, 9, 9, 9}, holder = 3, found = 77;
+    uint8_t buffer[1] = {7}, shared[1024], list[5] = {9, 9, 9, 9, 9}, found = 77;
+    struct rikzord_semaphore semaphore = {3};
     size_t taken = 99;
     memset(table, 0xA5, sizeof table);
     memcpy(before, table, sizeof table);
@@ -48,13 +49,13 @@ int main(void) {
     expect(rikzord_check_file(longer, sizeof longer) == 24, "a file with a byte left over");
 
     /* a table that is too short, and shared memory that is */
-    expect(rikzord_fresh(task, sizeof task, table, 0, &holder, buffer, 1, shared, 1024) == 21, "a table of no records is too short");
-    expect(rikzord_fresh(task, sizeof task, table, 1, &holder, buffer, 1, shared, 1023) == 21, "1,023 bytes");
-    expect(holder == 3 && buffer[0] == 7 && memcmp(before, table, sizeof table) == 0, "a refused call changes nothing");
+    expect(rikzord_fresh(task, sizeof task, table, 0, &semaphore, buffer, 1, shared, 1024) == 21, "a table of no records is too short");
+    expect(rikzord_fresh(task, sizeof task, table, 1, &semaphore, buffer, 1, shared, 1023) == 21, "1,023 bytes");
+    expect(semaphore.holder == 3 && buffer[0] == 7 && memcmp(before, table, sizeof table) == 0, "a refused call changes nothing");
 
     /* only the first record of two is written */
-    expect(rikzord_fresh(task, sizeof task, table, 2, &holder, buffer, 1, shared, 1024) == 0, "the fresh state");
-    expect(holder == 0 && buffer[0] == 0 && table[0].flags == 4, "fresh: memory zero, flags 4, semaphore free");
+    expect(rikzord_fresh(task, sizeof task, table, 2, &semaphore, buffer, 1, shared, 1024) == 0, "the fresh state");
+    expect(semaphore.holder == 0 && buffer[0] == 0 && table[0].flags == 4, "fresh: memory zero, flags 4, semaphore free");
     memset(&made, 0, sizeof made);
     made.flags = 4;
     expect(memcmp(&made, &table[0], sizeof made) == 0, "a fresh record, every byte of it");
@@ -64,24 +65,24 @@ int main(void) {
     memset(table[0].spare, 0xA5, sizeof table[0].spare);
     memcpy(before, table, sizeof table);
 
-    expect(rikzord_step(task, sizeof task, trace, sizeof trace, table, 2, &holder, buffer, 1, shared, 1024, 0) == 23, "a table of two records");
-    expect(rikzord_step(task, sizeof task, trace, sizeof trace, table, 1, &holder, buffer, 1, shared, 1024, 1) == 20, "core 1 of 1");
-    expect(holder == 0 && memcmp(before, table, sizeof table) == 0, "refused steps change nothing");
-    expect(rikzord_next_core(task, sizeof task, trace, 1, table, 1, holder, 0, &found) == 22 && found == 77, "a trace of one byte");
-    expect(rikzord_next_core(task, sizeof task, trace, sizeof trace, table, 1, holder, 0, &found) == 0 && found == 0, "core 0 moves next");
+    expect(rikzord_step(task, sizeof task, trace, sizeof trace, table, 2, &semaphore, buffer, 1, shared, 1024, 0) == 23, "a table of two records");
+    expect(rikzord_step(task, sizeof task, trace, sizeof trace, table, 1, &semaphore, buffer, 1, shared, 1024, 1) == 20, "core 1 of 1");
+    expect(semaphore.holder == 0 && memcmp(before, table, sizeof table) == 0, "refused steps change nothing");
+    expect(rikzord_next_core(task, sizeof task, trace, 1, table, 1, &semaphore, 0, &found) == 22 && found == 77, "a trace of one byte");
+    expect(rikzord_next_core(task, sizeof task, trace, sizeof trace, table, 1, &semaphore, 0, &found) == 0 && found == 0, "core 0 moves next");
 
     /* one step, then four more as a run */
-    expect(rikzord_step(task, sizeof task, trace, sizeof trace, table, 1, &holder, buffer, 1, shared, 1024, 0) == 0, "a step");
-    expect(table[0].mode == 1 && holder == 1, "the first step takes the semaphore");
+    expect(rikzord_step(task, sizeof task, trace, sizeof trace, table, 1, &semaphore, buffer, 1, shared, 1024, 0) == 0, "a step");
+    expect(table[0].mode == 1 && semaphore.holder == 1, "the first step takes the semaphore");
     made.mode = 1;
     expect(memcmp(&made, &table[0], sizeof made) == 0, "the record after it, every byte of it");
-    expect(rikzord_fresh(task, sizeof task, table, 1, &holder, buffer, 1, shared, 1024) == 0, "fresh again");
-    expect(rikzord_run(task, sizeof task, trace, sizeof trace, table, 1, &holder, buffer, 1, shared, 1024, order, 5, list, 4, &taken) == 21, "an order list that is too short");
+    expect(rikzord_fresh(task, sizeof task, table, 1, &semaphore, buffer, 1, shared, 1024) == 0, "fresh again");
+    expect(rikzord_run(task, sizeof task, trace, sizeof trace, table, 1, &semaphore, buffer, 1, shared, 1024, order, 5, list, 4, &taken) == 21, "an order list that is too short");
     made.mode = 0;
-    expect(taken == 99 && list[0] == 9 && holder == 0 && memcmp(&made, &table[0], sizeof made) == 0, "a refused run changes nothing");
-    expect(rikzord_run(task, sizeof task, trace, sizeof trace, table, 1, &holder, buffer, 1, shared, 1024, order, 5, list, 5, &taken) == 0, "the run");
+    expect(taken == 99 && list[0] == 9 && semaphore.holder == 0 && memcmp(&made, &table[0], sizeof made) == 0, "a refused run changes nothing");
+    expect(rikzord_run(task, sizeof task, trace, sizeof trace, table, 1, &semaphore, buffer, 1, shared, 1024, order, 5, list, 5, &taken) == 0, "the run");
     expect(taken == 2 && list[0] == 0 && list[1] == 16 && list[2] == 9, "its takings; bytes after those stay");
-    expect(rikzord_next_core(task, sizeof task, trace, sizeof trace, table, 1, holder, 0, &found) == 0 && found == 255, "no core moves");
+    expect(rikzord_next_core(task, sizeof task, trace, sizeof trace, table, 1, &semaphore, 0, &found) == 0 && found == 255, "no core moves");
 
     /* the lines between its cores: of one core there are none */
     uint8_t lines = 77;

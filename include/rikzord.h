@@ -9,7 +9,7 @@
  * - Nothing else reads or writes that memory during the call.
  *
  * Each call answers the refusal number of document 01 or 02, 0 for none: 1 to 7 and 24 for the task set file (1: it is cut; 24: bytes follow its last
- * section), 21 lent memory, 22 the trace, 23 the state, 20 a core number; they are tried in this order. A refused call stores nothing. Any bytes may be lent: nothing is required of their values. The
+ * section), 21 lent memory, 22 the trace, 23 the state, 20 a core number; they are tried in this order. A refused call changes nothing. Any bytes may be lent: nothing is required of their values. The
  * definitions are in crates/lent/specs/Lent.antt. */
 #ifndef RIKZORD_H
 #define RIKZORD_H
@@ -38,31 +38,34 @@ struct rikzord_core {
 _Static_assert(sizeof(struct rikzord_core) == 84, "a record of the core table has 84 bytes, and no padding");
 #endif
 
-/* The semaphore's holder stands beside the table: 0 where it is free, k + 1 where core k holds it. */
+/* The semaphore, which stands beside the table. */
+struct rikzord_semaphore {
+    uint8_t holder; /* 0 where it is free, k + 1 where core k holds it */
+};
 
 /* Judges a task set file. */
 uint8_t rikzord_check_file(const uint8_t *file, size_t file_length);
 
 /* Makes the fresh state: both memories zero, each core in mode 0 with registers 0 and flags 4, the semaphore free. The table needs at least n
  * records (21); the first n are written. The data buffer has the sum of the data sizes, shared memory 1,024 bytes. */
-uint8_t rikzord_fresh(const uint8_t *file, size_t file_length, struct rikzord_core *table, size_t table_length, uint8_t *holder,
+uint8_t rikzord_fresh(const uint8_t *file, size_t file_length, struct rikzord_core *table, size_t table_length, struct rikzord_semaphore *semaphore,
                       uint8_t *buffer, size_t buffer_length, uint8_t *shared, size_t shared_length);
 
 /* One step of a core. The table has n records here and below (23); all n are written. */
 uint8_t rikzord_step(const uint8_t *file, size_t file_length, const uint8_t *trace, size_t trace_length, struct rikzord_core *table,
-                     size_t table_length, uint8_t *holder, uint8_t *buffer, size_t buffer_length, uint8_t *shared, size_t shared_length,
-                     uint8_t core);
+                     size_t table_length, struct rikzord_semaphore *semaphore, uint8_t *buffer, size_t buffer_length, uint8_t *shared,
+                     size_t shared_length, uint8_t core);
 
 /* The steps of an order, one byte a step. The takings go to the front of `list`, which is at least as long as the order: the core, plus 16 for
  * a writing; `taken` becomes how many there are. */
 uint8_t rikzord_run(const uint8_t *file, size_t file_length, const uint8_t *trace, size_t trace_length, struct rikzord_core *table,
-                    size_t table_length, uint8_t *holder, uint8_t *buffer, size_t buffer_length, uint8_t *shared, size_t shared_length,
-                    const uint8_t *order, size_t order_length, uint8_t *list, size_t list_length, size_t *taken);
+                    size_t table_length, struct rikzord_semaphore *semaphore, uint8_t *buffer, size_t buffer_length, uint8_t *shared,
+                    size_t shared_length, const uint8_t *order, size_t order_length, uint8_t *list, size_t list_length, size_t *taken);
 
 /* The first core after `given`, round the ring and that one last, whose step would change something. It goes to `found`; 255 says that there is
  * none: every core is stopped or out of records. */
 uint8_t rikzord_next_core(const uint8_t *file, size_t file_length, const uint8_t *trace, size_t trace_length, const struct rikzord_core *table,
-                          size_t table_length, uint8_t holder, uint8_t given, uint8_t *found);
+                          size_t table_length, const struct rikzord_semaphore *semaphore, uint8_t given, uint8_t *found);
 
 /* Beside the machine: the lowest reading over the holding time. A run has records of six bytes, a TIME in milliseconds and an INT, low byte
  * first; times don't fall. For each record the smallest reading among the records up to it whose time is at least its own time minus `span` goes to

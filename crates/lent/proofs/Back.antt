@@ -9,6 +9,7 @@ use native.Mathlib.Nat.{not-suc-le-zero}
 use lib.ListN.{length, replicate}
 use Rattle.memory.specs.Memory.{splice, part}
 use Rattle.memory.proofs.Laws.{length-splice, part-splice-below, part-splice-same}
+use Rattle.states.specs.declared.Semaphore.{Semaphore}
 use Rattle.lent.specs.declared.Core.{Core}
 use Rattle.lent.specs.Lent.{registersIn, recordWith, recordAt, loaded, entries, heldPlaces, heldOffsets, held, coreOf}
 
@@ -64,8 +65,8 @@ pub record Sixteen (c : Core) : Type 0 where
 abbrev pub unspared : Core → Core
 unspared c = recordWith (registersIn c) (c .places) (c .offsets)
 
-module _ (ys : List Core) (holder : ℕ) (sized : (k : ℕ) → Sixteen (recordAt ys k)) where
-  pub comes-back : (k : ℕ) → k < 4 → coreOf (held (loaded ys) holder) k ≡ unspared (recordAt ys k)
+module _ (ys : List Core) (p : Semaphore) (sized : (k : ℕ) → Sixteen (recordAt ys k)) where
+  pub comes-back : (k : ℕ) → k < 4 → coreOf (held (loaded ys) p) k ≡ unspared (recordAt ys k)
   unfolding coreOf held heldPlaces heldOffsets
   comes-back zero h = rw (entries-0 _ _ _ _ (sized 0 .places) (sized 1 .places) (sized 2 .places) (sized 3 .places), entries-0 _ _ _ _ (sized 0 .offsets) (sized 1 .offsets) (sized 2 .offsets) (sized 3 .offsets)) refl
   comes-back (suc zero) h = rw (entries-1 _ _ _ _ (sized 0 .places) (sized 1 .places) (sized 2 .places) (sized 3 .places), entries-1 _ _ _ _ (sized 0 .offsets) (sized 1 .offsets) (sized 2 .offsets) (sized 3 .offsets)) refl

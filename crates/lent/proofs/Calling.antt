@@ -25,6 +25,7 @@ use Rattle.taskset.specs.Judge.{judge}
 use Rattle.taskset.specs.Trace.{traceRefusal}
 use Rattle.taskset.specs.Task.{sizesOf}
 use Rattle.taskset.proofs.Accepted.{length-listed}
+use Rattle.states.specs.declared.Semaphore.{Semaphore}
 use Rattle.states.specs.declared.State.{State}
 use Rattle.states.specs.Task.{taskOf}
 use Rattle.states.specs.Set.{Set}
@@ -82,18 +83,18 @@ module _ (f : List ℕ) (few : cores f ≤ 4) (s : State) (places : length (s .p
           let l = ltb-false k (cores f) e in
           subst Sixteen (sym (List·getD-eq-default zs noCore (subst (λ (n : ℕ). n ≤ k) (sym rows) l))) record { places = refl; offsets = refl }
 
-  core-same : (holder : ℕ) (d : List ℕ) (k : ℕ) → k < cores f
-      → coreIn f (held (loaded zs) holder .cores) (held (loaded zs) holder .places) (held (loaded zs) holder .offsets) d k ≡ coreIn f (s .cores) (s .places) (s .offsets) d k
+  core-same : (p : Semaphore) (d : List ℕ) (k : ℕ) → k < cores f
+      → coreIn f (held (loaded zs) p .cores) (held (loaded zs) p .places) (held (loaded zs) p .offsets) d k ≡ coreIn f (s .cores) (s .places) (s .offsets) d k
   unfolding coreOf
-  core-same holder d k l =
-      ap (λ (c : Core). placeOf c (getD (split (sizesOf f) d) k [])) (comes-back zs holder sixteen k (omega (arith, few, l)) ∙ ap unspared (same k l))
+  core-same p d k l =
+      ap (λ (c : Core). placeOf c (getD (split (sizesOf f) d) k [])) (comes-back zs p sixteen k (omega (arith, few, l)) ∙ ap unspared (same k l))
 
-  pub state-same : (d sh : List ℕ) → stateOf f (held (loaded zs) (s .holder)) d sh ≡ stateOf f s d sh
+  pub state-same : (d sh : List ℕ) → stateOf f (held (loaded zs) (s .semaphore)) d sh ≡ stateOf f s d sh
   unfolding stateIn held
   state-same d sh =
-      ap (λ (l : List Place). record { plant = record { cores = l; shared = sh }; holder = s .holder }) (listed-same _ _ (cores f) (core-same (s .holder) d))
+      ap (λ (l : List Place). record { plant = record { cores = l; shared = sh }; holder = s .semaphore .holder }) (listed-same _ _ (cores f) (core-same (s .semaphore) d))
 
-  pub lendable-same : (t d sh list list′ : List ℕ) (r r′ : ℕ) → Lendable f t (left (answerOf r s) d sh list) → Lendable f t (left (answerOf r′ (held (loaded zs) (s .holder))) d sh list′)
+  pub lendable-same : (t d sh list list′ : List ℕ) (r r′ : ℕ) → Lendable f t (left (answerOf r s) d sh list) → Lendable f t (left (answerOf r′ (held (loaded zs) (s .semaphore))) d sh list′)
   unfolding held heldPlaces heldOffsets
   lendable-same t d sh list list′ r r′ w = record {
     count = ap counted rows ∙ counted-few (cores f) few;
@@ -161,7 +162,7 @@ module _ (s : State) (ys : List Core) (n : ℕ) (few : n ≤ 4) (count : s .coun
 
 -- the state that a table holds, by value, with the memories
 abbrev byValue : List ℕ → Lent → Left
-byValue f x = left (answerOf 0 (held (loaded (take (cores f) (x .table))) (x .holder))) (x .memory) (x .shared) []
+byValue f x = left (answerOf 0 (held (loaded (take (cores f) (x .table))) (x .semaphore))) (x .memory) (x .shared) []
 
 -- what a call left can be lent to the next
 pub record Ready (f t : List ℕ) (x : Lent) : Type 0 where
@@ -182,21 +183,21 @@ module _ (f t : List ℕ) (ok : Set f t) (x : Lent) (w : Ready f t x) (rows : �
   lentRows = take rows (x .table)
 
   abbrev state : State
-  state = held (loaded lentRows) (x .holder)
+  state = held (loaded lentRows) (x .semaphore)
 
   -- what the call by value left, y, as the call on the table leaves it
   abbrev leftBy : Left → Lent
-  leftBy y = restoredLent rows a b x (written lentRows (onTable (loaded lentRows) (x .holder) y))
+  leftBy y = restoredLent rows a b x (written lentRows (onTable (loaded lentRows) (x .semaphore) y))
 
   pub refused-call : (ks list : List ℕ) (r : ℕ) (y : Left) → r ≢ 0 → y ≡ left (answerOf r state) (lentOf a (x .memory)) (lentOf b (x .shared)) list
       → CountedLent f t x (leftBy y) (pick (eqb (leftBy y .refusal) 0) ks [])
   refused-call ks list r y ne e =
-      let q : leftBy y ≡ lent r (x .table) (x .holder) (x .memory) (x .shared) list =
+      let q : leftBy y ≡ lent r (x .table) (x .semaphore) (x .memory) (x .shared) list =
       ap (λ (z : Left). leftBy z) e
-      ∙ ap (restoredLent rows a b x) (refused-lent lentRows (x .holder) (lentOf a (x .memory)) (lentOf b (x .shared)) list r state ne)
-      ∙ (λ i. lent r (take-append-drop rows (x .table) i) (x .holder) (replaced-same a (x .memory) i) (replaced-same b (x .shared) i) list) in
+      ∙ ap (restoredLent rows a b x) (refused-lent lentRows (x .semaphore) (lentOf a (x .memory)) (lentOf b (x .shared)) list r state ne)
+      ∙ (λ i. lent r (take-append-drop rows (x .table) i) (x .semaphore) (replaced-same a (x .memory) i) (replaced-same b (x .shared) i) list) in
       subst (λ (z : Lent). CountedLent f t x z (pick (eqb (z .refusal) 0) ks [])) (sym q)
-      (subst (CountedLent f t x (lent r (x .table) (x .holder) (x .memory) (x .shared) list)) (sym (pick-false _ _ _ (ne-eqb r 0 ne)))
+      (subst (CountedLent f t x (lent r (x .table) (x .semaphore) (x .memory) (x .shared) list)) (sym (pick-false _ _ _ (ne-eqb r 0 ne)))
       record { whole = refl; ready = record { rows = w .rows; lendable = w .lendable } })
 
   pub accepted-call : (ks : List ℕ) (y : Left) → y .answer .refusal ≡ 0 → length lentRows ≡ cores f → Counted f t (byValue f x) (restored a b (byValue f x) y) ks
@@ -204,9 +205,9 @@ module _ (f t : List ℕ) (ok : Set f t) (x : Lent) (w : Ready f t x) (rows : �
   accepted-call ks y z n c =
       let s = y .answer .state in
       let zs = stored lentRows (acceptedOf (loaded lentRows) s) in
-      let q : leftBy y ≡ restoredLent rows a b x (lent 0 zs (s .holder) (y .memory) (y .shared) (y .order)) =
-      ap (λ (l : TableLeft). restoredLent rows a b x (written lentRows l)) (on-accepted (loaded lentRows) (x .holder) (y .answer) (y .memory) (y .shared) (y .order) z)
-      ∙ ap (λ (l : List Core). restoredLent rows a b x (lent 0 l (s .holder) (y .memory) (y .shared) (y .order))) (pick-true _ _ _ refl) in
+      let q : leftBy y ≡ restoredLent rows a b x (lent 0 zs (s .semaphore) (y .memory) (y .shared) (y .order)) =
+      ap (λ (l : TableLeft). restoredLent rows a b x (written lentRows l)) (on-accepted (loaded lentRows) (x .semaphore) (y .answer) (y .memory) (y .shared) (y .order) z)
+      ∙ ap (λ (l : List Core). restoredLent rows a b x (lent 0 l (s .semaphore) (y .memory) (y .shared) (y .order))) (pick-true _ _ _ refl) in
       let full : length zs ≡ cores f = stored-length lentRows (acceptedOf (loaded lentRows) s) ∙ n in
       let front-rows : take (cores f) (zs ++ drop rows (x .table)) ≡ zs = take-at zs _ (cores f) full in
       let memory = replaced a (x .memory) (y .memory) in
@@ -216,12 +217,12 @@ module _ (f t : List ℕ) (ok : Set f t) (x : Lent) (w : Ready f t x) (rows : �
       let lends = lendable-same f (ok .few) s (c .lendable .sized .places) (c .lendable .sized .offsets) zs full at t memory shared (y .order) [] (y .answer .refusal) 0
       record { count = c .lendable .count; sized = c .lendable .sized; fit = c .lendable .fit } in
       subst (λ (v : Lent). CountedLent f t x v (pick (eqb (v .refusal) 0) ks [])) (sym q)
-      (subst (CountedLent f t x (restoredLent rows a b x (lent 0 zs (s .holder) (y .memory) (y .shared) (y .order)))) (sym (pick-true _ _ _ refl))
+      (subst (CountedLent f t x (restoredLent rows a b x (lent 0 zs (s .semaphore) (y .memory) (y .shared) (y .order)))) (sym (pick-true _ _ _ refl))
       record {
-        whole = ap (λ (l : List Core). stateOf f (held (loaded l) (s .holder)) memory shared) front-rows ∙ same ∙ c .whole;
+        whole = ap (λ (l : List Core). stateOf f (held (loaded l) (s .semaphore)) memory shared) front-rows ∙ same ∙ c .whole;
         ready = record {
           rows = omega (arith, length-append zs (drop rows (x .table)), full);
-          lendable = subst (λ (l : List Core). Lendable f t (left (answerOf 0 (held (loaded l) (s .holder))) memory shared [])) (sym front-rows) lends;
+          lendable = subst (λ (l : List Core). Lendable f t (left (answerOf 0 (held (loaded l) (s .semaphore))) memory shared [])) (sym front-rows) lends;
         };
       })
 
@@ -262,7 +263,7 @@ module _ (f t : List ℕ) (ok : Set f t) (x : Lent) (w : Ready f t x) (rows : �
       → Counted f t (byValue f x) (restored a b (byValue f x) (call (byValue f x .answer .state))) (pick (eqb (call (byValue f x .answer .state) .answer .refusal) 0) ks [])
       → CountedLent f t x (leftBy (call state)) (pick (eqb (leftBy (call state) .refusal) 0) ks [])
   same-call call ks z n c =
-      let q : byValue f x .answer .state ≡ state = ap (λ (l : List Core). held (loaded l) (x .holder)) (sym (rows-all n)) in
+      let q : byValue f x .answer .state ≡ state = ap (λ (l : List Core). held (loaded l) (x .semaphore)) (sym (rows-all n)) in
       accepted-call ks (call state) z n
       (subst (Counted f t (byValue f x) (restored a b (byValue f x) (call state))) (pick-true _ _ _ (eq-eqb _ 0 z))
       (subst (λ (s : State). Counted f t (byValue f x) (restored a b (byValue f x) (call s)) (pick (eqb (call s .answer .refusal) 0) ks [])) q c))
@@ -307,31 +308,31 @@ lent-calls-counted f t ok (c ∷ cs) x w =
 -- ---- the fresh state
 
 -- a call for the fresh state that is not refused has a table of at least n records
-module _ (f : List ℕ) (ys : List Core) (holder : ℕ) (d sh : List ℕ) (e : freshLent f ys holder d sh .refusal ≡ 0) where
+module _ (f : List ℕ) (ys : List Core) (p : Semaphore) (d sh : List ℕ) (e : freshLent f ys p d sh .refusal ≡ 0) where
   fresh-long : leb (cores f) (counted (length ys)) ≡ true
   fresh-long = go (leb (cores f) (counted (length ys))) refl
     where
       go : (q : Bool) → leb (cores f) (counted (length ys)) ≡ q → leb (cores f) (counted (length ys)) ≡ true
       go true l = l
-      go false l = absurd (short-refused (judge f) (sym (ap (λ (x : Lent). x .refusal) (fresh-short-refused f ys holder d sh l)) ∙ e))
+      go false l = absurd (short-refused (judge f) (sym (ap (λ (x : Lent). x .refusal) (fresh-short-refused f ys p d sh l)) ∙ e))
 
   pub fresh-granted : freshRefusal f (length d) (length sh) ≡ 0
   fresh-granted = go (eqb (freshRefusal f (length d) (length sh)) 0) refl
     where
       go : (q : Bool) → eqb (freshRefusal f (length d) (length sh)) 0 ≡ q → freshRefusal f (length d) (length sh) ≡ 0
       go true l = eqb-true _ _ l
-      go false l = sym (ap (λ (x : Lent). x .refusal) (fresh-refused f ys holder d sh fresh-long (eqb-false _ _ l))) ∙ e
+      go false l = sym (ap (λ (x : Lent). x .refusal) (fresh-refused f ys p d sh fresh-long (eqb-false _ _ l))) ∙ e
 
   abbrev made : List Core
   made = stored ys (acceptedOf (loaded ys) (tableOf (cores f) 4))
 
   -- what it left
-  fresh-left : freshLent f ys holder d sh ≡ lent 0 made 0 (replicate (length d) 0) (replicate (length sh) 0) []
+  fresh-left : freshLent f ys p d sh ≡ lent 0 made (tableOf (cores f) 4 .semaphore) (replicate (length d) 0) (replicate (length sh) 0) []
   unfolding freshLent freshTable freshCall tableOf
   fresh-left =
-      ap (λ (l : Left). written ys (onTable (loaded ys) holder l)) (pick-true _ _ _ fresh-long ∙ pick-true _ _ _ (eq-eqb _ 0 fresh-granted))
-      ∙ ap (written ys) (on-accepted (loaded ys) holder (answerOf 0 (tableOf (cores f) 4)) (replicate (length d) 0) (replicate (length sh) 0) [] refl)
-      ∙ ap (λ (l : List Core). lent 0 l 0 (replicate (length d) 0) (replicate (length sh) 0) []) (pick-true _ _ _ refl)
+      ap (λ (l : Left). written ys (onTable (loaded ys) p l)) (pick-true _ _ _ fresh-long ∙ pick-true _ _ _ (eq-eqb _ 0 fresh-granted))
+      ∙ ap (written ys) (on-accepted (loaded ys) p (answerOf 0 (tableOf (cores f) 4)) (replicate (length d) 0) (replicate (length sh) 0) [] refl)
+      ∙ ap (λ (l : List Core). lent 0 l (tableOf (cores f) 4 .semaphore) (replicate (length d) 0) (replicate (length sh) 0) []) (pick-true _ _ _ refl)
 
   -- what the call by value leaves
   value-left : freshCall f d sh ≡ left (answerOf 0 (tableOf (cores f) 4)) (replicate (length d) 0) (replicate (length sh) 0) []
@@ -376,9 +377,9 @@ module _ (f : List ℕ) (ys : List Core) (holder : ℕ) (d sh : List ℕ) (e : f
     at k l = getD-take (cores f) made k noCore l ∙ stored-at (tableOf (cores f) 4) ys (cores f) (ok .few) refl enough k l
 
     abbrev begun : Lent
-    begun = lent 0 made 0 (replicate (length d) 0) (replicate (length sh) 0) []
+    begun = lent 0 made (tableOf (cores f) 4 .semaphore) (replicate (length d) 0) (replicate (length sh) 0) []
 
-    pub fresh-ready : Ready f t (freshLent f ys holder d sh)
+    pub fresh-ready : Ready f t (freshLent f ys p d sh)
     unfolding tableOf
     fresh-ready = subst (Ready f t) (sym fresh-left) record {
       rows = omega (arith, stored-length ys (acceptedOf (loaded ys) (tableOf (cores f) 4)), enough);
@@ -387,7 +388,7 @@ module _ (f : List ℕ) (ys : List Core) (holder : ℕ) (d sh : List ℕ) (e : f
           value-lendable;
     }
 
-    pub lent-fresh : wholeLent f (freshLent f ys holder d sh) ≡ fresh (sizesOf f)
+    pub lent-fresh : wholeLent f (freshLent f ys p d sh) ≡ fresh (sizesOf f)
     unfolding tableOf
     lent-fresh =
         ap (wholeLent f) fresh-left
@@ -396,16 +397,16 @@ module _ (f : List ℕ) (ys : List Core) (holder : ℕ) (d sh : List ℕ) (e : f
 
 -- ---- demand 3 of every list of lent calls; that f and t are bytes is known of the types
 
-pub lent-interleaved : (f t : List ℕ) → ((i : ℕ) → getD f i 0 < 256) → ((i : ℕ) → getD t i 0 < 256) → (ys : List Core) (holder : ℕ) (d sh : List ℕ)
-    → freshLent f ys holder d sh .refusal ≡ 0 → traceRefusal f t ≡ 0 → (cs : List LentCall) → LentInterleaved f t ys holder d sh cs
+pub lent-interleaved : (f t : List ℕ) → ((i : ℕ) → getD f i 0 < 256) → ((i : ℕ) → getD t i 0 < 256) → (ys : List Core) (p : Semaphore) (d sh : List ℕ)
+    → freshLent f ys p d sh .refusal ≡ 0 → traceRefusal f t ≡ 0 → (cs : List LentCall) → LentInterleaved f t ys p d sh cs
 unfolding freshRefusal
-lent-interleaved f t bytes trace-bytes ys holder d sh e sound cs =
-    let accepted : judge f ≡ 0 = next-zero _ _ (fresh-granted f ys holder d sh e) .0 in
+lent-interleaved f t bytes trace-bytes ys p d sh e sound cs =
+    let accepted : judge f ≡ 0 = next-zero _ _ (fresh-granted f ys p d sh e) .0 in
     let ok : Set f t = accepted-set f t bytes trace-bytes accepted sound in
-    let y = lent-calls-counted f t ok cs (freshLent f ys holder d sh) (fresh-ready f ys holder d sh e t ok) in
-    let ks = lentStepsOf f t cs (freshLent f ys holder d sh) in
+    let y = lent-calls-counted f t ok cs (freshLent f ys p d sh) (fresh-ready f ys p d sh e t ok) in
+    let ks = lentStepsOf f t cs (freshLent f ys p d sh) in
     record {
-      steps = y .0 ∙ ap (run (taskOf f t) ks) (lent-fresh f ys holder d sh e t ok);
+      steps = y .0 ∙ ap (run (taskOf f t) ks) (lent-fresh f ys p d sh e t ok);
       interleaved = interleaved-machine f t accepted ks;
     }
 
@@ -417,10 +418,10 @@ with-own s k four = go (ltb k 4) refl
   where
     go : (q : Bool) → ltb k 4 ≡ q → withRegisters s k (pick (ltb k 4) (getD (s .cores) k none) none) ≡ s
     go true e =
-        ap (λ (l : List Registers). record { count = s .count; holder = s .holder; cores = l; places = s .places; offsets = s .offsets })
+        ap (λ (l : List Registers). record { count = s .count; semaphore = s .semaphore; cores = l; places = s .places; offsets = s .offsets })
         (ap (set (s .cores) k) (pick-true _ _ _ e) ∙ set-getD (s .cores) k none)
     go false e =
-        ap (λ (l : List Registers). record { count = s .count; holder = s .holder; cores = l; places = s .places; offsets = s .offsets })
+        ap (λ (l : List Registers). record { count = s .count; semaphore = s .semaphore; cores = l; places = s .places; offsets = s .offsets })
         (set-out (s .cores) k _ (omega (arith, four, ltb-false k 4 e)))
 
 pub registers-leave : (f t : List ℕ) (a b : Lending) (k : ℕ) (x : Left) → length (x .answer .state .cores) ≡ 4 → RegistersLeave f t a b k x
@@ -484,8 +485,8 @@ unfolding runCall ranCall
 run-number f t h d sh order list = by-pick (λ (l : Left). l .answer .refusal ≡ runRefusal f t h d sh order list) (eqb (runRefusal f t h d sh order list) 0) _ _ (λ e. sym (eqb-true _ _ e)) (λ e. refl)
 
 -- the number of what a call left on a table
-table-number : (ys : List Core) (holder : ℕ) (l : Left) → written ys (onTable (loaded ys) holder l) .refusal ≡ l .answer .refusal
-table-number ys holder l = by-pick (λ (x : After). x .refusal ≡ l .answer .refusal) (eqb (l .answer .refusal) 0) _ _ (λ e. sym (eqb-true _ _ e)) (λ e. refl)
+table-number : (ys : List Core) (p : Semaphore) (l : Left) → written ys (onTable (loaded ys) p l) .refusal ≡ l .answer .refusal
+table-number ys p l = by-pick (λ (x : After). x .refusal ≡ l .answer .refusal) (eqb (l .answer .refusal) 0) _ _ (λ e. sym (eqb-true _ _ e)) (λ e. refl)
 
 -- two that can be lent on have the same memories where they hold the same state
 same-of : (f t : List ℕ) (x : Lent) → Ready f t x → (y : Left) → Lendable f t y → wholeLent f x ≡ wholeOf f y → Same f x y
@@ -495,13 +496,13 @@ same-of f t x w y v e =
     record {
       whole = e;
       memory =
-          sym (data-back f (h .cores) (h .places) (h .offsets) (h .holder) (x .memory) (x .shared) (w .lendable .sized .memory))
+          sym (data-back f (h .cores) (h .places) (h .offsets) (h .semaphore .holder) (x .memory) (x .shared) (w .lendable .sized .memory))
           ∙ ap dataOf e
-          ∙ data-back f (s .cores) (s .places) (s .offsets) (s .holder) (y .memory) (y .shared) (v .sized .memory);
+          ∙ data-back f (s .cores) (s .places) (s .offsets) (s .semaphore .holder) (y .memory) (y .shared) (v .sized .memory);
       shared =
-          sym (shared-in f (h .cores) (h .places) (h .offsets) (h .holder) (x .memory) (x .shared))
+          sym (shared-in f (h .cores) (h .places) (h .offsets) (h .semaphore .holder) (x .memory) (x .shared))
           ∙ ap (λ (z : Whole). z .plant .shared) e
-          ∙ shared-in f (s .cores) (s .places) (s .offsets) (s .holder) (y .memory) (y .shared);
+          ∙ shared-in f (s .cores) (s .places) (s .offsets) (s .semaphore .holder) (y .memory) (y .shared);
     }
 
 module _ (f t : List ℕ) (ok : Set f t) (x : Lent) (w : Ready f t x) (y : Left) (v : Lendable f t y) (same : Same f x y) where
@@ -516,12 +517,12 @@ module _ (f t : List ℕ) (ok : Set f t) (x : Lent) (w : Ready f t x) (y : Left)
   pub one-number : (c : Call) → leavesLent f t (over (cores f) c) x .refusal ≡ leaves f t c y .answer .refusal
   unfolding stepLent stepTable runLent runTable stepRefusal runRefusal
   one-number (stepping a b k) =
-      table-number (take (cores f) (x .table)) (x .holder) (stepCall f t (byValue f x .answer .state) (lentOf a (x .memory)) (lentOf b (x .shared)) k)
+      table-number (take (cores f) (x .table)) (x .semaphore) (stepCall f t (byValue f x .answer .state) (lentOf a (x .memory)) (lentOf b (x .shared)) k)
       ∙ step-number f t (byValue f x .answer .state) (lentOf a (x .memory)) (lentOf b (x .shared)) k
       ∙ same-number a b true (ltb k (cores f))
       ∙ sym (step-number f t (y .answer .state) (lentOf a (y .memory)) (lentOf b (y .shared)) k)
   one-number (running a b order list) =
-      table-number (take (cores f) (x .table)) (x .holder) (runCall f t (byValue f x .answer .state) (lentOf a (x .memory)) (lentOf b (x .shared)) order list)
+      table-number (take (cores f) (x .table)) (x .semaphore) (runCall f t (byValue f x .answer .state) (lentOf a (x .memory)) (lentOf b (x .shared)) order list)
       ∙ run-number f t (byValue f x .answer .state) (lentOf a (x .memory)) (lentOf b (x .shared)) order list
       ∙ same-number a b (leb (length order) (length list)) (allBelow (cores f) order)
       ∙ sym (run-number f t (y .answer .state) (lentOf a (y .memory)) (lentOf b (y .shared)) order list)
@@ -541,17 +542,17 @@ same-calls f t ok (c ∷ cs) x w y v same =
     one-call same (one-number f t ok x w y v same c)
     (same-calls f t ok cs (leavesLent f t (over (cores f) c) x) (lent-counted f t ok x w (over (cores f) c) .ready) (leaves f t c y) (call-counted f t ok y v c .lendable) (one-same f t ok x w y v same c))
 
-pub lent-by-value : (f t : List ℕ) → ((i : ℕ) → getD f i 0 < 256) → ((i : ℕ) → getD t i 0 < 256) → (ys : List Core) (holder : ℕ) (d sh : List ℕ)
-    → freshLent f ys holder d sh .refusal ≡ 0 → traceRefusal f t ≡ 0 → (cs : List Call) → SameCalls f t cs (freshLent f ys holder d sh) (freshCall f d sh)
+pub lent-by-value : (f t : List ℕ) → ((i : ℕ) → getD f i 0 < 256) → ((i : ℕ) → getD t i 0 < 256) → (ys : List Core) (p : Semaphore) (d sh : List ℕ)
+    → freshLent f ys p d sh .refusal ≡ 0 → traceRefusal f t ≡ 0 → (cs : List Call) → SameCalls f t cs (freshLent f ys p d sh) (freshCall f d sh)
 unfolding freshRefusal
-lent-by-value f t bytes trace-bytes ys holder d sh e sound cs =
-    let granted-fresh = fresh-granted f ys holder d sh e in
+lent-by-value f t bytes trace-bytes ys p d sh e sound cs =
+    let granted-fresh = fresh-granted f ys p d sh e in
     let ok : Set f t = accepted-set f t bytes trace-bytes (next-zero _ _ granted-fresh .0) sound in
-    let ready = fresh-ready f ys holder d sh e t ok in
-    let lends = subst (Lendable f t) (sym (value-left f ys holder d sh e)) (value-lendable f ys holder d sh e t ok) in
-    same-calls f t ok cs (freshLent f ys holder d sh) ready (freshCall f d sh) lends
-    (same-of f t (freshLent f ys holder d sh) ready (freshCall f d sh) lends
-    (lent-fresh f ys holder d sh e t ok ∙ sym (ap (wholeOf f) (value-left f ys holder d sh e) ∙ value-fresh f ys holder d sh e t ok)))
+    let ready = fresh-ready f ys p d sh e t ok in
+    let lends = subst (Lendable f t) (sym (value-left f ys p d sh e)) (value-lendable f ys p d sh e t ok) in
+    same-calls f t ok cs (freshLent f ys p d sh) ready (freshCall f d sh) lends
+    (same-of f t (freshLent f ys p d sh) ready (freshCall f d sh) lends
+    (lent-fresh f ys p d sh e t ok ∙ sym (ap (wholeOf f) (value-left f ys p d sh e) ∙ value-fresh f ys p d sh e t ok)))
 
 -- ---- the takings of a run over a lent table
 
@@ -564,11 +565,11 @@ ran-is f t h d sh order list z =
     let q : runCall f t h d sh order list ≡ ranCall f t h d sh order list = pick-true _ _ _ (eq-eqb _ 0 z) in
     (ap (λ (l : Left). l .order) q, ap (λ (l : Left). l .answer .taken) q ∙ length-map (takings (taskOf f t) order (stateOf f h d sh)) encoded)
 
-pub run-listed : (f t : List ℕ) (ys : List Core) (holder : ℕ) (d sh order list : List ℕ) (taken : ℕ) → runLent f t ys holder d sh order list .refusal ≡ 0 → RunLentListed f t ys holder d sh order list taken
+pub run-listed : (f t : List ℕ) (ys : List Core) (p : Semaphore) (d sh order list : List ℕ) (taken : ℕ) → runLent f t ys p d sh order list .refusal ≡ 0 → RunLentListed f t ys p d sh order list taken
 unfolding runLent runTable takenLent takenTable
-run-listed f t ys holder d sh order list taken e =
-    let h = held (loaded ys) holder in
-    let accepted : runCall f t h d sh order list .answer .refusal ≡ 0 = sym (table-number ys holder (runCall f t h d sh order list)) ∙ e in
+run-listed f t ys p d sh order list taken e =
+    let h = held (loaded ys) p in
+    let accepted : runCall f t h d sh order list .answer .refusal ≡ 0 = sym (table-number ys p (runCall f t h d sh order list)) ∙ e in
     let ran = ran-is f t h d sh order list (sym (run-number f t h d sh order list) ∙ accepted) in
     record {
       listed = ran .0;

@@ -16,6 +16,7 @@ use Rattle.memory.proofs.Laws.{splice-is}
 use Rattle.verdict.proofs.Verdict.{pick-true, pick-false}
 use Rattle.records.specs.File.{cores}
 use Rattle.taskset.specs.Judge.{judge}
+use Rattle.states.specs.declared.Semaphore.{Semaphore}
 use Rattle.states.specs.declared.State.{State}
 use Rattle.runner.specs.declared.Ran.{Ran}
 use Rattle.runner.specs.Runs.{Left, left}
@@ -23,7 +24,7 @@ use Rattle.machine.specs.Calls.{answerOf, tableOf, freshCall, runCall, stepCall
 use Rattle.lent.specs.declared.Core.{Core}
 use Rattle.lent.specs.declared.Table.{Table}
 use Rattle.lent.specs.declared.After.{After}
-use Rattle.lent.specs.Lent.{loaded, held, acceptedOf, refusedOf, afterOf, holderAfter, takenAfter, tableLeft, onTable, saved, lent, written, stepTable, stepLent, runTable, runLent, takenTable, takenLent, freshTable, freshLent}
+use Rattle.lent.specs.Lent.{loaded, held, acceptedOf, refusedOf, afterOf, takenAfter, tableLeft, onTable, saved, lent, written, stepTable, stepLent, runTable, runLent, takenTable, takenLent, freshTable, freshLent}
 
 -- ---- whole stretches
 
@@ -37,19 +38,15 @@ splice-whole s ys e =
 
 -- ---- what a call by value left, on a table copied out
 
-pub on-refused : (x : Table) (holder : ℕ) (r : Ran) (d sh list : List ℕ) → r .refusal ≢ 0 → onTable x holder (left r d sh list) ≡ tableLeft (refusedOf x (r .refusal)) holder d sh list
-on-refused x holder r d sh list ne =
-    let e = ne-eqb (r .refusal) 0 ne in
-    let kept : afterOf x r ≡ refusedOf x (r .refusal) = pick-false _ _ _ e in
-    let same : holderAfter holder r ≡ holder = pick-false _ _ _ e in
-    (λ i. tableLeft (kept i) (same i) d sh list)
+pub on-refused : (x : Table) (p : Semaphore) (r : Ran) (d sh list : List ℕ) → r .refusal ≢ 0 → onTable x p (left r d sh list) ≡ tableLeft (refusedOf x p (r .refusal)) d sh list
+on-refused x p r d sh list ne =
+    let kept : afterOf x p r ≡ refusedOf x p (r .refusal) = pick-false _ _ _ (ne-eqb (r .refusal) 0 ne) in
+    (λ i. tableLeft (kept i) d sh list)
 
-pub on-accepted : (x : Table) (holder : ℕ) (r : Ran) (d sh list : List ℕ) → r .refusal ≡ 0 → onTable x holder (left r d sh list) ≡ tableLeft (acceptedOf x (r .state)) (r .state .holder) d sh list
-on-accepted x holder r d sh list z =
-    let e = eq-eqb (r .refusal) 0 z in
-    let new : afterOf x r ≡ acceptedOf x (r .state) = pick-true _ _ _ e in
-    let its : holderAfter holder r ≡ r .state .holder = pick-true _ _ _ e in
-    (λ i. tableLeft (new i) (its i) d sh list)
+pub on-accepted : (x : Table) (p : Semaphore) (r : Ran) (d sh list : List ℕ) → r .refusal ≡ 0 → onTable x p (left r d sh list) ≡ tableLeft (acceptedOf x (r .state)) d sh list
+on-accepted x p r d sh list z =
+    let new : afterOf x p r ≡ acceptedOf x (r .state) = pick-true _ _ _ (eq-eqb (r .refusal) 0 z) in
+    (λ i. tableLeft (new i) d sh list)
 
 -- the file's own refusal, else 21: never none
 pub short-refused : (a : ℕ) → next a 21 ≢ 0
@@ -59,84 +56,84 @@ short-refused (suc a) e = suc-ne-zero a e
 
 -- ---- a call on a table copied out: refused, or not
 
-module _ (f t : List ℕ) (x : Table) (holder : ℕ) (d sh : List ℕ) (k : ℕ) (s : State) (r : Ran) (y : After) (d′ sh′ : List ℕ) (es : s ≡ held x holder) (e : left r d′ sh′ [] ≡ stepCall f t s d sh k) where
-  stepped-on : onTable x holder (left r d′ sh′ []) ≡ stepTable f t x holder d sh k
+module _ (f t : List ℕ) (x : Table) (p : Semaphore) (d sh : List ℕ) (k : ℕ) (s : State) (r : Ran) (y : After) (d′ sh′ : List ℕ) (es : s ≡ held x p) (e : left r d′ sh′ [] ≡ stepCall f t s d sh k) where
+  stepped-on : onTable x p (left r d′ sh′ []) ≡ stepTable f t x p d sh k
   unfolding stepTable
-  stepped-on = ap (onTable x holder) (e ∙ ap (λ (z : State). stepCall f t z d sh k) es)
+  stepped-on = ap (onTable x p) (e ∙ ap (λ (z : State). stepCall f t z d sh k) es)
 
-  pub step-stays : r .refusal ≢ 0 → y ≡ refusedOf x (r .refusal) → tableLeft y holder d′ sh′ [] ≡ stepTable f t x holder d sh k
-  step-stays ne ey = ap (λ (z : After). tableLeft z holder d′ sh′ []) ey ∙ sym (on-refused x holder r d′ sh′ [] ne) ∙ stepped-on
+  pub step-stays : r .refusal ≢ 0 → y ≡ refusedOf x p (r .refusal) → tableLeft y d′ sh′ [] ≡ stepTable f t x p d sh k
+  step-stays ne ey = ap (λ (z : After). tableLeft z d′ sh′ []) ey ∙ sym (on-refused x p r d′ sh′ [] ne) ∙ stepped-on
 
-  pub step-moves : r .refusal ≡ 0 → y ≡ acceptedOf x (r .state) → tableLeft y (r .state .holder) d′ sh′ [] ≡ stepTable f t x holder d sh k
-  step-moves z ey = ap (λ (z : After). tableLeft z (r .state .holder) d′ sh′ []) ey ∙ sym (on-accepted x holder r d′ sh′ [] z) ∙ stepped-on
+  pub step-moves : r .refusal ≡ 0 → y ≡ acceptedOf x (r .state) → tableLeft y d′ sh′ [] ≡ stepTable f t x p d sh k
+  step-moves z ey = ap (λ (z : After). tableLeft z d′ sh′ []) ey ∙ sym (on-accepted x p r d′ sh′ [] z) ∙ stepped-on
 
-module _ (f t : List ℕ) (x : Table) (holder : ℕ) (d sh order list : List ℕ) (taken : ℕ) (s : State) (r : Ran) (y : After) (d′ sh′ list′ : List ℕ) (es : s ≡ held x holder) (e : left r d′ sh′ list′ ≡ runCall f t s d sh order list) where
-  ran-on : onTable x holder (left r d′ sh′ list′) ≡ runTable f t x holder d sh order list
+module _ (f t : List ℕ) (x : Table) (p : Semaphore) (d sh order list : List ℕ) (taken : ℕ) (s : State) (r : Ran) (y : After) (d′ sh′ list′ : List ℕ) (es : s ≡ held x p) (e : left r d′ sh′ list′ ≡ runCall f t s d sh order list) where
+  ran-on : onTable x p (left r d′ sh′ list′) ≡ runTable f t x p d sh order list
   unfolding runTable
-  ran-on = ap (onTable x holder) (e ∙ ap (λ (z : State). runCall f t z d sh order list) es)
+  ran-on = ap (onTable x p) (e ∙ ap (λ (z : State). runCall f t z d sh order list) es)
 
-  taken-on : takenAfter taken r ≡ takenTable f t x holder d sh order list taken
+  taken-on : takenAfter taken r ≡ takenTable f t x p d sh order list taken
   unfolding takenTable
   taken-on = ap (λ (l : Left). takenAfter taken (l .answer)) (e ∙ ap (λ (z : State). runCall f t z d sh order list) es)
 
-  pub run-stays : r .refusal ≢ 0 → y ≡ refusedOf x (r .refusal)
-      → (tableLeft y holder d′ sh′ list′ ≡ runTable f t x holder d sh order list) × (taken ≡ takenTable f t x holder d sh order list taken)
+  pub run-stays : r .refusal ≢ 0 → y ≡ refusedOf x p (r .refusal)
+      → (tableLeft y d′ sh′ list′ ≡ runTable f t x p d sh order list) × (taken ≡ takenTable f t x p d sh order list taken)
   run-stays ne ey = (
-    ap (λ (z : After). tableLeft z holder d′ sh′ list′) ey ∙ sym (on-refused x holder r d′ sh′ list′ ne) ∙ ran-on,
+    ap (λ (z : After). tableLeft z d′ sh′ list′) ey ∙ sym (on-refused x p r d′ sh′ list′ ne) ∙ ran-on,
     sym (pick-false _ _ _ (ne-eqb (r .refusal) 0 ne)) ∙ taken-on,
   )
 
   pub run-moves : r .refusal ≡ 0 → y ≡ acceptedOf x (r .state)
-      → (tableLeft y (r .state .holder) d′ sh′ list′ ≡ runTable f t x holder d sh order list) × (r .taken ≡ takenTable f t x holder d sh order list taken)
+      → (tableLeft y d′ sh′ list′ ≡ runTable f t x p d sh order list) × (r .taken ≡ takenTable f t x p d sh order list taken)
   run-moves z ey = (
-    ap (λ (z : After). tableLeft z (r .state .holder) d′ sh′ list′) ey ∙ sym (on-accepted x holder r d′ sh′ list′ z) ∙ ran-on,
+    ap (λ (z : After). tableLeft z d′ sh′ list′) ey ∙ sym (on-accepted x p r d′ sh′ list′ z) ∙ ran-on,
     sym (pick-true _ _ _ (eq-eqb (r .refusal) 0 z)) ∙ taken-on,
   )
 
-module _ (f : List ℕ) (x : Table) (holder : ℕ) (d sh : List ℕ) (n : ℕ) (en : n ≡ cores f) where
-  pub fresh-short : (r : ℕ) (y : After) → x .count < n → r ≡ next (judge f) 21 → y ≡ refusedOf x r → tableLeft y holder d sh [] ≡ freshTable f x holder d sh
+module _ (f : List ℕ) (x : Table) (p : Semaphore) (d sh : List ℕ) (n : ℕ) (en : n ≡ cores f) where
+  pub fresh-short : (r : ℕ) (y : After) → x .count < n → r ≡ next (judge f) 21 → y ≡ refusedOf x p r → tableLeft y d sh [] ≡ freshTable f x p d sh
   unfolding freshTable
   fresh-short r y h er ey =
       let q = next (judge f) 21 in
-      ap (λ (z : After). tableLeft z holder d sh []) (ey ∙ ap (refusedOf x) er)
-      ∙ sym (on-refused x holder (answerOf q (tableOf 0 0)) d sh [] (short-refused (judge f)))
-      ∙ ap (onTable x holder) (sym (pick-false _ _ _ (lt-leb (cores f) (x .count) (omega (arith, en, h)))))
+      ap (λ (z : After). tableLeft z d sh []) (ey ∙ ap (refusedOf x p) er)
+      ∙ sym (on-refused x p (answerOf q (tableOf 0 0)) d sh [] (short-refused (judge f)))
+      ∙ ap (onTable x p) (sym (pick-false _ _ _ (lt-leb (cores f) (x .count) (omega (arith, en, h)))))
 
   module _ (r : Ran) (y : After) (d′ sh′ : List ℕ) (h : n ≤ x .count) (e : left r d′ sh′ [] ≡ freshCall f d sh) where
-    freshened : onTable x holder (left r d′ sh′ []) ≡ freshTable f x holder d sh
+    freshened : onTable x p (left r d′ sh′ []) ≡ freshTable f x p d sh
     unfolding freshTable
-    freshened = ap (onTable x holder) (e ∙ sym (pick-true _ _ _ (le-leb (cores f) (x .count) (omega (arith, en, h)))))
+    freshened = ap (onTable x p) (e ∙ sym (pick-true _ _ _ (le-leb (cores f) (x .count) (omega (arith, en, h)))))
 
-    pub fresh-stays : r .refusal ≢ 0 → y ≡ refusedOf x (r .refusal) → tableLeft y holder d′ sh′ [] ≡ freshTable f x holder d sh
-    fresh-stays ne ey = ap (λ (z : After). tableLeft z holder d′ sh′ []) ey ∙ sym (on-refused x holder r d′ sh′ [] ne) ∙ freshened
+    pub fresh-stays : r .refusal ≢ 0 → y ≡ refusedOf x p (r .refusal) → tableLeft y d′ sh′ [] ≡ freshTable f x p d sh
+    fresh-stays ne ey = ap (λ (z : After). tableLeft z d′ sh′ []) ey ∙ sym (on-refused x p r d′ sh′ [] ne) ∙ freshened
 
-    pub fresh-moves : r .refusal ≡ 0 → y ≡ acceptedOf x (r .state) → tableLeft y (r .state .holder) d′ sh′ [] ≡ freshTable f x holder d sh
-    fresh-moves z ey = ap (λ (z : After). tableLeft z (r .state .holder) d′ sh′ []) ey ∙ sym (on-accepted x holder r d′ sh′ [] z) ∙ freshened
+    pub fresh-moves : r .refusal ≡ 0 → y ≡ acceptedOf x (r .state) → tableLeft y d′ sh′ [] ≡ freshTable f x p d sh
+    fresh-moves z ey = ap (λ (z : After). tableLeft z d′ sh′ []) ey ∙ sym (on-accepted x p r d′ sh′ [] z) ∙ freshened
 
 -- ---- a call on a lent table: what was copied out, what was written back
 
-pub step-written : (f t : List ℕ) (ys : List Core) (holder : ℕ) (d sh : List ℕ) (k : ℕ) (x : Table) (y : After) (ys′ : List Core) (holder′ : ℕ) (d′ sh′ : List ℕ)
-    → x ≡ loaded ys → tableLeft y holder′ d′ sh′ [] ≡ stepTable f t x holder d sh k → ys′ ≡ saved ys y
-    → lent (y .refusal) ys′ holder′ d′ sh′ [] ≡ stepLent f t ys holder d sh k
+pub step-written : (f t : List ℕ) (ys : List Core) (p : Semaphore) (d sh : List ℕ) (k : ℕ) (x : Table) (y : After) (ys′ : List Core) (d′ sh′ : List ℕ)
+    → x ≡ loaded ys → tableLeft y d′ sh′ [] ≡ stepTable f t x p d sh k → ys′ ≡ saved ys y
+    → lent (y .refusal) ys′ (y .semaphore) d′ sh′ [] ≡ stepLent f t ys p d sh k
 unfolding stepLent
-step-written f t ys holder d sh k x y ys′ holder′ d′ sh′ e₁ e₂ e₃ =
-    ap (λ (l : List Core). lent (y .refusal) l holder′ d′ sh′ []) e₃ ∙ ap (written ys) (e₂ ∙ ap (λ (z : Table). stepTable f t z holder d sh k) e₁)
+step-written f t ys p d sh k x y ys′ d′ sh′ e₁ e₂ e₃ =
+    ap (λ (l : List Core). lent (y .refusal) l (y .semaphore) d′ sh′ []) e₃ ∙ ap (written ys) (e₂ ∙ ap (λ (z : Table). stepTable f t z p d sh k) e₁)
 
-pub run-written : (f t : List ℕ) (ys : List Core) (holder : ℕ) (d sh order list : List ℕ) (x : Table) (y : After) (ys′ : List Core) (holder′ : ℕ) (d′ sh′ list′ : List ℕ)
-    → x ≡ loaded ys → tableLeft y holder′ d′ sh′ list′ ≡ runTable f t x holder d sh order list → ys′ ≡ saved ys y
-    → lent (y .refusal) ys′ holder′ d′ sh′ list′ ≡ runLent f t ys holder d sh order list
+pub run-written : (f t : List ℕ) (ys : List Core) (p : Semaphore) (d sh order list : List ℕ) (x : Table) (y : After) (ys′ : List Core) (d′ sh′ list′ : List ℕ)
+    → x ≡ loaded ys → tableLeft y d′ sh′ list′ ≡ runTable f t x p d sh order list → ys′ ≡ saved ys y
+    → lent (y .refusal) ys′ (y .semaphore) d′ sh′ list′ ≡ runLent f t ys p d sh order list
 unfolding runLent
-run-written f t ys holder d sh order list x y ys′ holder′ d′ sh′ list′ e₁ e₂ e₃ =
-    ap (λ (l : List Core). lent (y .refusal) l holder′ d′ sh′ list′) e₃ ∙ ap (written ys) (e₂ ∙ ap (λ (z : Table). runTable f t z holder d sh order list) e₁)
+run-written f t ys p d sh order list x y ys′ d′ sh′ list′ e₁ e₂ e₃ =
+    ap (λ (l : List Core). lent (y .refusal) l (y .semaphore) d′ sh′ list′) e₃ ∙ ap (written ys) (e₂ ∙ ap (λ (z : Table). runTable f t z p d sh order list) e₁)
 
-pub taken-written : (f t : List ℕ) (ys : List Core) (holder : ℕ) (d sh order list : List ℕ) (taken taken′ : ℕ) (x : Table)
-    → x ≡ loaded ys → taken′ ≡ takenTable f t x holder d sh order list taken → taken′ ≡ takenLent f t ys holder d sh order list taken
+pub taken-written : (f t : List ℕ) (ys : List Core) (p : Semaphore) (d sh order list : List ℕ) (taken taken′ : ℕ) (x : Table)
+    → x ≡ loaded ys → taken′ ≡ takenTable f t x p d sh order list taken → taken′ ≡ takenLent f t ys p d sh order list taken
 unfolding takenLent
-taken-written f t ys holder d sh order list taken taken′ x e₁ e₂ = e₂ ∙ ap (λ (z : Table). takenTable f t z holder d sh order list taken) e₁
+taken-written f t ys p d sh order list taken taken′ x e₁ e₂ = e₂ ∙ ap (λ (z : Table). takenTable f t z p d sh order list taken) e₁
 
-pub fresh-written : (f : List ℕ) (ys : List Core) (holder : ℕ) (d sh : List ℕ) (x : Table) (y : After) (ys′ : List Core) (holder′ : ℕ) (d′ sh′ : List ℕ)
-    → x ≡ loaded ys → tableLeft y holder′ d′ sh′ [] ≡ freshTable f x holder d sh → ys′ ≡ saved ys y
-    → lent (y .refusal) ys′ holder′ d′ sh′ [] ≡ freshLent f ys holder d sh
+pub fresh-written : (f : List ℕ) (ys : List Core) (p : Semaphore) (d sh : List ℕ) (x : Table) (y : After) (ys′ : List Core) (d′ sh′ : List ℕ)
+    → x ≡ loaded ys → tableLeft y d′ sh′ [] ≡ freshTable f x p d sh → ys′ ≡ saved ys y
+    → lent (y .refusal) ys′ (y .semaphore) d′ sh′ [] ≡ freshLent f ys p d sh
 unfolding freshLent
-fresh-written f ys holder d sh x y ys′ holder′ d′ sh′ e₁ e₂ e₃ =
-    ap (λ (l : List Core). lent (y .refusal) l holder′ d′ sh′ []) e₃ ∙ ap (written ys) (e₂ ∙ ap (λ (z : Table). freshTable f z holder d sh) e₁)
+fresh-written f ys p d sh x y ys′ d′ sh′ e₁ e₂ e₃ =
+    ap (λ (l : List Core). lent (y .refusal) l (y .semaphore) d′ sh′ []) e₃ ∙ ap (written ys) (e₂ ∙ ap (λ (z : Table). freshTable f z p d sh) e₁)

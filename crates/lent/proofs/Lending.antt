@@ -19,6 +19,9 @@ use denote.Struct.Laws as LL
 use denote.Triple.Statement.{Contract}
 use denote.Triple.Clauses.{ensured, lasts}
 use denote.Triple.Spec.{tripleOf}
+use Rattle.states.specs.declared.Semaphore.{Semaphore}
+use Rattle.states.proofs.Semaphore as P
+use Rattle.states.proofs.Semaphore.Laws as P′
 use Rattle.lent.specs.declared.Core.{Core}
 use Rattle.lent.specs.declared.Table.{Table}
 use Rattle.lent.specs.declared.After.{After}
@@ -32,7 +35,10 @@ use Rattle.lent.proofs.save as save
 abbrev pub R : RattleType
 R = T.the-row
 
--- the machine value of an answer
+-- the machine values of a semaphore and of an answer
+abbrev pub mach-semaphore : Semaphore → Val
+mach-semaphore s = LL.tuple-val P.the-type P′.the-laws (P.the-type .to s)
+
 abbrev pub mach-after : After → Val
 mach-after y = LL.tuple-val N.the-type N′.the-laws (N.the-type .to y)
 
@@ -53,3 +59,6 @@ after-is y w is = subst (Is N.the-row y) (LL.tells N.the-type N′.the-laws y _ 
 
 pub refusal-fits : (y : After) (w : Val) → Is N.the-row y (w ∷ []) → y .refusal < 2 ^ 8
 refusal-fits y w is = LL.owed N.the-type N′.the-laws y _ is .0 .1
+
+pub semaphore-is : (y : After) (w : Val) → Is N.the-row y (w ∷ []) → Is P.the-row (y .semaphore) (mach-semaphore (y .semaphore) ∷ [])
+semaphore-is y w is = LL.owed N.the-type N′.the-laws y _ is .1 .1 .1 .1 .1 .0

@@ -17,6 +17,7 @@ use Rattle.records.specs.File.{cores}
 use Rattle.taskset.specs.Task.{listed}
 use Rattle.taskset.proofs.Exact.{keeps-rules}
 use Rattle.taskset.specs.Trace.{recordCount}
+use Rattle.states.specs.declared.Semaphore.{Semaphore}
 use Rattle.states.specs.declared.State.{State}
 use Rattle.states.specs.declared.CoreTask.{CoreTask}
 use Rattle.states.specs.Machine.{none}
@@ -31,31 +32,31 @@ use Rattle.lent.specs.Lent.{registersIn, recordAt, loaded, held, countsO
 
 -- ---- the ring
 
-abbrev pub wholeRing : List ℕ → List ℕ → ℕ → ℕ → Ring
-wholeRing f t holder given = record { refusal = 0; cores = cores f; given = given; holder = holder; counts = countsOf f t }
+abbrev pub wholeRing : List ℕ → List ℕ → Semaphore → ℕ → Ring
+wholeRing f t p given = record { refusal = 0; cores = cores f; given = given; semaphore = p; counts = countsOf f t }
 
-module _ (f t : List ℕ) (x : Table) (holder given : ℕ) (s : State) (es : s ≡ held x holder) where
-  pub ring-refused : (n : ℕ) (r : Ring) → n ≡ nextRefusal f t s given → n ≢ 0 → r ≡ noRing n given holder → r ≡ ringOf f t x holder given
+module _ (f t : List ℕ) (x : Table) (p : Semaphore) (given : ℕ) (s : State) (es : s ≡ held x p) where
+  pub ring-refused : (n : ℕ) (r : Ring) → n ≡ nextRefusal f t s given → n ≢ 0 → r ≡ noRing n given p → r ≡ ringOf f t x p given
   unfolding ringOf
   ring-refused n r e ne er =
-      let q : n ≡ nextRefusal f t (held x holder) given = e ∙ ap (λ (z : State). nextRefusal f t z given) es in
-      er ∙ ap (λ (m : ℕ). noRing m given holder) q ∙ sym (pick-false _ _ _ (ne-eqb _ 0 (λ z. ne (q ∙ z))))
+      let q : n ≡ nextRefusal f t (held x p) given = e ∙ ap (λ (z : State). nextRefusal f t z given) es in
+      er ∙ ap (λ (m : ℕ). noRing m given p) q ∙ sym (pick-false _ _ _ (ne-eqb _ 0 (λ z. ne (q ∙ z))))
 
   pub ring-whole : nextRefusal f t s given ≡ 0 → (n : ℕ) (tasks : List CoreTask) → n ≡ cores f → tasks ≡ tasksOf f t
       → _≡_ {A = Ring} record {
         refusal = 0;
         cores = n;
         given = given;
-        holder = holder;
+        semaphore = p;
         counts = getD tasks 0 noTask .count ∷ getD tasks 1 noTask .count ∷ getD tasks 2 noTask .count ∷ getD tasks 3 noTask .count ∷ [];
-      } (ringOf f t x holder given)
+      } (ringOf f t x p given)
   unfolding ringOf
   ring-whole e n tasks en et =
       (λ i. record {
         refusal = 0;
         cores = en i;
         given = given;
-        holder = holder;
+        semaphore = p;
         counts = getD (et i) 0 noTask .count ∷ getD (et i) 1 noTask .count ∷ getD (et i) 2 noTask .count ∷ getD (et i) 3 noTask .count ∷ [];
       })
       ∙ sym (pick-true _ _ _ (eq-eqb _ 0 (ap (λ (z : State). nextRefusal f t z given) (sym es) ∙ e)))
@@ -70,12 +71,12 @@ four P a b c d (suc (suc zero)) h = c
 four P a b c d (suc (suc (suc zero))) h = d
 four P a b c d (suc (suc (suc (suc k)))) h = absurd (omega arith)
 
-module _ (f t : List ℕ) (ys : List Core) (holder given : ℕ) (few : cores f ≤ 4) (inside : given < cores f) where
+module _ (f t : List ℕ) (ys : List Core) (p : Semaphore) (given : ℕ) (few : cores f ≤ 4) (inside : given < cores f) where
   abbrev state : State
-  state = held (loaded ys) holder
+  state = held (loaded ys) p
 
   abbrev ring : Ring
-  ring = wholeRing f t holder given
+  ring = wholeRing f t p given
 
   counts-at : (k : ℕ) → k < 4 → getD (countsOf f t) k 0 ≡ taskAt f t k .count
   counts-at = four (λ (k : ℕ). getD (countsOf f t) k 0 ≡ taskAt f t k .count) refl refl refl refl
@@ -92,8 +93,8 @@ module _ (f t : List ℕ) (ys : List Core) (holder given : ℕ) (few : cores f �
   unfolding moves held
   record-moves k l =
       let m : k < 4 = omega arith in
-      ap (λ (n : ℕ). canMove holder n (registersIn (recordAt ys k))) (pick-true _ _ _ (lt-ltb k 4 m) ∙ counts-at k m ∙ count-is k l)
-      ∙ ap (canMove holder (recordCount f t k)) (sym (registers-at k m))
+      ap (λ (n : ℕ). canMove (p .holder) n (registersIn (recordAt ys k))) (pick-true _ _ _ (lt-ltb k 4 m) ∙ counts-at k m ∙ count-is k l)
+      ∙ ap (canMove (p .holder) (recordCount f t k)) (sym (registers-at k m))
 
   -- ---- the scan
 
@@ -161,31 +162,31 @@ module _ (ys : List Core) (r : Ring) where
 
 -- ---- the call
 
-module _ (f t : List ℕ) (ys : List Core) (holder given found : ℕ) (x : Table) (r : Ring) (k number found′ : ℕ)
-    (ex : x ≡ loaded ys) (er : r ≡ ringOf f t x holder given) (ek : k ≡ scanned ys r) (ea : answered number found′ ≡ ringAnswer r k found) where
-  ring-is : r ≡ ringOf f t (loaded ys) holder given
-  ring-is = er ∙ ap (λ (z : Table). ringOf f t z holder given) ex
+module _ (f t : List ℕ) (ys : List Core) (p : Semaphore) (given found : ℕ) (x : Table) (r : Ring) (k number found′ : ℕ)
+    (ex : x ≡ loaded ys) (er : r ≡ ringOf f t x p given) (ek : k ≡ scanned ys r) (ea : answered number found′ ≡ ringAnswer r k found) where
+  ring-is : r ≡ ringOf f t (loaded ys) p given
+  ring-is = er ∙ ap (λ (z : Table). ringOf f t z p given) ex
 
-  next-stays : nextRefusal f t (held (loaded ys) holder) given ≢ 0 → answered number found′ ≡ nextLent f t ys holder given found
+  next-stays : nextRefusal f t (held (loaded ys) p) given ≢ 0 → answered number found′ ≡ nextLent f t ys p given found
   unfolding nextLent ringOf
   next-stays ne =
-      let q : r ≡ noRing (nextRefusal f t (held (loaded ys) holder) given) given holder = ring-is ∙ pick-false _ _ _ (ne-eqb _ 0 ne) in
+      let q : r ≡ noRing (nextRefusal f t (held (loaded ys) p) given) given p = ring-is ∙ pick-false _ _ _ (ne-eqb _ 0 ne) in
       ea ∙ ap (λ (z : Ring). ringAnswer z k found) q ∙ pick-false _ _ _ (ne-eqb _ 0 ne) ∙ sym (pick-false _ _ _ (ne-eqb _ 0 ne))
 
-  next-found : nextRefusal f t (held (loaded ys) holder) given ≡ 0 → cores f ≤ 4 → given < cores f → answered number found′ ≡ nextLent f t ys holder given found
+  next-found : nextRefusal f t (held (loaded ys) p) given ≡ 0 → cores f ≤ 4 → given < cores f → answered number found′ ≡ nextLent f t ys p given found
   unfolding nextLent ringOf pick
   next-found e few inside =
-      let q : r ≡ wholeRing f t holder given = ring-is ∙ pick-true _ _ _ (eq-eqb _ 0 e) in
+      let q : r ≡ wholeRing f t p given = ring-is ∙ pick-true _ _ _ (eq-eqb _ 0 e) in
       ea
       ∙ ap (λ (z : Ring). ringAnswer z k found) q
-      ∙ ap (answered 0) (ek ∙ ap (scanned ys) q ∙ scan-is f t ys holder given few inside)
+      ∙ ap (answered 0) (ek ∙ ap (scanned ys) q ∙ scan-is f t ys p given few inside)
       ∙ sym (pick-true _ _ _ (eq-eqb _ 0 e))
 
-  pub next-lent : answered number found′ ≡ nextLent f t ys holder given found
+  pub next-lent : answered number found′ ≡ nextLent f t ys p given found
   unfolding nextRefusal
-  next-lent = go (eqb (nextRefusal f t (held (loaded ys) holder) given) 0) refl
+  next-lent = go (eqb (nextRefusal f t (held (loaded ys) p) given) 0) refl
     where
-      go : (q : Bool) → eqb (nextRefusal f t (held (loaded ys) holder) given) 0 ≡ q → answered number found′ ≡ nextLent f t ys holder given found
+      go : (q : Bool) → eqb (nextRefusal f t (held (loaded ys) p) given) 0 ≡ q → answered number found′ ≡ nextLent f t ys p given found
       go true e =
           let z = eqb-true _ _ e in
           let judged = next-zero _ _ z in

@@ -1,4 +1,4 @@
--- A refused call on a lent table leaves every record, the semaphore's holder and every lent byte as on entry: each claim is the whole of what the
+-- A refused call on a lent table leaves every record, the semaphore and every lent byte as on entry: each claim is the whole of what the
 -- call leaves. In order: a table after a refused call; the calls; the registers of one core.
 -- Assumes nothing.
 use mathlib.Core.Path.{_≡_, refl, sym, ap, subst, _∙_}
@@ -15,6 +15,7 @@ use Rattle.verdict.proofs.Verdict.{pick-true, pick-false, by-pick}
 use Rattle.records.specs.File.{cores}
 use Rattle.taskset.specs.Judge.{judge}
 use Rattle.protocol.specs.declared.Registers.{Registers}
+use Rattle.states.specs.declared.Semaphore.{Semaphore}
 use Rattle.states.specs.declared.State.{State}
 use Rattle.states.specs.Machine.{none}
 use Rattle.runner.specs.Runs.{Left, left}
@@ -29,48 +30,48 @@ use Rattle.lent.proofs.Laws.{on-refused, short-refused}
 pub saved-same : (ys : List Core) (x : After) → x .refusal ≢ 0 → saved ys x ≡ ys
 saved-same ys x ne = pick-false _ _ _ (ne-eqb _ 0 ne)
 
-pub refused-lent : (ys : List Core) (holder : ℕ) (d sh list : List ℕ) (n : ℕ) (s : State) → n ≢ 0
-    → written ys (onTable (loaded ys) holder (left (answerOf n s) d sh list)) ≡ lent n ys holder d sh list
-refused-lent ys holder d sh list n s ne =
-    ap (written ys) (on-refused (loaded ys) holder (answerOf n s) d sh list ne) ∙ ap (λ (l : List Core). lent n l holder d sh list) (saved-same ys (refusedOf (loaded ys) n) ne)
+pub refused-lent : (ys : List Core) (p : Semaphore) (d sh list : List ℕ) (n : ℕ) (s : State) → n ≢ 0
+    → written ys (onTable (loaded ys) p (left (answerOf n s) d sh list)) ≡ lent n ys p d sh list
+refused-lent ys p d sh list n s ne =
+    ap (written ys) (on-refused (loaded ys) p (answerOf n s) d sh list ne) ∙ ap (λ (l : List Core). lent n l p d sh list) (saved-same ys (refusedOf (loaded ys) p n) ne)
 
 -- ---- the calls
 
-pub step-refused : (f t : List ℕ) (ys : List Core) (holder : ℕ) (d sh : List ℕ) (k : ℕ) → stepRefusal f t (held (loaded ys) holder) d sh k ≢ 0
-    → stepLent f t ys holder d sh k ≡ lent (stepRefusal f t (held (loaded ys) holder) d sh k) ys holder d sh []
+pub step-refused : (f t : List ℕ) (ys : List Core) (p : Semaphore) (d sh : List ℕ) (k : ℕ) → stepRefusal f t (held (loaded ys) p) d sh k ≢ 0
+    → stepLent f t ys p d sh k ≡ lent (stepRefusal f t (held (loaded ys) p) d sh k) ys p d sh []
 unfolding stepLent stepTable stepCall
-step-refused f t ys holder d sh k ne =
-    ap (λ (l : Left). written ys (onTable (loaded ys) holder l)) (pick-false _ _ _ (ne-eqb _ 0 ne)) ∙ refused-lent ys holder d sh [] _ (held (loaded ys) holder) ne
+step-refused f t ys p d sh k ne =
+    ap (λ (l : Left). written ys (onTable (loaded ys) p l)) (pick-false _ _ _ (ne-eqb _ 0 ne)) ∙ refused-lent ys p d sh [] _ (held (loaded ys) p) ne
 
-pub run-refused : (f t : List ℕ) (ys : List Core) (holder : ℕ) (d sh order list : List ℕ) → runRefusal f t (held (loaded ys) holder) d sh order list ≢ 0
-    → runLent f t ys holder d sh order list ≡ lent (runRefusal f t (held (loaded ys) holder) d sh order list) ys holder d sh list
+pub run-refused : (f t : List ℕ) (ys : List Core) (p : Semaphore) (d sh order list : List ℕ) → runRefusal f t (held (loaded ys) p) d sh order list ≢ 0
+    → runLent f t ys p d sh order list ≡ lent (runRefusal f t (held (loaded ys) p) d sh order list) ys p d sh list
 unfolding runLent runTable runCall
-run-refused f t ys holder d sh order list ne =
-    ap (λ (l : Left). written ys (onTable (loaded ys) holder l)) (pick-false _ _ _ (ne-eqb _ 0 ne)) ∙ refused-lent ys holder d sh list _ (held (loaded ys) holder) ne
+run-refused f t ys p d sh order list ne =
+    ap (λ (l : Left). written ys (onTable (loaded ys) p l)) (pick-false _ _ _ (ne-eqb _ 0 ne)) ∙ refused-lent ys p d sh list _ (held (loaded ys) p) ne
 
-pub taken-refused : (f t : List ℕ) (ys : List Core) (holder : ℕ) (d sh order list : List ℕ) (taken : ℕ) → runRefusal f t (held (loaded ys) holder) d sh order list ≢ 0
-    → takenLent f t ys holder d sh order list taken ≡ taken
+pub taken-refused : (f t : List ℕ) (ys : List Core) (p : Semaphore) (d sh order list : List ℕ) (taken : ℕ) → runRefusal f t (held (loaded ys) p) d sh order list ≢ 0
+    → takenLent f t ys p d sh order list taken ≡ taken
 unfolding takenLent takenTable runCall
-taken-refused f t ys holder d sh order list taken ne =
+taken-refused f t ys p d sh order list taken ne =
     ap (λ (l : Left). takenAfter taken (l .answer)) (pick-false _ _ _ (ne-eqb _ 0 ne)) ∙ pick-false _ _ _ (ne-eqb _ 0 ne)
 
 -- a table that is long enough, and one that is too short
-pub fresh-refused : (f : List ℕ) (ys : List Core) (holder : ℕ) (d sh : List ℕ) → leb (cores f) (counted (length ys)) ≡ true → freshRefusal f (length d) (length sh) ≢ 0
-    → freshLent f ys holder d sh ≡ lent (freshRefusal f (length d) (length sh)) ys holder d sh []
+pub fresh-refused : (f : List ℕ) (ys : List Core) (p : Semaphore) (d sh : List ℕ) → leb (cores f) (counted (length ys)) ≡ true → freshRefusal f (length d) (length sh) ≢ 0
+    → freshLent f ys p d sh ≡ lent (freshRefusal f (length d) (length sh)) ys p d sh []
 unfolding freshLent freshTable freshCall
-fresh-refused f ys holder d sh e ne =
-    ap (λ (l : Left). written ys (onTable (loaded ys) holder l)) (pick-true _ _ _ e ∙ pick-false _ _ _ (ne-eqb _ 0 ne)) ∙ refused-lent ys holder d sh [] _ (tableOf 0 0) ne
+fresh-refused f ys p d sh e ne =
+    ap (λ (l : Left). written ys (onTable (loaded ys) p l)) (pick-true _ _ _ e ∙ pick-false _ _ _ (ne-eqb _ 0 ne)) ∙ refused-lent ys p d sh [] _ (tableOf 0 0) ne
 
-pub fresh-short-refused : (f : List ℕ) (ys : List Core) (holder : ℕ) (d sh : List ℕ) → leb (cores f) (counted (length ys)) ≡ false
-    → freshLent f ys holder d sh ≡ lent (next (judge f) 21) ys holder d sh []
+pub fresh-short-refused : (f : List ℕ) (ys : List Core) (p : Semaphore) (d sh : List ℕ) → leb (cores f) (counted (length ys)) ≡ false
+    → freshLent f ys p d sh ≡ lent (next (judge f) 21) ys p d sh []
 unfolding freshLent freshTable
-fresh-short-refused f ys holder d sh e =
-    ap (λ (l : Left). written ys (onTable (loaded ys) holder l)) (pick-false _ _ _ e) ∙ refused-lent ys holder d sh [] _ (tableOf 0 0) (short-refused (judge f))
+fresh-short-refused f ys p d sh e =
+    ap (λ (l : Left). written ys (onTable (loaded ys) p l)) (pick-false _ _ _ e) ∙ refused-lent ys p d sh [] _ (tableOf 0 0) (short-refused (judge f))
 
-pub next-core-refused : (f t : List ℕ) (ys : List Core) (holder given found : ℕ) → nextRefusal f t (held (loaded ys) holder) given ≢ 0
-    → nextLent f t ys holder given found ≡ answered (nextRefusal f t (held (loaded ys) holder) given) found
+pub next-core-refused : (f t : List ℕ) (ys : List Core) (p : Semaphore) (given found : ℕ) → nextRefusal f t (held (loaded ys) p) given ≢ 0
+    → nextLent f t ys p given found ≡ answered (nextRefusal f t (held (loaded ys) p) given) found
 unfolding nextLent
-next-core-refused f t ys holder given found ne = pick-false _ _ _ (ne-eqb _ 0 ne)
+next-core-refused f t ys p given found ne = pick-false _ _ _ (ne-eqb _ 0 ne)
 
 -- ---- the registers of one core
 

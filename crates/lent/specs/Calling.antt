@@ -1,4 +1,4 @@
--- Calls on a lent core table one after another, each with the table, the semaphore's holder and the memories that the one before left, refused ones
+-- Calls on a lent core table one after another, each with the table, the semaphore and the memories that the one before left, refused ones
 -- too; and step calls that are lent the registers of their core. They are the calls of crate machine (specs/Calling), made over the C interface.
 -- In order: a call and what it leaves; lists of calls; the steps that they count as; the claim; steps with lent registers; the same list by value; a run's takings.
 -- `lent-interleaved` of proofs/Calling proves `LentInterleaved`, which is demand 3 of every list of lent calls; `mixed-interleaved` proves
@@ -16,6 +16,7 @@ use Rattle.protocol.specs.Step.{run, takings, encoded}
 use Rattle.protocol.specs.Fresh.{fresh}
 use Rattle.records.specs.File.{cores}
 use Rattle.taskset.specs.Task.{sizesOf}
+use Rattle.states.specs.declared.Semaphore.{Semaphore}
 use Rattle.states.specs.Task.{taskOf}
 use Rattle.states.specs.Machine.{none, stateOf}
 use Rattle.runner.specs.Runs.{Left}
@@ -34,14 +35,14 @@ pub data LentCall : Type 0 where
 -- y is what a call left that was lent so many records of the table that x has, and these parts of its memories
 abbrev pub restoredLent : ℕ → Lending → Lending → Lent → Lent → Lent
 restoredLent rows a b x y =
-    lent (y .refusal) (y .table ++ drop rows (x .table)) (y .holder) (replaced a (x .memory) (y .memory)) (replaced b (x .shared) (y .shared)) (y .order)
+    lent (y .refusal) (y .table ++ drop rows (x .table)) (y .semaphore) (replaced a (x .memory) (y .memory)) (replaced b (x .shared) (y .shared)) (y .order)
 
 -- what a call leaves that is made with what the one before left
 abbrev pub leavesLent : List ℕ → List ℕ → LentCall → Lent → Lent
 leavesLent f t (over rows (stepping a b k)) x =
-    restoredLent rows a b x (stepLent f t (take rows (x .table)) (x .holder) (lentOf a (x .memory)) (lentOf b (x .shared)) k)
+    restoredLent rows a b x (stepLent f t (take rows (x .table)) (x .semaphore) (lentOf a (x .memory)) (lentOf b (x .shared)) k)
 leavesLent f t (over rows (running a b order list)) x =
-    restoredLent rows a b x (runLent f t (take rows (x .table)) (x .holder) (lentOf a (x .memory)) (lentOf b (x .shared)) order list)
+    restoredLent rows a b x (runLent f t (take rows (x .table)) (x .semaphore) (lentOf a (x .memory)) (lentOf b (x .shared)) order list)
 
 -- ---- lists of calls
 
@@ -49,9 +50,9 @@ abbrev pub lentCalls : List ℕ → List ℕ → List LentCall → Lent → Lent
 lentCalls f t [] x = x
 lentCalls f t (c ∷ cs) x = lentCalls f t cs (leavesLent f t c x)
 
--- the state that the table's first n records hold, with the holder and the lent memories
+-- the state that the table's first n records hold, with the semaphore and the lent memories
 abbrev pub wholeLent : List ℕ → Lent → Whole
-wholeLent f x = stateOf f (held (loaded (take (cores f) (x .table))) (x .holder)) (x .memory) (x .shared)
+wholeLent f x = stateOf f (held (loaded (take (cores f) (x .table))) (x .semaphore)) (x .memory) (x .shared)
 
 -- ---- the steps that calls count as: "A refused call changes nothing and is no taking; a run counts as its steps."
 
@@ -65,13 +66,13 @@ abbrev pub lentStepsOf : List ℕ → List ℕ → List LentCall → Lent → Li
 lentStepsOf f t [] x = []
 lentStepsOf f t (c ∷ cs) x = countsLent f t c x ++ lentStepsOf f t cs (leavesLent f t c x)
 
--- ---- the claim: the calls cs, from what `rikzord_fresh` left that was lent the table ys, a holder and the memories d and sh
+-- ---- the claim: the calls cs, from what `rikzord_fresh` left that was lent the table ys, the semaphore p and the memories d and sh
 
-pub record LentInterleaved (f t : List ℕ) (ys : List Core) (holder : ℕ) (d sh : List ℕ) (cs : List LentCall) : Type 0 where
+pub record LentInterleaved (f t : List ℕ) (ys : List Core) (p : Semaphore) (d sh : List ℕ) (cs : List LentCall) : Type 0 where
   -- what they leave in the table and the memories is what the steps that they count as make of the fresh state
-  pub steps : wholeLent f (lentCalls f t cs (freshLent f ys holder d sh)) ≡ run (taskOf f t) (lentStepsOf f t cs (freshLent f ys holder d sh)) (fresh (sizesOf f))
+  pub steps : wholeLent f (lentCalls f t cs (freshLent f ys p d sh)) ≡ run (taskOf f t) (lentStepsOf f t cs (freshLent f ys p d sh)) (fresh (sizesOf f))
   -- and of those steps demand 3 holds, both parts
-  pub interleaved : MachineInterleaved f t (lentStepsOf f t cs (freshLent f ys holder d sh))
+  pub interleaved : MachineInterleaved f t (lentStepsOf f t cs (freshLent f ys p d sh))
 
 -- ---- a step call that is lent the registers of its core, as they stand in the state
 
@@ -126,6 +127,6 @@ pub data SameCalls (f t : List ℕ) : List Call → Lent → Left → Type 0 whe
 -- ---- the takings of a run over a lent table
 
 -- A run that is not refused writes its takings to the front of the order list, and how many there are
-pub record RunLentListed (f t : List ℕ) (ys : List Core) (holder : ℕ) (d sh order list : List ℕ) (taken : ℕ) : Type 0 where
-  pub listed : runLent f t ys holder d sh order list .order ≡ splice list 0 (map encoded (takings (taskOf f t) order (stateOf f (held (loaded ys) holder) d sh)))
-  pub counted : takenLent f t ys holder d sh order list taken ≡ length (takings (taskOf f t) order (stateOf f (held (loaded ys) holder) d sh))
+pub record RunLentListed (f t : List ℕ) (ys : List Core) (p : Semaphore) (d sh order list : List ℕ) (taken : ℕ) : Type 0 where
+  pub listed : runLent f t ys p d sh order list .order ≡ splice list 0 (map encoded (takings (taskOf f t) order (stateOf f (held (loaded ys) p) d sh)))
+  pub counted : takenLent f t ys p d sh order list taken ≡ length (takings (taskOf f t) order (stateOf f (held (loaded ys) p) d sh))

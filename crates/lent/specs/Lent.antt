@@ -1,4 +1,4 @@
--- The lent forms of the machine's calls: the core table is a lent list of records, and the semaphore's holder stands beside it. Each call is the
+-- The lent forms of the machine's calls: the core table is a lent list of records, and the semaphore a lent record beside it. Each call is the
 -- one by value (crate machine, specs/Calls) on the state that the table holds; of a call that isn't refused the table's records are written back.
 -- In order: a table as a state, and back; what a call leaves; the calls; the next core to move; the registers of one core. Not here: calls one
 -- after another (Calling).
@@ -12,6 +12,7 @@ use Rattle.memory.specs.Memory.{splice, part}
 use Rattle.protocol.specs.declared.Registers.{Registers}
 use Rattle.records.specs.File.{cores}
 use Rattle.taskset.specs.Judge.{judge}
+use Rattle.states.specs.declared.Semaphore.{Semaphore}
 use Rattle.states.specs.declared.State.{State}
 use Rattle.states.specs.Machine.{none}
 use Rattle.states.specs.Tasks.{taskAt}
@@ -105,10 +106,10 @@ unfoldable pub heldOffsets : Table → List ℕ
 heldOffsets t = entries (recordOf t 0 .offsets) (recordOf t 1 .offsets) (recordOf t 2 .offsets) (recordOf t 3 .offsets)
 
 -- the state that a table holds
-unfoldable pub held : Table → ℕ → State
-held t holder = record {
+unfoldable pub held : Table → Semaphore → State
+held t p = record {
   count = t .count;
-  holder = holder;
+  semaphore = p;
   cores = registersIn (recordOf t 0) ∷ registersIn (recordOf t 1) ∷ registersIn (recordOf t 2) ∷ registersIn (recordOf t 3) ∷ [];
   places = heldPlaces t;
   offsets = heldOffsets t;
@@ -125,47 +126,43 @@ unfoldable pub recordAfter : Table → State → ℕ → Core
 recordAfter t s k = pick (ltb k (s .count)) (coreOf s k) (recordOf t k)
 
 abbrev pub acceptedOf : Table → State → After
-acceptedOf t s = record { refusal = 0; a = recordAfter t s 0; b = recordAfter t s 1; c = recordAfter t s 2; d = recordAfter t s 3 }
+acceptedOf t s = record { refusal = 0; a = recordAfter t s 0; b = recordAfter t s 1; c = recordAfter t s 2; d = recordAfter t s 3; semaphore = s .semaphore }
 
--- a refused call's number, with the records on entry
-abbrev pub refusedOf : Table → ℕ → After
-refusedOf t n = record { refusal = n; a = recordOf t 0; b = recordOf t 1; c = recordOf t 2; d = recordOf t 3 }
+-- a refused call's number, with the semaphore and the records on entry
+abbrev pub refusedOf : Table → Semaphore → ℕ → After
+refusedOf t p n = record { refusal = n; a = recordOf t 0; b = recordOf t 1; c = recordOf t 2; d = recordOf t 3; semaphore = p }
 
-abbrev pub afterOf : Table → Ran → After
-afterOf t r = pick (eqb (r .refusal) 0) (acceptedOf t (r .state)) (refusedOf t (r .refusal))
+abbrev pub afterOf : Table → Semaphore → Ran → After
+afterOf t p r = pick (eqb (r .refusal) 0) (acceptedOf t (r .state)) (refusedOf t p (r .refusal))
 
--- the semaphore's holder and the count of takings after a call; a refused one leaves them
-abbrev pub holderAfter : ℕ → Ran → ℕ
-holderAfter holder r = pick (eqb (r .refusal) 0) (r .state .holder) holder
-
+-- the count of takings after a call; a refused one leaves it
 abbrev pub takenAfter : ℕ → Ran → ℕ
 takenAfter taken r = pick (eqb (r .refusal) 0) (r .taken) taken
 
--- of a call on a table copied out: refusal number and records, holder, and every lent byte
+-- of a call on a table copied out: refusal number, semaphore and records, and every lent byte
 pub record TableLeft : Type 0 where
   pub after : After
-  pub holder : ℕ
   pub memory : List ℕ
   pub shared : List ℕ
   pub order : List ℕ
 
-abbrev pub tableLeft : After → ℕ → List ℕ → List ℕ → List ℕ → TableLeft
-tableLeft x holder d sh list = record { after = x; holder = holder; memory = d; shared = sh; order = list }
+abbrev pub tableLeft : After → List ℕ → List ℕ → List ℕ → TableLeft
+tableLeft x d sh list = record { after = x; memory = d; shared = sh; order = list }
 
-abbrev pub onTable : Table → ℕ → Left → TableLeft
-onTable t holder l = tableLeft (afterOf t (l .answer)) (holderAfter holder (l .answer)) (l .memory) (l .shared) (l .order)
+abbrev pub onTable : Table → Semaphore → Left → TableLeft
+onTable t p l = tableLeft (afterOf t p (l .answer)) (l .memory) (l .shared) (l .order)
 
--- of a call on a lent table: refusal number, every record, holder, and every lent byte
+-- of a call on a lent table: refusal number, every record, semaphore, and every lent byte
 pub record Lent : Type 0 where
   pub refusal : ℕ
   pub table : List Core
-  pub holder : ℕ
+  pub semaphore : Semaphore
   pub memory : List ℕ
   pub shared : List ℕ
   pub order : List ℕ
 
-abbrev pub lent : ℕ → List Core → ℕ → List ℕ → List ℕ → List ℕ → Lent
-lent r ys holder d sh list = record { refusal = r; table = ys; holder = holder; memory = d; shared = sh; order = list }
+abbrev pub lent : ℕ → List Core → Semaphore → List ℕ → List ℕ → List ℕ → Lent
+lent r ys p d sh list = record { refusal = r; table = ys; semaphore = p; memory = d; shared = sh; order = list }
 
 -- the records that a table has are written back; of a refused call none
 abbrev pub stored : List Core → After → List Core
@@ -175,36 +172,36 @@ abbrev pub saved : List Core → After → List Core
 saved ys x = pick (eqb (x .refusal) 0) (stored ys x) ys
 
 abbrev pub written : List Core → TableLeft → Lent
-written ys l = lent (l .after .refusal) (saved ys (l .after)) (l .holder) (l .memory) (l .shared) (l .order)
+written ys l = lent (l .after .refusal) (saved ys (l .after)) (l .after .semaphore) (l .memory) (l .shared) (l .order)
 
 -- ---- the calls: on a table copied out, and on the lent one
 
-unfoldable pub stepTable : List ℕ → List ℕ → Table → ℕ → List ℕ → List ℕ → ℕ → TableLeft
-stepTable f t x holder d sh k = onTable x holder (stepCall f t (held x holder) d sh k)
+unfoldable pub stepTable : List ℕ → List ℕ → Table → Semaphore → List ℕ → List ℕ → ℕ → TableLeft
+stepTable f t x p d sh k = onTable x p (stepCall f t (held x p) d sh k)
 
-unfoldable pub stepLent : List ℕ → List ℕ → List Core → ℕ → List ℕ → List ℕ → ℕ → Lent
-stepLent f t ys holder d sh k = written ys (stepTable f t (loaded ys) holder d sh k)
+unfoldable pub stepLent : List ℕ → List ℕ → List Core → Semaphore → List ℕ → List ℕ → ℕ → Lent
+stepLent f t ys p d sh k = written ys (stepTable f t (loaded ys) p d sh k)
 
-unfoldable pub runTable : List ℕ → List ℕ → Table → ℕ → List ℕ → List ℕ → List ℕ → List ℕ → TableLeft
-runTable f t x holder d sh order list = onTable x holder (runCall f t (held x holder) d sh order list)
+unfoldable pub runTable : List ℕ → List ℕ → Table → Semaphore → List ℕ → List ℕ → List ℕ → List ℕ → TableLeft
+runTable f t x p d sh order list = onTable x p (runCall f t (held x p) d sh order list)
 
-unfoldable pub runLent : List ℕ → List ℕ → List Core → ℕ → List ℕ → List ℕ → List ℕ → List ℕ → Lent
-runLent f t ys holder d sh order list = written ys (runTable f t (loaded ys) holder d sh order list)
+unfoldable pub runLent : List ℕ → List ℕ → List Core → Semaphore → List ℕ → List ℕ → List ℕ → List ℕ → Lent
+runLent f t ys p d sh order list = written ys (runTable f t (loaded ys) p d sh order list)
 
 -- how many takings a run has written to the order list
-unfoldable pub takenTable : List ℕ → List ℕ → Table → ℕ → List ℕ → List ℕ → List ℕ → List ℕ → ℕ → ℕ
-takenTable f t x holder d sh order list taken = takenAfter taken (runCall f t (held x holder) d sh order list .answer)
+unfoldable pub takenTable : List ℕ → List ℕ → Table → Semaphore → List ℕ → List ℕ → List ℕ → List ℕ → ℕ → ℕ
+takenTable f t x p d sh order list taken = takenAfter taken (runCall f t (held x p) d sh order list .answer)
 
-unfoldable pub takenLent : List ℕ → List ℕ → List Core → ℕ → List ℕ → List ℕ → List ℕ → List ℕ → ℕ → ℕ
-takenLent f t ys holder d sh order list taken = takenTable f t (loaded ys) holder d sh order list taken
+unfoldable pub takenLent : List ℕ → List ℕ → List Core → Semaphore → List ℕ → List ℕ → List ℕ → List ℕ → ℕ → ℕ
+takenLent f t ys p d sh order list taken = takenTable f t (loaded ys) p d sh order list taken
 
 -- the fresh state needs a table of at least n records (21), and writes the first n
-unfoldable pub freshTable : List ℕ → Table → ℕ → List ℕ → List ℕ → TableLeft
-freshTable f x holder d sh =
-    onTable x holder (pick (leb (cores f) (x .count)) (freshCall f d sh) (left (answerOf (next (judge f) 21) (tableOf 0 0)) d sh []))
+unfoldable pub freshTable : List ℕ → Table → Semaphore → List ℕ → List ℕ → TableLeft
+freshTable f x p d sh =
+    onTable x p (pick (leb (cores f) (x .count)) (freshCall f d sh) (left (answerOf (next (judge f) 21) (tableOf 0 0)) d sh []))
 
-unfoldable pub freshLent : List ℕ → List Core → ℕ → List ℕ → List ℕ → Lent
-freshLent f ys holder d sh = written ys (freshTable f (loaded ys) holder d sh)
+unfoldable pub freshLent : List ℕ → List Core → Semaphore → List ℕ → List ℕ → Lent
+freshLent f ys p d sh = written ys (freshTable f (loaded ys) p d sh)
 
 -- ---- the next core to move: the lent records are scanned round the ring, each by the by-value test (crate table, specs/Table)
 
@@ -212,15 +209,15 @@ freshLent f ys holder d sh = written ys (freshTable f (loaded ys) holder d sh)
 abbrev pub countsOf : List ℕ → List ℕ → List ℕ
 countsOf f t = taskAt f t 0 .count ∷ taskAt f t 1 .count ∷ taskAt f t 2 .count ∷ taskAt f t 3 .count ∷ []
 
-abbrev pub noRing : ℕ → ℕ → ℕ → Ring
-noRing number given holder = record { refusal = number; cores = 0; given = given; holder = holder; counts = replicate 4 0 }
+abbrev pub noRing : ℕ → ℕ → Semaphore → Ring
+noRing number given p = record { refusal = number; cores = 0; given = given; semaphore = p; counts = replicate 4 0 }
 
 -- what the scan needs beside the records
-unfoldable pub ringOf : List ℕ → List ℕ → Table → ℕ → ℕ → Ring
-ringOf f t x holder given =
-    pick (eqb (nextRefusal f t (held x holder) given) 0)
-    (record { refusal = 0; cores = cores f; given = given; holder = holder; counts = countsOf f t })
-    (noRing (nextRefusal f t (held x holder) given) given holder)
+unfoldable pub ringOf : List ℕ → List ℕ → Table → Semaphore → ℕ → Ring
+ringOf f t x p given =
+    pick (eqb (nextRefusal f t (held x p) given) 0)
+    (record { refusal = 0; cores = cores f; given = given; semaphore = p; counts = countsOf f t })
+    (noRing (nextRefusal f t (held x p) given) given p)
 
 -- core number i + 1 after the given one
 abbrev pub placeAfter : Ring → ℕ → ℕ
@@ -228,7 +225,7 @@ placeAfter r i = pick (eqb (r .cores) 0) 0 (roundFrom (r .cores) (r .given) (i +
 
 -- core k with this record can move
 abbrev pub recordMoves : Ring → ℕ → Core → Bool
-recordMoves r k c = canMove (r .holder) (pick (ltb k 4) (getD (r .counts) k 0) 0) (registersIn c)
+recordMoves r k c = canMove (r .semaphore .holder) (pick (ltb k 4) (getD (r .counts) k 0) 0) (registersIn c)
 
 -- the number of the first core, of so many from number i + 1 after the given one on, whose record says that it can move; 255 for none
 abbrev pub scanFrom : List Core → Ring → ℕ → ℕ → ℕ
@@ -255,17 +252,17 @@ abbrev pub ringAnswer : Ring → ℕ → ℕ → Answered
 ringAnswer r k found = pick (eqb (r .refusal) 0) (answered 0 k) (answered (r .refusal) found)
 
 -- the call: what the one by value answers (crate machine, specs/Calls) of the state that the table holds
-unfoldable pub nextLent : List ℕ → List ℕ → List Core → ℕ → ℕ → ℕ → Answered
-nextLent f t ys holder given found =
-    pick (eqb (nextRefusal f t (held (loaded ys) holder) given) 0)
-    (answered 0 (numberOf (nextMoving f t (held (loaded ys) holder) given)))
-    (answered (nextRefusal f t (held (loaded ys) holder) given) found)
+unfoldable pub nextLent : List ℕ → List ℕ → List Core → Semaphore → ℕ → ℕ → Answered
+nextLent f t ys p given found =
+    pick (eqb (nextRefusal f t (held (loaded ys) p) given) 0)
+    (answered 0 (numberOf (nextMoving f t (held (loaded ys) p) given)))
+    (answered (nextRefusal f t (held (loaded ys) p) given) found)
 
 -- ---- the registers of one core, lent to its step beside the rest of the state
 
 -- the state with these registers for core k
 unfoldable pub withRegisters : State → ℕ → Registers → State
-withRegisters s k r = record { count = s .count; holder = s .holder; cores = set (s .cores) k r; places = s .places; offsets = s .offsets }
+withRegisters s k r = record { count = s .count; semaphore = s .semaphore; cores = set (s .cores) k r; places = s .places; offsets = s .offsets }
 
 -- the lent registers after a call that left this state; those on entry where it names no core
 abbrev pub registersAfter : State → ℕ → Registers → Registers

@@ -1,9 +1,10 @@
 // The machine's calls with a lent core table, for Rust and C: thin functions over the calls by value (crate machine). A table is a slice of
-// records, one for each core; the semaphore's holder is a byte beside it. A refused call changes nothing.
+// records, one for each core; the semaphore is a lent record beside it. A refused call changes nothing.
 //
 // The functions that start with `rikzord_` are the C interface too: a slice is a pointer and a length there.
 use protocol::Registers;
 use runner::Ran;
+use states::Semaphore;
 use states::State;
 use window::Shown;
 ghost use mathlib.Core.Path.{_≡_};
@@ -150,8 +151,8 @@ fn offsets_of(t: Table) -> [u16; 64]
 }
 
 // The state that a table holds.
-fn state_of(t: Table, holder: u8) -> State
-    ensures { λ r. ⌜ r ≡ held t holder ⌝ }
+fn state_of(t: Table, semaphore: Semaphore) -> State
+    ensures { λ r. ⌜ r ≡ held t semaphore ⌝ }
 {
     let a = t.cores[0];
     let b = t.cores[1];
@@ -166,7 +167,7 @@ fn state_of(t: Table, holder: u8) -> State
     let offsets = offsets_of(t);
     State {
         count: t.count,
-        holder,
+        semaphore,
         cores,
         places,
         offsets,
@@ -188,13 +189,14 @@ fn core_of(s: State, k: usize) -> Core
 
 // ---- what a call leaves of a table
 
-// The refusal number, and the table's first four records.
+// The refusal number, the table's first four records, and the semaphore.
 pub struct After {
     pub refusal: u8,
     pub a: Core,
     pub b: Core,
     pub c: Core,
     pub d: Core,
+    pub semaphore: Semaphore,
 }
 
 // Record k after a call that is not refused and leaves the state s.
@@ -215,17 +217,19 @@ fn accepted(t: Table, s: State) -> After
     let b = record_after(t, s, 1);
     let c = record_after(t, s, 2);
     let d = record_after(t, s, 3);
+    let semaphore = s.semaphore;
     After {
         refusal: 0,
         a,
         b,
         c,
         d,
+        semaphore,
     }
 }
 
-fn refused(t: Table, number: u8) -> After
-    ensures { λ x. ⌜ x ≡ refusedOf t number ⌝ }
+fn refused(t: Table, semaphore: Semaphore, number: u8) -> After
+    ensures { λ x. ⌜ x ≡ refusedOf t semaphore number ⌝ }
 {
     let a = t.cores[0];
     let b = t.cores[1];
@@ -237,6 +241,7 @@ fn refused(t: Table, number: u8) -> After
         b,
         c,
         d,
+        semaphore,
     }
 }
 
@@ -246,67 +251,61 @@ fn step_table(
     file: &[u8],
     trace: &[u8],
     t: Table,
-    holder: &mut u8,
+    semaphore: Semaphore,
     buffer: &mut [u8],
     shared: &mut [u8],
     core: u8,
 ) -> After
-    ensures { λ r. ⌜ tableLeft r (now (holder .exit)) (now (buffer .exit)) (now (shared .exit)) [] ≡ stepTable (now (file .entry)) (now (trace .entry)) t (now (holder .entry)) (now (buffer .entry)) (now (shared .entry)) core ⌝ }
+    ensures { λ r. ⌜ tableLeft r (now (buffer .exit)) (now (shared .exit)) [] ≡ stepTable (now (file .entry)) (now (trace .entry)) t semaphore (now (buffer .entry)) (now (shared .entry)) core ⌝ }
 {
-    let s = state_of(t, *holder);
+    let s = state_of(t, semaphore);
     let stepped = machine::step(file, trace, s, buffer, shared, core);
     if stepped.refusal != 0 {
-        return refused(t, stepped.refusal);
+        return refused(t, semaphore, stepped.refusal);
     }
-    let next = stepped.state;
-    *holder = next.holder;
-    accepted(t, next)
+    accepted(t, stepped.state)
 }
 
 fn run_table(
     file: &[u8],
     trace: &[u8],
     t: Table,
-    holder: &mut u8,
+    semaphore: Semaphore,
     buffer: &mut [u8],
     shared: &mut [u8],
     order: &[u8],
     list: &mut [u8],
     taken: &mut usize,
 ) -> After
-    ensures { λ r. ⌜ (tableLeft r (now (holder .exit)) (now (buffer .exit)) (now (shared .exit)) (now (list .exit)) ≡ runTable (now (file .entry)) (now (trace .entry)) t (now (holder .entry)) (now (buffer .entry)) (now (shared .entry)) (now (order .entry)) (now (list .entry))) × (now (taken .exit) ≡ takenTable (now (file .entry)) (now (trace .entry)) t (now (holder .entry)) (now (buffer .entry)) (now (shared .entry)) (now (order .entry)) (now (list .entry)) (now (taken .entry))) ⌝ }
+    ensures { λ r. ⌜ (tableLeft r (now (buffer .exit)) (now (shared .exit)) (now (list .exit)) ≡ runTable (now (file .entry)) (now (trace .entry)) t semaphore (now (buffer .entry)) (now (shared .entry)) (now (order .entry)) (now (list .entry))) × (now (taken .exit) ≡ takenTable (now (file .entry)) (now (trace .entry)) t semaphore (now (buffer .entry)) (now (shared .entry)) (now (order .entry)) (now (list .entry)) (now (taken .entry))) ⌝ }
 {
-    let s = state_of(t, *holder);
+    let s = state_of(t, semaphore);
     let ran = machine::run(file, trace, s, buffer, shared, order, list);
     if ran.refusal != 0 {
-        return refused(t, ran.refusal);
+        return refused(t, semaphore, ran.refusal);
     }
-    let last = ran.state;
-    *holder = last.holder;
     *taken = ran.taken;
-    accepted(t, last)
+    accepted(t, ran.state)
 }
 
 // The fresh state. A table of fewer than n records is too short.
 fn fresh_table(
     file: &[u8],
     t: Table,
-    holder: &mut u8,
+    semaphore: Semaphore,
     buffer: &mut [u8],
     shared: &mut [u8],
 ) -> After
-    ensures { λ r. ⌜ tableLeft r (now (holder .exit)) (now (buffer .exit)) (now (shared .exit)) [] ≡ freshTable (now (file .entry)) t (now (holder .entry)) (now (buffer .entry)) (now (shared .entry)) ⌝ }
+    ensures { λ r. ⌜ tableLeft r (now (buffer .exit)) (now (shared .exit)) [] ≡ freshTable (now (file .entry)) t semaphore (now (buffer .entry)) (now (shared .entry)) ⌝ }
 {
     if t.count < memory::byte_at(file, 4) {
-        return refused(t, short_refusal(file));
+        return refused(t, semaphore, short_refusal(file));
     }
     let made = machine::fresh(file, buffer, shared);
     if made.refusal != 0 {
-        return refused(t, made.refusal);
+        return refused(t, semaphore, made.refusal);
     }
-    let begun = made.state;
-    *holder = begun.holder;
-    accepted(t, begun)
+    accepted(t, made.state)
 }
 
 // The refusal where the table is too short: the file is judged first.
@@ -327,26 +326,26 @@ pub struct Ring {
     pub refusal: u8,
     pub cores: u8,
     pub given: u8,
-    pub holder: u8,
+    pub semaphore: Semaphore,
     pub counts: [usize; 4], // the input records of each core
 }
 
 // Judges the call for the next core, on the table copied out, and gives what the scan needs.
-fn ring_of(file: &[u8], trace: &[u8], t: Table, holder: u8, given: u8) -> Ring
-    ensures { λ r. ⌜ r ≡ ringOf (now (file .entry)) (now (trace .entry)) t holder given ⌝ }
+fn ring_of(file: &[u8], trace: &[u8], t: Table, semaphore: Semaphore, given: u8) -> Ring
+    ensures { λ r. ⌜ r ≡ ringOf (now (file .entry)) (now (trace .entry)) t semaphore given ⌝ }
 {
-    let s = state_of(t, holder);
+    let s = state_of(t, semaphore);
     let loaded = taskset::load(file);
     if loaded.refusal != 0 {
-        return no_ring(loaded.refusal, given, holder);
+        return no_ring(loaded.refusal, given, semaphore);
     }
     let layout = loaded.layout;
     let prepared = states::prepare(file, trace, layout, s);
     if prepared.refusal != 0 {
-        return no_ring(prepared.refusal, given, holder);
+        return no_ring(prepared.refusal, given, semaphore);
     }
     if layout.cores <= given as usize {
-        return no_ring(20, given, holder);
+        return no_ring(20, given, semaphore);
     }
     let tasks = prepared.tasks;
     let counts = [
@@ -359,20 +358,20 @@ fn ring_of(file: &[u8], trace: &[u8], t: Table, holder: u8, given: u8) -> Ring
         refusal: 0,
         cores: layout.cores as u8,
         given,
-        holder,
+        semaphore,
         counts,
     }
 }
 
-fn no_ring(number: u8, given: u8, holder: u8) -> Ring
-    ensures { λ r. ⌜ r ≡ noRing number given holder ⌝ }
+fn no_ring(number: u8, given: u8, semaphore: Semaphore) -> Ring
+    ensures { λ r. ⌜ r ≡ noRing number given semaphore ⌝ }
 {
     let counts = [0usize; 4];
     Ring {
         refusal: number,
         cores: 0,
         given,
-        holder,
+        semaphore,
         counts,
     }
 }
@@ -392,10 +391,10 @@ fn moves(r: Ring, k: u8, c: Core) -> bool
     ensures { λ ok. ⌜ ok ≡ recordMoves r k c ⌝ }
 {
     if 4 <= k {
-        return table::can_move(0, r.holder, registers_in(c));
+        return table::can_move(0, r.semaphore.holder, registers_in(c));
     }
     let count = r.counts[k as usize];
-    table::can_move(count, r.holder, registers_in(c))
+    table::can_move(count, r.semaphore.holder, registers_in(c))
 }
 
 // The number of the core that moves next, where the call is not refused.
@@ -436,9 +435,10 @@ fn with_registers(s: State, k: usize, r: Registers) -> State
     let cores = set_registers(old, k, r);
     let places = s.places;
     let offsets = s.offsets;
+    let held = s.semaphore;
     State {
         count: s.count,
-        holder: s.holder,
+        semaphore: held,
         cores,
         places,
         offsets,
@@ -610,16 +610,17 @@ pub extern "C" fn rikzord_step(
     file: &[u8],
     trace: &[u8],
     table: &mut [Core],
-    holder: &mut u8,
+    semaphore: &mut Semaphore,
     buffer: &mut [u8],
     shared: &mut [u8],
     core: u8,
 ) -> u8
-    ensures { λ r. ⌜ lent r (now (table .exit)) (now (holder .exit)) (now (buffer .exit)) (now (shared .exit)) [] ≡ stepLent (now (file .entry)) (now (trace .entry)) (now (table .entry)) (now (holder .entry)) (now (buffer .entry)) (now (shared .entry)) core ⌝ }
+    ensures { λ r. ⌜ lent r (now (table .exit)) (now (semaphore .exit)) (now (buffer .exit)) (now (shared .exit)) [] ≡ stepLent (now (file .entry)) (now (trace .entry)) (now (table .entry)) (now (semaphore .entry)) (now (buffer .entry)) (now (shared .entry)) core ⌝ }
 {
     let t = load(table);
-    let x = step_table(file, trace, t, holder, buffer, shared, core);
+    let x = step_table(file, trace, t, *semaphore, buffer, shared, core);
     save(table, x);
+    *semaphore = x.semaphore;
     x.refusal
 }
 
@@ -629,18 +630,29 @@ pub extern "C" fn rikzord_run(
     file: &[u8],
     trace: &[u8],
     table: &mut [Core],
-    holder: &mut u8,
+    semaphore: &mut Semaphore,
     buffer: &mut [u8],
     shared: &mut [u8],
     order: &[u8],
     list: &mut [u8],
     taken: &mut usize,
 ) -> u8
-    ensures { λ r. ⌜ (lent r (now (table .exit)) (now (holder .exit)) (now (buffer .exit)) (now (shared .exit)) (now (list .exit)) ≡ runLent (now (file .entry)) (now (trace .entry)) (now (table .entry)) (now (holder .entry)) (now (buffer .entry)) (now (shared .entry)) (now (order .entry)) (now (list .entry))) × (now (taken .exit) ≡ takenLent (now (file .entry)) (now (trace .entry)) (now (table .entry)) (now (holder .entry)) (now (buffer .entry)) (now (shared .entry)) (now (order .entry)) (now (list .entry)) (now (taken .entry))) ⌝ }
+    ensures { λ r. ⌜ (lent r (now (table .exit)) (now (semaphore .exit)) (now (buffer .exit)) (now (shared .exit)) (now (list .exit)) ≡ runLent (now (file .entry)) (now (trace .entry)) (now (table .entry)) (now (semaphore .entry)) (now (buffer .entry)) (now (shared .entry)) (now (order .entry)) (now (list .entry))) × (now (taken .exit) ≡ takenLent (now (file .entry)) (now (trace .entry)) (now (table .entry)) (now (semaphore .entry)) (now (buffer .entry)) (now (shared .entry)) (now (order .entry)) (now (list .entry)) (now (taken .entry))) ⌝ }
 {
     let t = load(table);
-    let x = run_table(file, trace, t, holder, buffer, shared, order, list, taken);
+    let x = run_table(
+        file,
+        trace,
+        t,
+        *semaphore,
+        buffer,
+        shared,
+        order,
+        list,
+        taken,
+    );
     save(table, x);
+    *semaphore = x.semaphore;
     x.refusal
 }
 
@@ -649,15 +661,16 @@ pub extern "C" fn rikzord_run(
 pub extern "C" fn rikzord_fresh(
     file: &[u8],
     table: &mut [Core],
-    holder: &mut u8,
+    semaphore: &mut Semaphore,
     buffer: &mut [u8],
     shared: &mut [u8],
 ) -> u8
-    ensures { λ r. ⌜ lent r (now (table .exit)) (now (holder .exit)) (now (buffer .exit)) (now (shared .exit)) [] ≡ freshLent (now (file .entry)) (now (table .entry)) (now (holder .entry)) (now (buffer .entry)) (now (shared .entry)) ⌝ }
+    ensures { λ r. ⌜ lent r (now (table .exit)) (now (semaphore .exit)) (now (buffer .exit)) (now (shared .exit)) [] ≡ freshLent (now (file .entry)) (now (table .entry)) (now (semaphore .entry)) (now (buffer .entry)) (now (shared .entry)) ⌝ }
 {
     let t = load(table);
-    let x = fresh_table(file, t, holder, buffer, shared);
+    let x = fresh_table(file, t, *semaphore, buffer, shared);
     save(table, x);
+    *semaphore = x.semaphore;
     x.refusal
 }
 
@@ -667,14 +680,14 @@ pub extern "C" fn rikzord_next_core(
     file: &[u8],
     trace: &[u8],
     table: &[Core],
-    holder: u8,
+    semaphore: &Semaphore,
     given: u8,
     found: &mut u8,
 ) -> u8
-    ensures { λ r. ⌜ answered r (now (found .exit)) ≡ nextLent (now (file .entry)) (now (trace .entry)) (now (table .entry)) holder given (now (found .entry)) ⌝ }
+    ensures { λ r. ⌜ answered r (now (found .exit)) ≡ nextLent (now (file .entry)) (now (trace .entry)) (now (table .entry)) (now (semaphore .entry)) given (now (found .entry)) ⌝ }
 {
     let t = load(table);
-    let ring = ring_of(file, trace, t, holder, given);
+    let ring = ring_of(file, trace, t, *semaphore, given);
     let k = scan(table, ring);
     found_in(ring, k, found)
 }

@@ -136,7 +136,7 @@ fn same_entries(x: [u16; 64], y: [u16; 64]) -> bool {
 
 fn same_state(a: State, b: State) -> bool {
     a.count == b.count
-        && a.holder == b.holder
+        && a.semaphore.holder == b.semaphore.holder
         && same_table(a, b)
         && same_entries(runner::places_of(a), runner::places_of(b))
         && same_entries(runner::offsets_of(a), runner::offsets_of(b))
@@ -165,9 +165,10 @@ fn with_core(s: State, k: usize, r: Registers) -> State {
     }
     let places = runner::places_of(s);
     let offsets = runner::offsets_of(s);
+    let semaphore = s.semaphore;
     State {
         count: s.count,
-        holder: s.holder,
+        semaphore,
         cores,
         places,
         offsets,
@@ -181,9 +182,10 @@ fn with_entry(s: State, place: u16, offset: u16) -> State {
     let mut offsets = runner::offsets_of(s);
     places[0] = place;
     offsets[0] = offset;
+    let semaphore = s.semaphore;
     State {
         count: s.count,
-        holder: s.holder,
+        semaphore,
         cores,
         places,
         offsets,
@@ -192,7 +194,7 @@ fn with_entry(s: State, place: u16, offset: u16) -> State {
 
 fn with_holder(s: State, holder: u8) -> State {
     let mut t = s;
-    t.holder = holder;
+    t.semaphore.holder = holder;
     t
 }
 

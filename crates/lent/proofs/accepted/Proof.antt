@@ -17,7 +17,9 @@ record-after-requires-4 : tie.Need-record-after-requires-4
 record-after-requires-4 c κs = search needs
 
 returns : tie.Need-returns
-returns c = rw (c .before .before .before .record-after .ensures, c .before .before .record-after2 .ensures, c .before .record-after3 .ensures, c .record-after4 .ensures) refl
+returns c =
+    let last = c .before in
+    rw (last .before .before .before .record-after .ensures, last .before .before .record-after2 .ensures, last .before .record-after3 .ensures, last .record-after4 .ensures) refl
 
 pub accepted-spec : {M : Type 1} → statement M
 accepted-spec =

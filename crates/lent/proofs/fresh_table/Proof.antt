@@ -48,9 +48,9 @@ same-length-4 c = search needs
 
 returns-3 : tie.Need-returns-3
 returns-3 c =
-    let called = c .before .before .before .before .before .before .before .before in
+    let called = c .before .before .before .before .before .before .before in
     let tested = called .before .before .before in
-    fresh-moves _ _ _ _ _ _ (tested .before .before .byte-at .ensures) _ _ _ _ (tested .if1 .left) (called .fresh .ensures) (c .before .before .if2 .left) (c .accepted .ensures)
+    fresh-moves _ _ _ _ _ _ (tested .before .before .byte-at .ensures) _ _ _ _ (tested .if1 .left) (called .fresh .ensures) (c .before .if2 .left) (c .accepted .ensures)
 
 pub fresh-table-spec : {M : Type 1} → statement M
 fresh-table-spec =

@@ -19,8 +19,8 @@ returns : tie.Need-returns
 returns c =
     let a = c .before .before .before .args in
     c .can-move .ensures
-    ∙ ap (canMove (a .t1 .holder) 0) (c .before .registers-in .ensures)
-    ∙ ap (λ (n : ℕ). canMove (a .t1 .holder) n (registersIn (a .c))) (sym (pick-false _ _ _ (le-ltb (a .k) 4 (c .before .before .if1 .taken))))
+    ∙ ap (canMove (a .t1 .semaphore .holder) 0) (c .before .registers-in .ensures)
+    ∙ ap (λ (n : ℕ). canMove (a .t1 .semaphore .holder) n (registersIn (a .c))) (sym (pick-false _ _ _ (le-ltb (a .k) 4 (c .before .before .if1 .taken))))
 
 mul-count : tie.Need-mul-count
 mul-count c = search needs
@@ -38,8 +38,8 @@ returns-2 : tie.Need-returns-2
 returns-2 c =
     let a = c .before .before .before .before .args in
     c .can-move2 .ensures
-    ∙ ap (canMove (a .t1 .holder) _) (c .before .registers-in2 .ensures)
-    ∙ ap (λ (n : ℕ). canMove (a .t1 .holder) n (registersIn (a .c))) (sym (pick-true _ _ _ (lt-ltb (a .k) 4 (c .before .before .before .if1 .left))))
+    ∙ ap (canMove (a .t1 .semaphore .holder) _) (c .before .registers-in2 .ensures)
+    ∙ ap (λ (n : ℕ). canMove (a .t1 .semaphore .holder) n (registersIn (a .c))) (sym (pick-true _ _ _ (lt-ltb (a .k) 4 (c .before .before .before .if1 .left))))
 
 pub moves-spec : {M : Type 1} → statement M
 moves-spec =

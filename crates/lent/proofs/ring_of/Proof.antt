@@ -27,7 +27,7 @@ returns c =
     let a = loaded .before .before .before .before .args in
     let s = loaded .before .state-of .result in
     let es = loaded .before .state-of .ensures in
-    ring-refused (a .file .now) (a .trace .now) (a .t) (a .holder) (a .given) s es _ _
+    ring-refused (a .file .now) (a .trace .now) (a .t) (a .semaphore) (a .given) s es _ _
     (next-file (a .file .now) (a .trace .now) s (a .given) (file-judged (a .file .now) _ (loaded .load .ensures)) (tested .if1 .taken)) (tested .if1 .taken) (c .no-ring .ensures)
 
 prepare-requires : tie.Need-prepare-requires
@@ -52,7 +52,7 @@ returns-2 c =
     let s = loaded .before .state-of .result in
     let es = loaded .before .state-of .ensures in
     let accepted = file-accepted (a .file .now) _ (loaded .load .ensures) (tested .if1 .left) in
-    ring-refused (a .file .now) (a .trace .now) (a .t) (a .holder) (a .given) s es _ _
+    ring-refused (a .file .now) (a .trace .now) (a .t) (a .semaphore) (a .given) s es _ _
     (next-held (a .file .now) (a .trace .now) s (a .given) accepted (held-judged (a .file .now) (a .trace .now) s _ (held .prepare .ensures)) (passed .if2 .taken)) (passed .if2 .taken) (c .no-ring2 .ensures)
 
 no-ring-requires-3 : tie.Need-no-ring-requires-3
@@ -71,7 +71,7 @@ returns-3 c =
     let accepted = file-accepted (a .file .now) _ (loaded .load .ensures) (tested .if1 .left) in
     let laid = ap (λ (l : Layout). l .cores) (file-laid (a .file .now) _ (loaded .load .ensures) (tested .if1 .left)) in
     let fit = sym (held-judged (a .file .now) (a .trace .now) s _ (held .prepare .ensures)) ∙ passed .if2 .left in
-    ring-refused (a .file .now) (a .trace .now) (a .t) (a .holder) (a .given) s es 20 _
+    ring-refused (a .file .now) (a .trace .now) (a .t) (a .semaphore) (a .given) s es 20 _
     (next-named (a .file .now) (a .trace .now) s (a .given) accepted fit (omega (arith, laid, named .if3 .taken))) (λ e. absurd (omega arith)) (c .no-ring3 .ensures)
 
 element-copy-out-t13 : tie.Need-element-copy-out-t13
@@ -112,7 +112,7 @@ returns-4 c =
     let accepted = file-accepted (a .file .now) _ (loaded .load .ensures) (tested .if1 .left) in
     let laid = ap (λ (l : Layout). l .cores) (file-laid (a .file .now) _ (loaded .load .ensures) (tested .if1 .left)) in
     let fit = sym (held-judged (a .file .now) (a .trace .now) s _ (held .prepare .ensures)) ∙ passed .if2 .left in
-    ring-whole (a .file .now) (a .trace .now) (a .t) (a .holder) (a .given) s es
+    ring-whole (a .file .now) (a .trace .now) (a .t) (a .semaphore) (a .given) s es
     (next-free (a .file .now) (a .trace .now) s (a .given) accepted fit (omega (arith, laid, named .if3 .left)))
     _ _ laid (held-tasks (a .file .now) (a .trace .now) s _ (held .prepare .ensures) (passed .if2 .left))
 

@@ -41,8 +41,8 @@ same-length-6 c = search needs
 
 returns-2 : tie.Need-returns-2
 returns-2 c =
-    let called = c .before .before .before .before .before .before .before .before .before .before in
-    run-moves _ _ _ _ _ _ _ _ _ _ _ _ _ _ _ (called .before .before .before .before .state-of .ensures) (called .run .ensures) (c .before .before .if1 .left) (c .accepted .ensures)
+    let called = c .before .before .before .before .before .before .before .before .before in
+    run-moves _ _ _ _ _ _ _ _ _ _ _ _ _ _ _ (called .before .before .before .before .state-of .ensures) (called .run .ensures) (c .before .if1 .left) (c .accepted .ensures)
 
 pub run-table-spec : {M : Type 1} → statement M
 run-table-spec =

@@ -35,8 +35,8 @@ same-length-4 c = search needs
 
 returns-2 : tie.Need-returns-2
 returns-2 c =
-    let called = c .before .before .before .before .before .before .before .before in
-    step-moves _ _ _ _ _ _ _ _ _ _ _ _ (called .before .before .before .state-of .ensures) (called .step .ensures) (c .before .before .if1 .left) (c .accepted .ensures)
+    let called = c .before .before .before .before .before .before .before in
+    step-moves _ _ _ _ _ _ _ _ _ _ _ _ (called .before .before .before .state-of .ensures) (called .step .ensures) (c .before .if1 .left) (c .accepted .ensures)
 
 pub step-table-spec : {M : Type 1} → statement M
 step-table-spec =

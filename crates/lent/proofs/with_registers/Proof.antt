@@ -13,7 +13,7 @@ set-registers-requires c κs = search needs
 
 returns : tie.Need-returns
 unfolding withRegisters
-returns c = rw (c .before .before .set-registers .ensures) refl
+returns c = rw (c .before .before .before .set-registers .ensures) refl
 
 pub with-registers-spec : {M : Type 1} → statement M
 with-registers-spec = tie.close (tie.spec set-registers-requires returns)
