@@ -2,7 +2,7 @@
 
 use crate::interface::{Machine, Next};
 use crate::random::{self, Case, Random};
-use crate::reference::{flag, mode, refusal, Core};
+use crate::reference::{flag, mode, refusal, Core, Semaphore};
 use std::collections::BTreeMap;
 
 /// How often each thing came.
@@ -110,7 +110,7 @@ const UNTOUCHED_TAKING: Option<u8> = Some(99);
 struct After {
     number: u8,
     table: Vec<Core>,
-    holder: u8,
+    semaphore: Semaphore,
     buffer: Vec<u8>,
     shared: Vec<u8>,
     list: Vec<u8>,
@@ -123,7 +123,7 @@ impl After {
         After {
             number: refusal::NONE,
             table: case.table.clone(),
-            holder: case.holder,
+            semaphore: case.semaphore,
             buffer: case.buffer.clone(),
             shared: case.shared.clone(),
             list: case.list.clone(),
@@ -144,20 +144,20 @@ impl After {
 }
 
 fn fresh<M: Machine>(machine: &M, case: &Case) -> After {
-    After::call(case, |now| machine.fresh(&case.file, &mut now.table, &mut now.holder, &mut now.buffer, &mut now.shared))
+    After::call(case, |now| machine.fresh(&case.file, &mut now.table, &mut now.semaphore, &mut now.buffer, &mut now.shared))
 }
 
 fn run<M: Machine>(machine: &M, case: &Case) -> After {
     After::call(case, |now| {
-        let After { table, holder, buffer, shared, list, count, .. } = now;
-        machine.run(&case.file, &case.trace, table, holder, buffer, shared, &case.order, list, count)
+        let After { table, semaphore, buffer, shared, list, count, .. } = now;
+        machine.run(&case.file, &case.trace, table, semaphore, buffer, shared, &case.order, list, count)
     })
 }
 
 fn step<M: Machine>(machine: &M, case: &Case) -> After {
     After::call(case, |now| {
-        let After { table, holder, buffer, shared, taking, .. } = now;
-        machine.step(&case.file, &case.trace, table, holder, buffer, shared, case.core, taking)
+        let After { table, semaphore, buffer, shared, taking, .. } = now;
+        machine.step(&case.file, &case.trace, table, semaphore, buffer, shared, case.core, taking)
     })
 }
 
@@ -166,8 +166,8 @@ impl<A: Machine, B: Machine> Pair<'_, A, B> {
         if of_a != of_b {
             let (a, b) = (self.a.name(), self.b.name());
             panic!(
-                "{}: {call} differs\n{a}: {of_a:?}\n{b}: {of_b:?}\ndamages {:?}\nfile {:02X?}\ntrace {:02X?}\ntable {:?}\nholder {}\norder {:?}\ncore {}",
-                self.name, case.damages, case.file, case.trace, case.table, case.holder, case.order, case.core
+                "{}: {call} differs\n{a}: {of_a:?}\n{b}: {of_b:?}\ndamages {:?}\nfile {:02X?}\ntrace {:02X?}\ntable {:?}\nsemaphore {:?}\norder {:?}\ncore {}",
+                self.name, case.damages, case.file, case.trace, case.table, case.semaphore, case.order, case.core
             );
         }
         of_a
@@ -197,14 +197,14 @@ impl<A: Machine, B: Machine> Pair<'_, A, B> {
             tally.steps += case.order.len();
             tally.takings += after.count;
             self.stopped(case, &after, tally);
-            let carried_on = Case { table: after.table, holder: after.holder, ..case.clone() };
+            let carried_on = Case { table: after.table, semaphore: after.semaphore, ..case.clone() };
             self.next_core(&carried_on, tally);
         }
     }
 
     fn next_core(&self, case: &Case, tally: &mut Tally) -> Next {
-        let Case { file, trace, table, holder, core, .. } = case;
-        let next = |machine: &dyn Machine| machine.next_core(file, trace, table, *holder, *core);
+        let Case { file, trace, table, semaphore, core, .. } = case;
+        let next = |machine: &dyn Machine| machine.next_core(file, trace, table, semaphore, *core);
         let next = self.same("next_core", case, next(self.a), next(self.b));
         tally.refusal("next_core", if let Next::Refused(number) = next { number } else { refusal::NONE });
         next
@@ -246,8 +246,12 @@ impl<A: Machine, B: Machine> Pair<'_, A, B> {
                 Next::Core(core) => now.core = core,
             }
             let after = self.same("step", &now, step(self.a, &now), step(self.b, &now));
-            assert!(after.table != now.table, "{}: the next core's step changes something", self.name);
-            now = Case { table: after.table, holder: after.holder, buffer: after.buffer, shared: after.shared, ..now };
+            assert!(
+                (&after.table, after.semaphore) != (&now.table, now.semaphore),
+                "{}: the next core's step changes something",
+                self.name
+            );
+            now = Case { table: after.table, semaphore: after.semaphore, buffer: after.buffer, shared: after.shared, ..now };
             tally.steps += 1;
         }
     }

@@ -1,6 +1,6 @@
 //! What a machine offers: document 01's calls on lent memory. Each answers the refusal number, 0 for none; a refused call changes nothing.
 
-use crate::reference::{self, refusal, Core};
+use crate::reference::{self, refusal, Core, Semaphore};
 
 #[derive(Clone, Copy, PartialEq, Eq, Debug)]
 pub enum Next {
@@ -17,7 +17,7 @@ pub trait Machine {
     fn check_file(&self, file: &[u8]) -> u8;
 
     /// Makes the fresh state; a table of more than n records keeps the others.
-    fn fresh(&self, file: &[u8], table: &mut [Core], holder: &mut u8, buffer: &mut [u8], shared: &mut [u8]) -> u8;
+    fn fresh(&self, file: &[u8], table: &mut [Core], semaphore: &mut Semaphore, buffer: &mut [u8], shared: &mut [u8]) -> u8;
 
     /// One step; `taken` becomes the order list's byte, or `None` where the step is no taking.
     fn step(
@@ -25,7 +25,7 @@ pub trait Machine {
         file: &[u8],
         trace: &[u8],
         table: &mut [Core],
-        holder: &mut u8,
+        semaphore: &mut Semaphore,
         buffer: &mut [u8],
         shared: &mut [u8],
         core: u8,
@@ -38,7 +38,7 @@ pub trait Machine {
         file: &[u8],
         trace: &[u8],
         table: &mut [Core],
-        holder: &mut u8,
+        semaphore: &mut Semaphore,
         buffer: &mut [u8],
         shared: &mut [u8],
         order: &[u8],
@@ -46,7 +46,7 @@ pub trait Machine {
         taken: &mut usize,
     ) -> u8;
 
-    fn next_core(&self, file: &[u8], trace: &[u8], table: &[Core], holder: u8, core: u8) -> Next;
+    fn next_core(&self, file: &[u8], trace: &[u8], table: &[Core], semaphore: &Semaphore, core: u8) -> Next;
 }
 
 /// The machine of `reference`.
@@ -61,8 +61,8 @@ impl Machine for Reference {
         reference::check_file(file)
     }
 
-    fn fresh(&self, file: &[u8], table: &mut [Core], holder: &mut u8, buffer: &mut [u8], shared: &mut [u8]) -> u8 {
-        reference::fresh(file, table, holder, buffer, shared)
+    fn fresh(&self, file: &[u8], table: &mut [Core], semaphore: &mut Semaphore, buffer: &mut [u8], shared: &mut [u8]) -> u8 {
+        reference::fresh(file, table, semaphore, buffer, shared)
     }
 
     fn step(
@@ -70,13 +70,13 @@ impl Machine for Reference {
         file: &[u8],
         trace: &[u8],
         table: &mut [Core],
-        holder: &mut u8,
+        semaphore: &mut Semaphore,
         buffer: &mut [u8],
         shared: &mut [u8],
         core: u8,
         taken: &mut Option<u8>,
     ) -> u8 {
-        reference::step(file, trace, table, holder, buffer, shared, core, taken)
+        reference::step(file, trace, table, semaphore, buffer, shared, core, taken)
     }
 
     fn run(
@@ -84,18 +84,18 @@ impl Machine for Reference {
         file: &[u8],
         trace: &[u8],
         table: &mut [Core],
-        holder: &mut u8,
+        semaphore: &mut Semaphore,
         buffer: &mut [u8],
         shared: &mut [u8],
         order: &[u8],
         list: &mut [u8],
         taken: &mut usize,
     ) -> u8 {
-        reference::run(file, trace, table, holder, buffer, shared, order, list, taken)
+        reference::run(file, trace, table, semaphore, buffer, shared, order, list, taken)
     }
 
-    fn next_core(&self, file: &[u8], trace: &[u8], table: &[Core], holder: u8, core: u8) -> Next {
-        match reference::next_core(file, trace, table, holder, core) {
+    fn next_core(&self, file: &[u8], trace: &[u8], table: &[Core], semaphore: &Semaphore, core: u8) -> Next {
+        match reference::next_core(file, trace, table, semaphore, core) {
             Err(number) => Next::Refused(number),
             Ok(None) => Next::Nothing,
             Ok(Some(core)) => Next::Core(core),
@@ -119,8 +119,8 @@ impl<M: Machine> Machine for Stepwise<M> {
         self.0.check_file(file)
     }
 
-    fn fresh(&self, file: &[u8], table: &mut [Core], holder: &mut u8, buffer: &mut [u8], shared: &mut [u8]) -> u8 {
-        self.0.fresh(file, table, holder, buffer, shared)
+    fn fresh(&self, file: &[u8], table: &mut [Core], semaphore: &mut Semaphore, buffer: &mut [u8], shared: &mut [u8]) -> u8 {
+        self.0.fresh(file, table, semaphore, buffer, shared)
     }
 
     fn step(
@@ -128,13 +128,13 @@ impl<M: Machine> Machine for Stepwise<M> {
         file: &[u8],
         trace: &[u8],
         table: &mut [Core],
-        holder: &mut u8,
+        semaphore: &mut Semaphore,
         buffer: &mut [u8],
         shared: &mut [u8],
         core: u8,
         taken: &mut Option<u8>,
     ) -> u8 {
-        self.0.step(file, trace, table, holder, buffer, shared, core, taken)
+        self.0.step(file, trace, table, semaphore, buffer, shared, core, taken)
     }
 
     fn run(
@@ -142,14 +142,14 @@ impl<M: Machine> Machine for Stepwise<M> {
         file: &[u8],
         trace: &[u8],
         table: &mut [Core],
-        holder: &mut u8,
+        semaphore: &mut Semaphore,
         buffer: &mut [u8],
         shared: &mut [u8],
         order: &[u8],
         list: &mut [u8],
         taken: &mut usize,
     ) -> u8 {
-        let judged = self.0.step(file, trace, table, holder, buffer, shared, NO_CORE, &mut None);
+        let judged = self.0.step(file, trace, table, semaphore, buffer, shared, NO_CORE, &mut None);
         if refusal::of_file(judged) {
             return judged;
         }
@@ -165,9 +165,10 @@ impl<M: Machine> Machine for Stepwise<M> {
         }
         *taken = 0;
         reference::clear_spare(table);
+        reference::clear_past(semaphore);
         for &core in order {
             let mut taking = None;
-            let number = self.0.step(file, trace, table, holder, buffer, shared, core, &mut taking);
+            let number = self.0.step(file, trace, table, semaphore, buffer, shared, core, &mut taking);
             assert_eq!(number, refusal::NONE, "a state that a step gave back is fit");
             if let Some(taking) = taking {
                 list[*taken] = taking;
@@ -177,7 +178,7 @@ impl<M: Machine> Machine for Stepwise<M> {
         refusal::NONE
     }
 
-    fn next_core(&self, file: &[u8], trace: &[u8], table: &[Core], holder: u8, core: u8) -> Next {
+    fn next_core(&self, file: &[u8], trace: &[u8], table: &[Core], semaphore: &Semaphore, core: u8) -> Next {
         let number = self.0.check_file(file);
         if number != refusal::NONE {
             return Next::Refused(number);
@@ -186,18 +187,19 @@ impl<M: Machine> Machine for Stepwise<M> {
         let size = (0..cores).map(|k| u16::from_le_bytes([file[5 + 6 * k], file[6 + 6 * k]]) as usize).sum();
         // The memories play no part: every step that changes memory changes a register too.
         let (buffer, shared) = (vec![0; size], vec![0; reference::SHARED_SIZE]);
-        // Nor do spare bytes, which an accepted step clears.
-        let mut table = table.to_vec();
+        // Nor do spare bytes and entries past the line, which an accepted step clears.
+        let (mut table, mut semaphore) = (table.to_vec(), *semaphore);
         reference::clear_spare(&mut table);
+        reference::clear_past(&mut semaphore);
         for on in 1..=cores {
-            let (mut table_after, mut holder_after) = (table.to_vec(), holder);
+            let (mut table_after, mut semaphore_after) = (table.to_vec(), semaphore);
             let tried = if (core as usize) < cores { (core as usize + on) % cores } else { core as usize };
             let (mut buffer, mut shared) = (buffer.clone(), shared.clone());
-            let number = self.0.step(file, trace, &mut table_after, &mut holder_after, &mut buffer, &mut shared, tried as u8, &mut None);
+            let number = self.0.step(file, trace, &mut table_after, &mut semaphore_after, &mut buffer, &mut shared, tried as u8, &mut None);
             if number != refusal::NONE {
                 return Next::Refused(number);
             }
-            if table_after != table || holder_after != holder {
+            if table_after != table || semaphore_after != semaphore {
                 return Next::Core(tried as u8);
             }
         }

@@ -5,7 +5,7 @@
 
 use crate::interface::{Machine, Next};
 use crate::lines::Lines;
-use crate::reference::{mode, refusal, Core, WRITING_MARK};
+use crate::reference::{mode, refusal, Core, Semaphore, WRITING_MARK};
 use crate::window::{Asked, Shown};
 
 const NOTHING: u8 = 255;
@@ -18,7 +18,7 @@ extern "C" {
         file_len: usize,
         table: *mut Core,
         table_len: usize,
-        holder: *mut u8,
+        semaphore: *mut Semaphore,
         buffer: *mut u8,
         buffer_len: usize,
         shared: *mut u8,
@@ -32,7 +32,7 @@ extern "C" {
         trace_len: usize,
         table: *mut Core,
         table_len: usize,
-        holder: *mut u8,
+        semaphore: *mut Semaphore,
         buffer: *mut u8,
         buffer_len: usize,
         shared: *mut u8,
@@ -47,7 +47,7 @@ extern "C" {
         trace_len: usize,
         table: *mut Core,
         table_len: usize,
-        holder: *mut u8,
+        semaphore: *mut Semaphore,
         buffer: *mut u8,
         buffer_len: usize,
         shared: *mut u8,
@@ -66,7 +66,7 @@ extern "C" {
         trace_len: usize,
         table: *const Core,
         table_len: usize,
-        holder: u8,
+        semaphore: *const Semaphore,
         core: u8,
         next: *mut u8,
     ) -> u8;
@@ -123,14 +123,14 @@ impl Machine for Linked {
         unsafe { rikzord_check_file(file.as_ptr(), file.len()) }
     }
 
-    fn fresh(&self, file: &[u8], table: &mut [Core], holder: &mut u8, buffer: &mut [u8], shared: &mut [u8]) -> u8 {
+    fn fresh(&self, file: &[u8], table: &mut [Core], semaphore: &mut Semaphore, buffer: &mut [u8], shared: &mut [u8]) -> u8 {
         unsafe {
             rikzord_fresh(
                 file.as_ptr(),
                 file.len(),
                 table.as_mut_ptr(),
                 table.len(),
-                holder,
+                semaphore,
                 buffer.as_mut_ptr(),
                 buffer.len(),
                 shared.as_mut_ptr(),
@@ -144,7 +144,7 @@ impl Machine for Linked {
         file: &[u8],
         trace: &[u8],
         table: &mut [Core],
-        holder: &mut u8,
+        semaphore: &mut Semaphore,
         buffer: &mut [u8],
         shared: &mut [u8],
         core: u8,
@@ -160,7 +160,7 @@ impl Machine for Linked {
                 trace.len(),
                 table.as_mut_ptr(),
                 table.len(),
-                holder,
+                semaphore,
                 buffer.as_mut_ptr(),
                 buffer.len(),
                 shared.as_mut_ptr(),
@@ -183,7 +183,7 @@ impl Machine for Linked {
         file: &[u8],
         trace: &[u8],
         table: &mut [Core],
-        holder: &mut u8,
+        semaphore: &mut Semaphore,
         buffer: &mut [u8],
         shared: &mut [u8],
         order: &[u8],
@@ -198,7 +198,7 @@ impl Machine for Linked {
                 trace.len(),
                 table.as_mut_ptr(),
                 table.len(),
-                holder,
+                semaphore,
                 buffer.as_mut_ptr(),
                 buffer.len(),
                 shared.as_mut_ptr(),
@@ -212,10 +212,20 @@ impl Machine for Linked {
         }
     }
 
-    fn next_core(&self, file: &[u8], trace: &[u8], table: &[Core], holder: u8, core: u8) -> Next {
+    fn next_core(&self, file: &[u8], trace: &[u8], table: &[Core], semaphore: &Semaphore, core: u8) -> Next {
         let mut next = NOTHING;
         let number = unsafe {
-            rikzord_next_core(file.as_ptr(), file.len(), trace.as_ptr(), trace.len(), table.as_ptr(), table.len(), holder, core, &mut next)
+            rikzord_next_core(
+                file.as_ptr(),
+                file.len(),
+                trace.as_ptr(),
+                trace.len(),
+                table.as_ptr(),
+                table.len(),
+                semaphore,
+                core,
+                &mut next,
+            )
         };
         match (number, next) {
             (refusal::NONE, NOTHING) => Next::Nothing,

@@ -279,9 +279,10 @@ fn exchange_bytes(draft: &Draft, k: usize, writes: bool) -> u16 {
 }
 
 /// A state that keeps every rule of fitness, whether a run can reach it or not.
-fn fit_state(random: &mut Random, draft: &Draft, counts: &[u16]) -> (Vec<Core>, u8) {
+fn fit_state(random: &mut Random, draft: &Draft, counts: &[u16]) -> (Vec<Core>, Semaphore) {
     let exchanging = random.below(2 * draft.cores.len());
-    let mut holder = FREE;
+    let mut semaphore = Semaphore::default();
+    let mut able = Vec::new();
     let mut table = Vec::new();
     for (k, &records) in counts.iter().enumerate() {
         let mut core = Core::default();
@@ -303,7 +304,7 @@ fn fit_state(random: &mut Random, draft: &Draft, counts: &[u16]) -> (Vec<Core>, 
         if matches!(r.mode, mode::READING | mode::WRITING) {
             let most = exchange_bytes(draft, k, r.mode == mode::WRITING) as usize;
             r.exchange = if random.once_in(4) { most } else { random.between(0, most) } as u16;
-            holder = k as u8 + 1;
+            semaphore.holder = k as u8 + 1;
         }
         if matches!(r.mode, mode::EXECUTING | mode::STOPPED) {
             r.depth = random.pick(&[0, 0, 1, 2, 15, 16]);
@@ -312,9 +313,19 @@ fn fit_state(random: &mut Random, draft: &Draft, counts: &[u16]) -> (Vec<Core>, 
                 core.offsets[entry] = random.below(data_size) as u16;
             }
         }
+        if matches!(r.mode, mode::AWAITS_READING | mode::AWAITS_WRITING) && r.cycles < records {
+            able.push(k as u8);
+        }
         table.push(core);
     }
-    (table, holder)
+    // Any of those that may stand in line, in any order; what is past the line is not judged.
+    semaphore.line = [(); MOST_CORES].map(|()| random.byte());
+    while !able.is_empty() && !random.once_in(3) {
+        let core = able.swap_remove(random.below(able.len()));
+        semaphore.line[semaphore.waiting as usize] = core;
+        semaphore.waiting += 1;
+    }
+    (table, semaphore)
 }
 
 // ---- cases
@@ -325,7 +336,7 @@ pub struct Case {
     pub file: Vec<u8>,
     pub trace: Vec<u8>,
     pub table: Vec<Core>,
-    pub holder: u8,
+    pub semaphore: Semaphore,
     pub buffer: Vec<u8>,
     pub shared: Vec<u8>,
     pub order: Vec<u8>,
@@ -348,7 +359,7 @@ pub fn sound(random: &mut Random) -> (Case, Draft, Vec<u16>) {
         file: draft.bytes(),
         trace,
         table: vec![Core::fresh(); cores],
-        holder: FREE,
+        semaphore: Semaphore::default(),
         buffer: vec![0; draft.data_total()],
         shared: vec![0; SHARED_SIZE],
         list: random.bytes(order.len()),
@@ -363,7 +374,7 @@ pub fn sound(random: &mut Random) -> (Case, Draft, Vec<u16>) {
     match random.below(4) {
         0 => {}
         1 => reach(&mut case, random),
-        _ => (case.table, case.holder) = fit_state(random, &draft, &counts),
+        _ => (case.table, case.semaphore) = fit_state(random, &draft, &counts),
     }
     if random.once_in(2) {
         case.buffer = memory(random, case.buffer.len());
@@ -387,8 +398,8 @@ pub fn order(random: &mut Random, cores: usize) -> Vec<u8> {
 /// A state that a run reaches.
 fn reach(case: &mut Case, random: &mut Random) {
     let order = order(random, case.table.len());
-    let Case { file, trace, table, holder, buffer, shared, .. } = case;
-    let number = run(file, trace, table, holder, buffer, shared, &order, &mut vec![0; order.len()], &mut 0);
+    let Case { file, trace, table, semaphore, buffer, shared, .. } = case;
+    let number = run(file, trace, table, semaphore, buffer, shared, &order, &mut vec![0; order.len()], &mut 0);
     assert_eq!(number, refusal::NONE, "a sound run from the fresh state");
 }
 
@@ -433,7 +444,7 @@ pub fn command(random: &mut Random) -> Case {
         file: draft.bytes(),
         trace: vec![1, 0, 0, 0, 0, 0],
         table: vec![core],
-        holder: FREE,
+        semaphore: Semaphore::default(),
         buffer,
         shared: vec![0; SHARED_SIZE],
         order: vec![0; 2],
@@ -716,6 +727,17 @@ fn in_modes(random: &mut Random, case: &mut Case, modes: &[u8], change: impl FnO
     modes.contains(&case.table[k].registers.mode) && change(random, k, &mut case.table[k])
 }
 
+/// Changes a line that isn't empty.
+fn in_line(random: &mut Random, case: &mut Case, change: impl FnOnce(&mut Random, &mut Semaphore) -> bool) -> bool {
+    case.semaphore.waiting > 0 && change(random, &mut case.semaphore)
+}
+
+/// A change for one of the cores.
+fn named(random: &mut Random, case: &mut Case, change: impl FnOnce(u8, &mut Case) -> bool) -> bool {
+    let k = random.below(case.table.len()) as u8;
+    change(k, case)
+}
+
 const EVERY_MODE: &[u8] = &[0, 1, 2, 3, 4, 5];
 
 pub const STATE_DAMAGES: &[StateDamage] = &[
@@ -796,31 +818,66 @@ pub const STATE_DAMAGES: &[StateDamage] = &[
         })
     }),
     ("two cores exchanging", |random, _, counts, case| {
-        let held = case.holder != FREE;
+        let held = case.semaphore.holder != FREE;
         held && in_modes(random, case, &[0, 2, 3], |random, k, core| {
             *core = Core { registers: Registers { mode: random.pick(&[1, 4]), depth: 0, ..core.registers }, ..Core::default() };
             core.registers.cycles < counts[k]
         })
     }),
     ("a core exchanging without the semaphore", |random, _, counts, case| {
-        let free = case.holder == FREE;
+        let free = case.semaphore.holder == FREE;
         free && in_modes(random, case, &[0, 2, 3], |random, k, core| {
             *core = Core { registers: Registers { mode: random.pick(&[1, 4]), depth: 0, ..core.registers }, ..Core::default() };
             core.registers.cycles < counts[k]
         })
     }),
     ("holder is another core, or free", |random, _, _, case| {
-        let before = case.holder;
-        case.holder = random.between(0, case.table.len()) as u8;
-        before != FREE && case.holder != before
+        let before = case.semaphore.holder;
+        case.semaphore.holder = random.between(0, case.table.len()) as u8;
+        before != FREE && case.semaphore.holder != before
     }),
     ("held by a core that doesn't exchange", |random, _, _, case| {
-        let before = case.holder;
-        case.holder = random.between(1, case.table.len()) as u8;
+        let before = case.semaphore.holder;
+        case.semaphore.holder = random.between(1, case.table.len()) as u8;
         before == FREE
     }),
     ("holder is no core", |random, _, _, case| {
-        case.holder = random.pick(&[case.table.len() as u8 + 1, 255]);
+        case.semaphore.holder = random.pick(&[case.table.len() as u8 + 1, 255]);
+        true
+    }),
+    ("a core twice in line", |random, _, _, case| {
+        in_line(random, case, |random, semaphore| {
+            let before = semaphore.waiting as usize;
+            let place = random.below(before);
+            semaphore.line[before.min(MOST_CORES - 1)] = semaphore.line[place];
+            semaphore.waiting = MOST_CORES.min(before + 1) as u8;
+            before < MOST_CORES || place + 1 < MOST_CORES
+        })
+    }),
+    ("line names a core from n on", |random, _, _, case| {
+        let cores = case.table.len() as u8;
+        in_line(random, case, |random, semaphore| {
+            semaphore.line[random.below(semaphore.waiting as usize)] = random.pick(&[cores, 255]);
+            true
+        })
+    }),
+    ("line names a core in no mode 0 or 3", |random, _, _, case| {
+        named(random, case, |k, case| {
+            case.semaphore.line[0] = k;
+            case.semaphore.waiting = 1;
+            !matches!(case.table[k as usize].registers.mode, mode::AWAITS_READING | mode::AWAITS_WRITING)
+        })
+    }),
+    ("line names a core out of records", |random, _, counts, case| {
+        named(random, case, |k, case| {
+            case.semaphore.line[0] = k;
+            case.semaphore.waiting = 1;
+            let r = &case.table[k as usize].registers;
+            r.mode == mode::AWAITS_READING && r.cycles == counts[k as usize]
+        })
+    }),
+    ("more than four in line", |random, _, _, case| {
+        case.semaphore.waiting = random.pick(&[5, 255]);
         true
     }),
     ("return place above the depth", |random, draft, _, case| {

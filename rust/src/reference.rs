@@ -221,6 +221,27 @@ impl Core {
     }
 }
 
+/// The semaphore and the line of cores that wait for it (document 02, 2.4), the first one first. Entries past `waiting` are not judged; an
+/// accepted call that changes the state leaves zeros there.
+#[repr(C)]
+#[derive(Clone, Copy, PartialEq, Eq, Debug, Default)]
+pub struct Semaphore {
+    /// `FREE`, or k + 1 where core k holds it.
+    pub holder: u8,
+    /// How many cores stand in line.
+    pub waiting: u8,
+    pub line: [u8; MOST_CORES],
+}
+
+const _: () = assert!(size_of::<Semaphore>() == 2 + MOST_CORES);
+
+impl Semaphore {
+    /// The cores in line; of more than there are places, those that have one.
+    pub fn in_line(&self) -> &[u8] {
+        &self.line[..MOST_CORES.min(self.waiting as usize)]
+    }
+}
+
 // ---- the task set file
 
 /// A set of places below 64 * WORDS, a bit each.
@@ -468,7 +489,7 @@ fn load_trace<'t>(set: &TaskSet, trace: &'t [u8]) -> Judged<[Inputs<'t>; MOST_CO
 
 // ---- fitness of a state
 
-fn judge_state(set: &TaskSet, inputs: &[Inputs; MOST_CORES], table: &[Core], holder: u8) -> Judged<()> {
+fn judge_state(set: &TaskSet, inputs: &[Inputs; MOST_CORES], table: &[Core], semaphore: &Semaphore) -> Judged<()> {
     demand(table.len() == set.count, refusal::UNFIT)?;
     // Document 01's two rules on exchanging cores in one: the holder is the only core in mode 1 or 4, and there is none where it is free.
     let mut exchanging = FREE;
@@ -479,7 +500,22 @@ fn judge_state(set: &TaskSet, inputs: &[Inputs; MOST_CORES], table: &[Core], hol
             exchanging = k as u8 + 1;
         }
     }
-    demand(holder == exchanging, refusal::UNFIT)
+    demand(semaphore.holder == exchanging, refusal::UNFIT)?;
+    judge_line(inputs, table, semaphore)
+}
+
+/// The line names no core twice, none from n on, none in another mode than 0 or 3, and none out of records.
+fn judge_line(inputs: &[Inputs; MOST_CORES], table: &[Core], semaphore: &Semaphore) -> Judged<()> {
+    demand(semaphore.waiting as usize <= MOST_CORES, refusal::UNFIT)?;
+    let mut named = [false; MOST_CORES];
+    for &core in semaphore.in_line() {
+        let k = core as usize;
+        let r = table.get(k).ok_or(refusal::UNFIT)?.registers;
+        demand(!named[k], refusal::UNFIT)?;
+        named[k] = true;
+        demand(matches!(r.mode, mode::AWAITS_READING | mode::AWAITS_WRITING) && r.cycles < inputs[k].count, refusal::UNFIT)?;
+    }
+    Ok(())
 }
 
 fn core_fits(task: &Task, records: u16, core: &Core) -> bool {
@@ -873,7 +909,7 @@ struct Running<'a> {
     set: &'a TaskSet<'a>,
     inputs: &'a [Inputs<'a>; MOST_CORES],
     table: &'a mut [Core],
-    holder: u8,
+    semaphore: Semaphore,
     data: [&'a mut [u8]; MOST_CORES],
     shared: &'a mut [u8; SHARED_SIZE],
     cursor: Cursor,
@@ -898,7 +934,7 @@ impl Running<'_> {
                     r.exchange += 1;
                 }
                 if self.cursor.at_end(&task.reads) {
-                    self.holder = FREE;
+                    self.semaphore.holder = FREE;
                     *r = Registers { mode: mode::EXECUTING, counter: 0, offset: 0, depth: 0, count: 0, exchange: 0, ..*r };
                 }
                 None
@@ -909,7 +945,7 @@ impl Running<'_> {
                     r.exchange += 1;
                 }
                 if self.cursor.at_end(&task.writes) {
-                    self.holder = FREE;
+                    self.semaphore.holder = FREE;
                     r.exchange = 0;
                     r.cycles += 1;
                     r.flags &= !flag::COLD_START;
@@ -919,7 +955,7 @@ impl Running<'_> {
             }
             mode::AWAITS_READING => {
                 let inputs = &self.inputs[k];
-                if r.cycles == inputs.count || self.holder != FREE {
+                if r.cycles == inputs.count || !obtain(&mut self.semaphore, k as u8) {
                     return None;
                 }
                 let record = &inputs.records[r.cycles as usize * inputs.record_size..][..inputs.record_size];
@@ -927,17 +963,15 @@ impl Running<'_> {
                 data[..task.input_size].copy_from_slice(&record[TIME_SIZE..]);
                 r.mode = mode::READING;
                 r.exchange = 0;
-                self.holder = k as u8 + 1;
                 self.cursor = Cursor::default();
                 Some(k as u8)
             }
             mode::AWAITS_WRITING => {
-                if self.holder != FREE {
+                if !obtain(&mut self.semaphore, k as u8) {
                     return None;
                 }
                 r.mode = mode::WRITING;
                 r.exchange = 0;
-                self.holder = k as u8 + 1;
                 self.cursor = Cursor::default();
                 Some(k as u8 + WRITING_MARK)
             }
@@ -946,11 +980,38 @@ impl Running<'_> {
     }
 }
 
-/// Whether a step of this core would change something.
-fn would_move(core: &Core, records: u16, holder: u8) -> bool {
+/// Core k takes the semaphore, or waits for it: tells which. It takes it where it is free and nobody stands before k, and leaves the line by
+/// that; else it joins the line at its end, unless it stands there.
+#[inline(always)]
+fn obtain(semaphore: &mut Semaphore, k: u8) -> bool {
+    let waiting = semaphore.waiting as usize;
+    let place = semaphore.line[..waiting].iter().position(|&core| core == k);
+    let before = place.unwrap_or(waiting);
+    if semaphore.holder == FREE && before == 0 {
+        if place.is_some() {
+            semaphore.line.copy_within(1.., 0);
+            semaphore.line[MOST_CORES - 1] = 0;
+            semaphore.waiting -= 1;
+        }
+        semaphore.holder = k + 1;
+        return true;
+    }
+    if place.is_none() {
+        semaphore.line[waiting] = k;
+        semaphore.waiting += 1;
+    }
+    false
+}
+
+/// Whether a step of core k would change something.
+fn would_move(k: u8, core: &Core, records: u16, semaphore: &Semaphore) -> bool {
     match core.registers.mode {
-        mode::AWAITS_READING => core.registers.cycles != records && holder == FREE,
-        mode::AWAITS_WRITING => holder == FREE,
+        mode::AWAITS_READING if core.registers.cycles == records => false,
+        // It joins unless it stands in line; there it takes only as the first, where the semaphore is free.
+        mode::AWAITS_READING | mode::AWAITS_WRITING => match semaphore.in_line().iter().position(|&core| core == k) {
+            None => true,
+            Some(place) => place == 0 && semaphore.holder == FREE,
+        },
         mode::STOPPED => false,
         // A reading or writing core copies or releases, an executing one counts or faults.
         _ => true,
@@ -971,8 +1032,8 @@ pub fn check_trace(file: &[u8], trace: &[u8]) -> u8 {
     number(TaskSet::load(file).and_then(|set| load_trace(&set, trace).map(|_| ())))
 }
 
-pub fn check_state(file: &[u8], trace: &[u8], table: &[Core], holder: u8) -> u8 {
-    number(TaskSet::load(file).and_then(|set| judge_state(&set, &load_trace(&set, trace)?, table, holder)))
+pub fn check_state(file: &[u8], trace: &[u8], table: &[Core], semaphore: &Semaphore) -> u8 {
+    number(TaskSet::load(file).and_then(|set| judge_state(&set, &load_trace(&set, trace)?, table, semaphore)))
 }
 
 fn judge_sizes(set: &TaskSet, buffer: &[u8], shared: &[u8]) -> Judged<()> {
@@ -980,11 +1041,11 @@ fn judge_sizes(set: &TaskSet, buffer: &[u8], shared: &[u8]) -> Judged<()> {
 }
 
 /// Makes the fresh state in the first n records of the table, which may be longer.
-pub fn fresh(file: &[u8], table: &mut [Core], holder: &mut u8, buffer: &mut [u8], shared: &mut [u8]) -> u8 {
+pub fn fresh(file: &[u8], table: &mut [Core], semaphore: &mut Semaphore, buffer: &mut [u8], shared: &mut [u8]) -> u8 {
     number(TaskSet::load(file).and_then(|set| {
         judge_sizes(&set, buffer, shared)?;
         table.get_mut(..set.count).ok_or(refusal::SIZES)?.fill(Core::fresh());
-        *holder = FREE;
+        *semaphore = Semaphore::default();
         buffer.fill(0);
         shared.fill(0);
         Ok(())
@@ -997,7 +1058,7 @@ pub fn run(
     file: &[u8],
     trace: &[u8],
     table: &mut [Core],
-    holder: &mut u8,
+    semaphore: &mut Semaphore,
     buffer: &mut [u8],
     shared: &mut [u8],
     order: &[u8],
@@ -1008,10 +1069,11 @@ pub fn run(
         judge_sizes(&set, buffer, shared)?;
         demand(list.len() >= order.len(), refusal::SIZES)?;
         let inputs = load_trace(&set, trace)?;
-        judge_state(&set, &inputs, table, *holder)?;
+        judge_state(&set, &inputs, table, semaphore)?;
         demand(order.iter().all(|&core| (core as usize) < set.count), refusal::NO_SUCH_CORE)?;
         clear_spare(table);
-        let mut running = start(&set, &inputs, table, *holder, buffer, shared);
+        clear_past(semaphore);
+        let mut running = start(&set, &inputs, table, *semaphore, buffer, shared);
         let mut count = 0;
         for &core in order {
             if let Some(taking) = running.step(core as usize) {
@@ -1019,7 +1081,7 @@ pub fn run(
                 count += 1;
             }
         }
-        *holder = running.holder;
+        *semaphore = running.semaphore;
         *taken = count;
         Ok(())
     }))
@@ -1032,12 +1094,18 @@ pub fn clear_spare(table: &mut [Core]) {
     }
 }
 
+/// Zeros past the line.
+pub fn clear_past(semaphore: &mut Semaphore) {
+    let waiting = semaphore.in_line().len();
+    semaphore.line[waiting..].fill(0);
+}
+
 /// What was judged, made ready to step: the buffer cut into the cores' data, the cursor set where the exchange under way stands.
 fn start<'a>(
     set: &'a TaskSet<'a>,
     inputs: &'a [Inputs<'a>; MOST_CORES],
     table: &'a mut [Core],
-    holder: u8,
+    semaphore: Semaphore,
     buffer: &'a mut [u8],
     shared: &'a mut [u8],
 ) -> Running<'a> {
@@ -1047,14 +1115,14 @@ fn start<'a>(
         (*own, rest) = rest.split_at_mut(task.data_size);
     }
     let mut cursor = Cursor::default();
-    if holder != FREE {
-        let k = holder as usize - 1;
+    if semaphore.holder != FREE {
+        let k = semaphore.holder as usize - 1;
         let r = &table[k].registers;
         let moves = if r.mode == mode::READING { &set.tasks[k].reads } else { &set.tasks[k].writes };
         cursor = Cursor::after(moves, r.exchange as usize);
     }
     let shared = shared.try_into().expect("the size was judged");
-    Running { set, inputs, table, holder, data, shared, cursor }
+    Running { set, inputs, table, semaphore, data, shared, cursor }
 }
 
 /// One step of one core: a run of one step. `taken` becomes the order list's byte, or `None` where the step is no taking.
@@ -1063,14 +1131,14 @@ pub fn step(
     file: &[u8],
     trace: &[u8],
     table: &mut [Core],
-    holder: &mut u8,
+    semaphore: &mut Semaphore,
     buffer: &mut [u8],
     shared: &mut [u8],
     core: u8,
     taken: &mut Option<u8>,
 ) -> u8 {
     let (mut list, mut count) = ([0], 0);
-    let number = run(file, trace, table, holder, buffer, shared, &[core], &mut list, &mut count);
+    let number = run(file, trace, table, semaphore, buffer, shared, &[core], &mut list, &mut count);
     if number == refusal::NONE {
         *taken = list[..count].first().copied();
     }
@@ -1078,13 +1146,13 @@ pub fn step(
 }
 
 /// The first core after `core`, round the ring and that one last, whose step would change something.
-pub fn next_core(file: &[u8], trace: &[u8], table: &[Core], holder: u8, core: u8) -> Result<Option<u8>, u8> {
+pub fn next_core(file: &[u8], trace: &[u8], table: &[Core], semaphore: &Semaphore, core: u8) -> Result<Option<u8>, u8> {
     let set = TaskSet::load(file)?;
     let inputs = load_trace(&set, trace)?;
-    judge_state(&set, &inputs, table, holder)?;
+    judge_state(&set, &inputs, table, semaphore)?;
     demand((core as usize) < set.count, refusal::NO_SUCH_CORE)?;
     let ring = (1..=set.count).map(|on| (core as usize + on) % set.count);
-    Ok(ring.filter(|&k| would_move(&table[k], inputs[k].count, holder)).map(|k| k as u8).next())
+    Ok(ring.filter(|&k| would_move(k as u8, &table[k], inputs[k].count, semaphore)).map(|k| k as u8).next())
 }
 
 // ---- the program `cores`
@@ -1106,7 +1174,7 @@ fn listing(file: &[u8], trace: &[u8], order: &[u8]) -> Judged<String> {
     let mut table = vec![Core::fresh(); set.count];
     let mut buffer = vec![0; set.data_total()];
     let (mut list, mut taken) = (vec![0; order.len()], 0);
-    let number = run(file, trace, &mut table, &mut { FREE }, &mut buffer, &mut [0; SHARED_SIZE], order, &mut list, &mut taken);
+    let number = run(file, trace, &mut table, &mut Semaphore::default(), &mut buffer, &mut [0; SHARED_SIZE], order, &mut list, &mut taken);
     demand(number == refusal::NONE, number)?;
     let mut text = "core mode cycles flags count\n".to_string();
     for (k, Core { registers: r, .. }) in table.iter().enumerate() {

@@ -6,7 +6,7 @@ use rikzord_comparison::draft::{CoreRecord, Draft, Program};
 use rikzord_comparison::interface::{Machine, Reference};
 use rikzord_comparison::random::Random;
 use rikzord_comparison::reference::command::*;
-use rikzord_comparison::reference::{flag, mode, Core, FREE, SHARED_SIZE};
+use rikzord_comparison::reference::{flag, mode, Core, Semaphore, SHARED_SIZE};
 use std::panic::catch_unwind;
 
 fn all() -> Vec<Takes> {
@@ -156,13 +156,13 @@ fn every_path_was_walked() {
 fn limits_and_calls() {
     let end = |machine: &dyn Machine, limit: u16, program: Program| {
         let file = Draft::single(4, 0, limit, program).bytes();
-        let (mut table, mut holder) = (vec![Core::default()], FREE);
+        let (mut table, mut semaphore) = (vec![Core::default()], Semaphore::default());
         let (mut buffer, mut shared) = (vec![0; 4], vec![0; SHARED_SIZE]);
-        assert_eq!(machine.fresh(&file, &mut table, &mut holder, &mut buffer, &mut shared), 0);
+        assert_eq!(machine.fresh(&file, &mut table, &mut semaphore, &mut buffer, &mut shared), 0);
         let order = vec![0; 70_000];
         let (mut list, mut taken) = (vec![0; order.len()], 0);
         let number =
-            machine.run(&file, &[1, 0, 0, 0, 0, 0], &mut table, &mut holder, &mut buffer, &mut shared, &order, &mut list, &mut taken);
+            machine.run(&file, &[1, 0, 0, 0, 0, 0], &mut table, &mut semaphore, &mut buffer, &mut shared, &order, &mut list, &mut taken);
         assert_eq!(number, 0);
         let registers = &table[0].registers;
         (registers.mode, registers.flags, registers.count)

@@ -2,7 +2,7 @@
 
 use rikzord_comparison::comparison::compare;
 use rikzord_comparison::interface::{Machine, Next, Reference, Stepwise};
-use rikzord_comparison::reference::{self, command, flag, mode, refusal, types, Core};
+use rikzord_comparison::reference::{self, command, flag, mode, refusal, types, Core, Semaphore};
 use std::ops::Range;
 use std::panic::{catch_unwind, AssertUnwindSafe};
 
@@ -45,6 +45,59 @@ enum Mistake {
     DividendLeft,
     /// Stops the core where MOD divides by zero.
     ModByZeroStops,
+    /// Joins the line at its front.
+    JoinsAtTheFront,
+    /// Lets a core that is out of records join.
+    SpentCoreJoins,
+    /// Empties the line where the semaphore is released.
+    ReleaseEmptiesTheLine,
+    /// Lets a core with a number below the first's take the semaphore.
+    FirstOrLower,
+    /// Lets a core that stands in line join again.
+    JoinsTwice,
+    /// Leaves the core that takes the semaphore in line.
+    TakingKeepsTheLine,
+    /// Leaves what stood past the line.
+    PastTheLineKept,
+    /// Says that a core in line moves.
+    CoreInLineMoves,
+}
+
+/// The records of core `core` that are left, where the trace is sound.
+fn records_left(file: &[u8], trace: &[u8], table: &[Core], core: usize) -> bool {
+    let mut at = 0;
+    for k in 0..core {
+        at += 2 + u16::from_le_bytes([trace[at], trace[at + 1]]) as usize
+            * (4 + u16::from_le_bytes([file[7 + 6 * k], file[8 + 6 * k]]) as usize);
+    }
+    table[core].registers.cycles < u16::from_le_bytes([trace[at], trace[at + 1]])
+}
+
+/// A step's semaphore as a wrong machine leaves it, from that on entry and that of the right step, with the core's modes before and after.
+fn wrong_line(mistake: Mistake, core: u8, left: bool, before: Semaphore, after: Semaphore, from: u8, to: u8) -> Semaphore {
+    let (was, is) = (before.in_line(), after.in_line());
+    let mut wrong = after;
+    match mistake {
+        Mistake::JoinsAtTheFront if is.len() > was.len() => {
+            wrong.line.copy_within(..was.len(), 1);
+            wrong.line[0] = core;
+        }
+        Mistake::SpentCoreJoins if from == mode::AWAITS_READING && !left && was.len() < reference::MOST_CORES && before.holder != 0 => {
+            wrong.line[was.len()] = core;
+            wrong.waiting += 1;
+        }
+        Mistake::ReleaseEmptiesTheLine if before.holder == core + 1 && after.holder == 0 => wrong = Semaphore::default(),
+        Mistake::JoinsTwice if from == to && matches!(from, 0 | 3) && was.contains(&core) && was.len() < reference::MOST_CORES => {
+            wrong.line[was.len()] = core;
+            wrong.waiting += 1;
+        }
+        Mistake::TakingKeepsTheLine if was.first() == Some(&core) && after.holder == core + 1 => {
+            (wrong.waiting, wrong.line) = (before.waiting, before.line);
+        }
+        Mistake::PastTheLineKept => wrong.line[is.len()..].copy_from_slice(&before.line[is.len()..]),
+        _ => {}
+    }
+    wrong
 }
 
 /// The stretches of the data buffer that hold dividend and destination, where this core's next instruction is MOD by zero.
@@ -91,8 +144,8 @@ impl Machine for Wrong {
         }
     }
 
-    fn fresh(&self, file: &[u8], table: &mut [Core], holder: &mut u8, buffer: &mut [u8], shared: &mut [u8]) -> u8 {
-        let number = reference::fresh(file, table, holder, buffer, shared);
+    fn fresh(&self, file: &[u8], table: &mut [Core], semaphore: &mut Semaphore, buffer: &mut [u8], shared: &mut [u8]) -> u8 {
+        let number = reference::fresh(file, table, semaphore, buffer, shared);
         if self.0 == Mistake::WholeTableFresh && number == refusal::NONE {
             table.fill(Core::fresh());
         }
@@ -104,7 +157,7 @@ impl Machine for Wrong {
         file: &[u8],
         trace: &[u8],
         table: &mut [Core],
-        holder: &mut u8,
+        semaphore: &mut Semaphore,
         buffer: &mut [u8],
         shared: &mut [u8],
         core: u8,
@@ -112,7 +165,20 @@ impl Machine for Wrong {
     ) -> u8 {
         let before = table.to_vec();
         let data = buffer.to_vec();
-        let number = reference::step(file, trace, table, holder, buffer, shared, core, taken);
+        let on_entry = *semaphore;
+        if self.0 == Mistake::FirstOrLower && reference::check_state(file, trace, table, semaphore) == refusal::NONE {
+            if let Some(place) = semaphore.in_line().iter().position(|&other| other == core && core < on_entry.line[0]) {
+                semaphore.line.swap(0, place);
+            }
+        }
+        let number = reference::step(file, trace, table, semaphore, buffer, shared, core, taken);
+        if number == refusal::NONE {
+            let k = core as usize;
+            let left = records_left(file, trace, &before, k);
+            *semaphore = wrong_line(self.0, core, left, on_entry, *semaphore, before[k].registers.mode, table[k].registers.mode);
+        } else {
+            *semaphore = on_entry;
+        }
         if let (refusal::NONE, Some((dividend, to))) = (number, mod_by_zero(file, &before, &data, core)) {
             match self.0 {
                 Mistake::DividendLeft => buffer[to].copy_from_slice(&data[dividend]),
@@ -136,34 +202,38 @@ impl Machine for Wrong {
         file: &[u8],
         trace: &[u8],
         table: &mut [Core],
-        holder: &mut u8,
+        semaphore: &mut Semaphore,
         buffer: &mut [u8],
         shared: &mut [u8],
         order: &[u8],
         list: &mut [u8],
         taken: &mut usize,
     ) -> u8 {
-        let number = reference::run(file, trace, table, holder, buffer, shared, order, list, taken);
+        let number = reference::run(file, trace, table, semaphore, buffer, shared, order, list, taken);
         match (self.0, number) {
             (Mistake::OutputOfRefused, 1..) => *taken = 0,
             (Mistake::RestOfListCleared, 0) => list[*taken..].fill(0),
             (Mistake::StateBeforeTrace, refusal::TRACE) if table.iter().any(|core| core.registers.mode > 5) => return refusal::UNFIT,
             (Mistake::OrderJudgedLate, refusal::NO_SUCH_CORE) => {
                 let sound = order.iter().position(|&core| core as usize >= table.len()).unwrap();
-                reference::run(file, trace, table, holder, buffer, shared, &order[..sound], list, &mut 0);
+                reference::run(file, trace, table, semaphore, buffer, shared, &order[..sound], list, &mut 0);
             }
             _ => {}
         }
         number
     }
 
-    fn next_core(&self, file: &[u8], trace: &[u8], table: &[Core], holder: u8, core: u8) -> Next {
+    fn next_core(&self, file: &[u8], trace: &[u8], table: &[Core], semaphore: &Semaphore, core: u8) -> Next {
+        if self.0 == Mistake::CoreInLineMoves && reference::check_state(file, trace, table, semaphore) == refusal::NONE {
+            let without = Semaphore { waiting: 0, ..*semaphore };
+            return Reference.next_core(file, trace, table, &without, core);
+        }
         let before = if self.0 == Mistake::RingStartsAtItself && (core as usize) < table.len() {
             (core as usize + table.len() - 1) % table.len()
         } else {
             core as usize
         };
-        Reference.next_core(file, trace, table, holder, before as u8)
+        Reference.next_core(file, trace, table, semaphore, before as u8)
     }
 }
 
@@ -183,6 +253,14 @@ fn wrong_machines_are_seen() {
         CutIsLeftovers,
         DividendLeft,
         ModByZeroStops,
+        JoinsAtTheFront,
+        SpentCoreJoins,
+        ReleaseEmptiesTheLine,
+        FirstOrLower,
+        JoinsTwice,
+        TakingKeepsTheLine,
+        PastTheLineKept,
+        CoreInLineMoves,
     ] {
         let compared = catch_unwind(AssertUnwindSafe(|| compare(&Reference, &Wrong(mistake), 4, 2000)));
         assert!(compared.is_err(), "{mistake:?} went unseen");

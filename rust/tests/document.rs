@@ -22,7 +22,7 @@ struct Plant {
     file: Vec<u8>,
     trace: Vec<u8>,
     table: Vec<Core>,
-    holder: u8,
+    semaphore: Semaphore,
     buffer: Vec<u8>,
     shared: Vec<u8>,
     list: Vec<u8>,
@@ -43,14 +43,14 @@ impl Plant {
                 Core { registers: Registers { spare: [9; SPARE], ..Registers::default() }, places: [9; 16], ..Core::default() };
                 draft.cores.len()
             ],
-            holder: 3,
+            semaphore: Semaphore { holder: 3, waiting: 9, line: [7; 4] },
             buffer: vec![7; draft.data_total()],
             shared: vec![7; SHARED_SIZE],
             list: Vec::new(),
         };
-        let number = machine.fresh(&plant.file, &mut plant.table, &mut plant.holder, &mut plant.buffer, &mut plant.shared);
+        let number = machine.fresh(&plant.file, &mut plant.table, &mut plant.semaphore, &mut plant.buffer, &mut plant.shared);
         assert_eq!(number, 0);
-        assert_eq!((&plant.table, plant.holder), (&vec![Core::fresh(); draft.cores.len()], FREE));
+        assert_eq!((&plant.table, plant.semaphore), (&vec![Core::fresh(); draft.cores.len()], Semaphore::default()));
         assert!(plant.buffer.iter().chain(&plant.shared).all(|&byte| byte == 0));
         plant
     }
@@ -59,8 +59,8 @@ impl Plant {
     fn run(&mut self, machine: &dyn Machine, order: &[u8]) -> u8 {
         let mut taken = 0;
         let mut list = vec![0; order.len()];
-        let Plant { file, trace, table, holder, buffer, shared, .. } = self;
-        let number = machine.run(file, trace, table, holder, buffer, shared, order, &mut list, &mut taken);
+        let Plant { file, trace, table, semaphore, buffer, shared, .. } = self;
+        let number = machine.run(file, trace, table, semaphore, buffer, shared, order, &mut list, &mut taken);
         self.list.extend(&list[..taken]);
         number
     }
@@ -389,11 +389,17 @@ fn mode_3_while_another_core_holds_the_semaphore() {
         let mut plant = Plant::fresh(machine, &two_cores(vec![variable(0, 2, 2, 2)]), 1);
         // Core 0 reads nothing and returns; core 1 then takes the semaphore.
         assert_eq!(plant.run(machine, &[0, 0, 0, 1]), 0);
-        assert_eq!((plant.registers().mode, plant.holder), (mode::AWAITS_WRITING, 2));
-        let before = plant.clone();
+        assert_eq!((plant.registers().mode, plant.semaphore.holder), (mode::AWAITS_WRITING, 2));
+        // By document 02, 2.4 the first such step joins the line, which is a change; a second changes nothing.
+        let next = |plant: &Plant| machine.next_core(&plant.file, &plant.trace, &plant.table, &plant.semaphore, 1);
+        let mut expected = plant.clone();
+        assert_eq!(next(&plant), Next::Core(0));
+        assert_eq!(plant.run(machine, &[0]), 0);
+        (expected.semaphore.waiting, expected.semaphore.line) = (1, [0; 4]);
+        assert_eq!(plant, expected);
         assert_eq!(plant.run(machine, &[0, 0]), 0);
-        assert_eq!(plant, before);
-        assert_eq!(machine.next_core(&plant.file, &plant.trace, &plant.table, plant.holder, 1), Next::Core(1));
+        assert_eq!(plant, expected);
+        assert_eq!(next(&plant), Next::Core(1));
     }
 }
 
@@ -527,18 +533,18 @@ fn one_byte_of_an_exchange_a_step() {
         let mut plant = Plant::fresh(machine, &draft, 1);
         // Taking, release of an empty reading, three instructions, taking, three bytes of which the last releases.
         assert_eq!(plant.run(machine, &[0; 8]), 0);
-        assert_eq!((plant.registers().mode, plant.registers().exchange, plant.holder), (mode::WRITING, 2, 1));
+        assert_eq!((plant.registers().mode, plant.registers().exchange, plant.semaphore.holder), (mode::WRITING, 2, 1));
         assert_eq!((plant.shared[10..12].to_vec(), plant.shared[20]), (vec![1, 2], 0));
         assert_eq!(plant.run(machine, &[1, 0]), 0);
-        assert_eq!((plant.registers().mode, plant.registers().exchange, plant.holder, plant.shared[20]), (0, 0, FREE, 3));
+        assert_eq!((plant.registers().mode, plant.registers().exchange, plant.semaphore.holder, plant.shared[20]), (0, 0, FREE, 3));
         assert_eq!((plant.registers().cycles, plant.registers().flags, plant.registers().count), (1, 0, 3), "the count stays to be seen");
         assert_eq!(plant.run(machine, &[1, 1, 1]), 0);
         assert_eq!((plant.table[1].registers.mode, plant.table[1].registers.exchange, plant.buffer[20..22].to_vec()), (1, 2, vec![1, 2]));
         assert_eq!(plant.run(machine, &[1]), 0);
-        assert_eq!((plant.table[1].registers.mode, plant.holder, plant.buffer[24]), (mode::EXECUTING, FREE, 3));
+        assert_eq!((plant.table[1].registers.mode, plant.semaphore.holder, plant.buffer[24]), (mode::EXECUTING, FREE, 3));
         assert_eq!(plant.list, [0, 16, 1]);
         // Core 0 is out of records.
-        let next = |plant: &Plant, core| machine.next_core(&plant.file, &plant.trace, &plant.table, plant.holder, core);
+        let next = |plant: &Plant, core| machine.next_core(&plant.file, &plant.trace, &plant.table, &plant.semaphore, core);
         assert_eq!((next(&plant, 0), next(&plant, 1), next(&plant, 2)), (Next::Core(1), Next::Core(1), Next::Refused(20)));
         assert_eq!(plant.run(machine, &[1, 1, 1]), 0);
         assert_eq!(next(&plant, 0), Next::Nothing);
@@ -620,9 +626,9 @@ fn fitness() {
             let mut plant = fresh.clone();
             change(&mut plant);
             let number = plant.clone().run(machine, &[]);
-            let next = machine.next_core(&plant.file, &plant.trace, &plant.table, plant.holder, 0);
+            let next = machine.next_core(&plant.file, &plant.trace, &plant.table, &plant.semaphore, 0);
             assert_eq!(number != 0, next == Next::Refused(number));
-            assert_eq!(check_state(&plant.file, &plant.trace, &plant.table, plant.holder), number);
+            assert_eq!(check_state(&plant.file, &plant.trace, &plant.table, &plant.semaphore), number);
             number
         };
         let register = |change: &dyn Fn(&mut Registers)| judged(&|plant| change(&mut plant.table[1].registers));
@@ -634,7 +640,7 @@ fn fitness() {
         assert_eq!(register(&|r| r.count = 9), 0);
         let reading = |exchange: u16| {
             judged(&|plant| {
-                (plant.table[1].registers.mode, plant.table[1].registers.exchange, plant.holder) = (mode::READING, exchange, 2);
+                (plant.table[1].registers.mode, plant.table[1].registers.exchange, plant.semaphore.holder) = (mode::READING, exchange, 2);
             })
         };
         assert_eq!((reading(0), reading(2), reading(3)), (0, 0, 23));
@@ -648,8 +654,25 @@ fn fitness() {
         assert_eq!(register(&|r| r.depth = 1), 23);
         assert_eq!(register(&|r| r.exchange = 1), 23);
         assert_eq!(register(&|r| r.mode = mode::WRITING), 23);
-        assert_eq!(judged(&|plant| plant.holder = 1), 23);
-        assert_eq!(judged(&|plant| plant.holder = 3), 23);
+        assert_eq!(judged(&|plant| plant.semaphore.holder = 1), 23);
+        assert_eq!(judged(&|plant| plant.semaphore.holder = 3), 23);
+        // The line of document 02, 2.4: each core once, below n, in mode 0 or 3, with a record left; what is past it is not judged.
+        let line = |waiting: u8, line: [u8; 4]| judged(&|plant| plant.semaphore = Semaphore { holder: FREE, waiting, line });
+        assert_eq!((line(0, [9; 4]), line(1, [1, 1, 1, 1]), line(2, [1, 0, 1, 0])), (0, 0, 0));
+        assert_eq!((line(2, [1, 1, 0, 0]), line(3, [0, 1, 0, 0]), line(1, [2, 0, 0, 0]), line(5, [0, 1, 2, 3])), (23, 23, 23, 23));
+        let stands = |change: &dyn Fn(&mut Registers)| {
+            judged(&|plant| {
+                (plant.semaphore.waiting, plant.semaphore.line) = (2, [0, 1, 0, 0]);
+                change(&mut plant.table[1].registers);
+            })
+        };
+        assert_eq!((stands(&|r| r.cycles = 1), stands(&|r| r.mode = mode::AWAITS_WRITING)), (0, 0));
+        assert_eq!((stands(&|r| r.cycles = 2), stands(&|r| r.mode = mode::EXECUTING), stands(&|r| r.mode = mode::STOPPED)), (23, 23, 23));
+        assert_eq!(
+            judged(&|plant| (plant.table[1].registers.mode, plant.semaphore) =
+                (mode::READING, Semaphore { holder: 2, waiting: 1, line: [1; 4] })),
+            23
+        );
         assert_eq!(judged(&|plant| plant.table[0].offsets[15] = 1), 23);
         let stack = |place, offset, depth| {
             judged(&|plant| {
@@ -669,11 +692,11 @@ fn exchange_number_at_the_end_releases() {
     for machine in machines() {
         let machine = &*machine;
         let mut plant = Plant::fresh(machine, &two_cores(vec![variable(0, 2, 2, 2)]), 2);
-        (plant.table[1].registers.mode, plant.table[1].registers.exchange, plant.holder) = (mode::READING, 2, 2);
+        (plant.table[1].registers.mode, plant.table[1].registers.exchange, plant.semaphore.holder) = (mode::READING, 2, 2);
         plant.shared[0] = 5;
         let before = plant.clone();
         assert_eq!(plant.run(machine, &[1]), 0);
-        assert_eq!((plant.table[1].registers.mode, plant.table[1].registers.exchange, plant.holder), (mode::EXECUTING, 0, FREE));
+        assert_eq!((plant.table[1].registers.mode, plant.table[1].registers.exchange, plant.semaphore.holder), (mode::EXECUTING, 0, FREE));
         assert_eq!((plant.buffer, plant.shared), (before.buffer, before.shared));
     }
 }
@@ -685,7 +708,13 @@ fn lent_sizes() {
     for machine in machines() {
         let fresh = |records: usize, buffer: usize, shared: usize| {
             let mut table = vec![Core { places: [1; 16], ..Core::default() }; records];
-            let number = machine.fresh(&file, &mut table, &mut 9, &mut vec![1; buffer], &mut vec![1; shared]);
+            let number = machine.fresh(
+                &file,
+                &mut table,
+                &mut Semaphore { holder: 9, ..Semaphore::default() },
+                &mut vec![1; buffer],
+                &mut vec![1; shared],
+            );
             (number, table)
         };
         assert_eq!((fresh(1, 32, 1024).0, fresh(2, 31, 1024).0, fresh(2, 33, 1024).0, fresh(2, 32, 1025).0), (21, 21, 21, 21));
@@ -693,9 +722,9 @@ fn lent_sizes() {
         assert_eq!((number, table[1], table[2].places), (0, Core::fresh(), [1; 16]), "only the first n change");
         let plant = Plant::fresh(&*machine, &draft, 1);
         let listed = |length: usize| {
-            let Plant { file, trace, mut table, mut holder, mut buffer, mut shared, .. } = plant.clone();
+            let Plant { file, trace, mut table, mut semaphore, mut buffer, mut shared, .. } = plant.clone();
             let (mut list, mut taken) = (vec![77; length], 88);
-            let number = machine.run(&file, &trace, &mut table, &mut holder, &mut buffer, &mut shared, &[0, 0], &mut list, &mut taken);
+            let number = machine.run(&file, &trace, &mut table, &mut semaphore, &mut buffer, &mut shared, &[0, 0], &mut list, &mut taken);
             (number, taken, list)
         };
         assert_eq!(listed(1), (21, 88, vec![77]));

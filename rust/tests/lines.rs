@@ -3,7 +3,7 @@
 
 use rikzord_comparison::interface::{Machine, Reference};
 use rikzord_comparison::lines::*;
-use rikzord_comparison::reference::{mode, Core, FREE, SHARED_SIZE};
+use rikzord_comparison::reference::{mode, Core, Semaphore, SHARED_SIZE};
 use std::panic::catch_unwind;
 
 fn all() -> Vec<Check> {
@@ -72,11 +72,11 @@ fn the_lines() {
 /// What a run of the order leaves from the fresh state: shared memory, and every core between cycles.
 fn shared_after(machine: &dyn Machine, file: &[u8], order: &[u8]) -> Vec<u8> {
     let trace = [1, 0, 0, 0, 0, 0].repeat(3);
-    let (mut table, mut holder) = (vec![Core::default(); 3], FREE);
+    let (mut table, mut semaphore) = (vec![Core::default(); 3], Semaphore::default());
     let (mut buffer, mut shared) = (vec![0; 48], vec![0; SHARED_SIZE]);
-    assert_eq!(machine.fresh(file, &mut table, &mut holder, &mut buffer, &mut shared), 0);
+    assert_eq!(machine.fresh(file, &mut table, &mut semaphore, &mut buffer, &mut shared), 0);
     let mut list = vec![0; order.len()];
-    assert_eq!(machine.run(file, &trace, &mut table, &mut holder, &mut buffer, &mut shared, order, &mut list, &mut 0), 0);
+    assert_eq!(machine.run(file, &trace, &mut table, &mut semaphore, &mut buffer, &mut shared, order, &mut list, &mut 0), 0);
     assert!(table.iter().all(|core| core.registers.mode == mode::AWAITS_READING && core.registers.cycles == 1));
     shared[..3].to_vec()
 }

@@ -9,7 +9,7 @@ use rikzord_comparison::holding::{self, Lowest, Record};
 use rikzord_comparison::interface::{Machine, Reference};
 use rikzord_comparison::reference::command::*;
 use rikzord_comparison::reference::types::*;
-use rikzord_comparison::reference::{mode, refusal, Core, FREE, MOST_CODE, SHARED_SIZE};
+use rikzord_comparison::reference::{mode, refusal, Core, Semaphore, MOST_CODE, SHARED_SIZE};
 use std::hint::black_box;
 use std::time::{Duration, Instant};
 
@@ -174,7 +174,7 @@ impl Work {
 #[derive(PartialEq)]
 struct Plant {
     table: Vec<Core>,
-    holder: u8,
+    semaphore: Semaphore,
     buffer: Vec<u8>,
     shared: Vec<u8>,
     list: Vec<u8>,
@@ -185,21 +185,21 @@ impl Plant {
     fn new<M: Machine>(work: &Work, machine: &M) -> Plant {
         let mut plant = Plant {
             table: vec![Core::default(); work.cores],
-            holder: FREE,
+            semaphore: Semaphore::default(),
             buffer: vec![0; work.data_total],
             shared: vec![0; SHARED_SIZE],
             list: vec![0; STEPS_IN_A_CALL],
             taken: 0,
         };
-        let number = machine.fresh(&work.file, &mut plant.table, &mut plant.holder, &mut plant.buffer, &mut plant.shared);
+        let number = machine.fresh(&work.file, &mut plant.table, &mut plant.semaphore, &mut plant.buffer, &mut plant.shared);
         assert_eq!(number, refusal::NONE);
         plant
     }
 
     fn run<M: Machine>(&mut self, work: &Work, machine: &M, call: usize) -> Duration {
-        let Plant { table, holder, buffer, shared, list, taken } = self;
+        let Plant { table, semaphore, buffer, shared, list, taken } = self;
         let start = Instant::now();
-        let number = machine.run(&work.file, &work.trace, table, holder, buffer, shared, &work.order, list, taken);
+        let number = machine.run(&work.file, &work.trace, table, semaphore, buffer, shared, &work.order, list, taken);
         let time = start.elapsed();
         assert_eq!(number, refusal::NONE);
         let works = |core: &Core| core.registers.mode != mode::STOPPED && (call == 0 || core.registers.cycles > 0);
