@@ -6,7 +6,7 @@ use Prim.Native.Nat.{ℕ, suc, _+_, _-_, _≤_, _<_}
 use native.Mathlib.Omega.{arith}
 use lib.ListN.{length, getD}
 use Rattle.protocol.specs.declared.Registers.{Registers}
-use Rattle.protocol.specs.State.{Core, core, mode}
+use Rattle.protocol.specs.State.{Core, Semaphore, core, mode}
 use Rattle.protocol.specs.Variables.{readsOf, writesOf}
 use Rattle.protocol.proofs.View.{inside}
 use Rattle.exchange.specs.declared.Cursor.{Cursor}
@@ -14,16 +14,17 @@ use Rattle.exchange.specs.Exchange.{At}
 use Rattle.exchange.specs.Laid.{exchangeBytes}
 use Rattle.exchange.proofs.Cursors.{length-reads, length-writes}
 use Rattle.records.specs.File.{cores}
+use Rattle.semaphore.specs.Line.{semaphoreOf}
 use Rattle.states.specs.declared.State.{State}
 use Rattle.states.specs.Set.{Set}
 use Rattle.states.specs.Machine.{none, coreIn, stateOf}
 use Rattle.states.specs.Fit.{FitCore, Fit}
 use Rattle.steps.specs.Moving.{Aimed}
-use Rattle.runner.proofs.Running.{core-in, holder-in}
+use Rattle.runner.proofs.Running.{core-in, semaphore-in}
 
 module _ (f t : List ℕ) (s : State) (d sh : List ℕ) (ok : Set f t) (fit : Fit f t (stateOf f s d sh)) (k : ℕ) (e : s .semaphore .holder ≡ suc k) where
   holding : (mode (core (stateOf f s d sh .plant) k) ≡ 1) ⊎ (mode (core (stateOf f s d sh .plant) k) ≡ 4)
-  holding = fit .held .holding k (holder-in f (s .cores) (s .places) (s .offsets) (s .semaphore .holder) d sh ∙ e)
+  holding = fit .held .holding k (ap (λ (m : Semaphore). m .holder) (semaphore-in f (s .cores) (s .places) (s .offsets) (semaphoreOf (s .semaphore)) d sh) ∙ e)
 
   -- the holder is one of the file's cores
   pub known : k < cores f
@@ -34,7 +35,7 @@ module _ (f t : List ℕ) (s : State) (d sh : List ℕ) (ok : Set f t) (fit : Fi
       go (inr m) = inside (stateOf f s d sh .plant .cores) k 4 m (omega arith)
 
   here : FitCore f t k (coreIn f (s .cores) (s .places) (s .offsets) d k)
-  here = subst (FitCore f t k) (core-in f (s .cores) (s .places) (s .offsets) (s .semaphore .holder) d sh k known) (fit .each k known)
+  here = subst (FitCore f t k) (core-in f (s .cores) (s .places) (s .offsets) (semaphoreOf (s .semaphore)) d sh k known) (fit .each k known)
 
   pub read-bytes : getD (s .cores) k none .mode ≡ 1 → getD (s .cores) k none .exchange ≤ exchangeBytes f (4 + k)
   read-bytes m = subst (λ (n : ℕ). getD (s .cores) k none .exchange ≤ n) (length-reads f k (omega (arith, known, ok .few))) (here .reading m)

@@ -17,15 +17,20 @@ use Rattle.memory.proofs.Laws.{length-part}
 use Rattle.memory.proofs.Cores.{split-flat-of, length-flat}
 use Rattle.protocol.specs.declared.Registers.{Registers}
 use Rattle.protocol.specs.declared.Stack.{Stack}
-use Rattle.protocol.specs.State.{Core, State, core, absent}
+use Rattle.protocol.specs.State.{Core, Semaphore, State, core, absent}
 use Rattle.records.specs.File.{cores, dataSize}
 use Rattle.taskset.specs.Task.{listed, sizesOf}
 use Rattle.taskset.proofs.Accepted.{length-listed, listed-at}
+use Rattle.protocol.proofs.Fair.{few-below}
+use Rattle.semaphore.specs.declared.Semaphore.{Semaphore as HeldSemaphore}
+use Rattle.semaphore.specs.Line.{semaphoreOf, semaphoreBack}
+use Rattle.semaphore.proofs.Laws.{of-back}
 use Rattle.states.specs.declared.State.{State as Held}
 use Rattle.states.specs.Machine.{none, stackIn, coreIn, stateIn, stateOf, registersBack, entryBack, heldAfter, dataOf, Sized}
 use Rattle.states.specs.Fit.{Fit}
 use Rattle.states.proofs.Tables.{listed-same}
 use Rattle.states.proofs.Fresh.{map-at, sizes-length, sizes-at}
+use Rattle.machine.specs.Calling.{tidied}
 use Rattle.runner.proofs.Loop.{part-entry}
 use Rattle.runner.proofs.Running.{core-in}
 use Rattle.runner.proofs.End.{listed-is, entry-place}
@@ -44,9 +49,9 @@ entry-in k j h =
     let q = entry-core k j h in
     omega (arith, e, q)
 
-held-same : {c h h′ : ℕ} {b b′ : List Registers} {p p′ q q′ : List ℕ} → h ≡ h′ → b ≡ b′ → p ≡ p′ → q ≡ q′
-    → _≡_ {A = Held} record { count = c; semaphore = record { holder = h }; cores = b; places = p; offsets = q } record { count = c; semaphore = record { holder = h′ }; cores = b′; places = p′; offsets = q′ }
-held-same {c} u v x y = λ z. record { count = c; semaphore = record { holder = u z }; cores = v z; places = x z; offsets = y z }
+held-same : {c : ℕ} {m : HeldSemaphore} {b b′ : List Registers} {p p′ q q′ : List ℕ} → b ≡ b′ → p ≡ p′ → q ≡ q′
+    → _≡_ {A = Held} record { count = c; semaphore = m; cores = b; places = p; offsets = q } record { count = c; semaphore = m; cores = b′; places = p′; offsets = q′ }
+held-same {c} {m} v x y = λ z. record { count = c; semaphore = m; cores = v z; places = x z; offsets = y z }
 
 -- ---- back from a fit state s
 
@@ -105,17 +110,21 @@ module _ (f t : List ℕ) (few : cores f ≤ 4) (h : Held) (s : State) (fit : Fi
           → _≡_ {A = Core} record { registers = r; stack = record { places = p; offsets = q }; memory = m } c
       same a b x y = λ z. record { registers = a z; stack = record { places = b z; offsets = x z }; memory = y z }
 
-  holder-back : heldAfter (cores f) h s .semaphore .holder ≡ s .holder
+  -- the line of a fit state has at most four entries
+  pub line-few : length (s .semaphore .line) ≤ 4
+  line-few = let n : length (s .semaphore .line) ≤ length (s .plant .cores) = few-below (length (s .plant .cores)) (s .semaphore .line) (fit .line .once) (fit .line .below) in omega (arith, n, fit .table, few)
+
+  semaphore-back : semaphoreOf (heldAfter (cores f) h s .semaphore) ≡ s .semaphore
   unfolding heldAfter
-  holder-back = refl
+  semaphore-back = of-back (s .semaphore) line-few
 
   -- a caller's state after h, with s for its cores, is s again
   pub state-back : stateOf f (heldAfter (cores f) h s) (dataOf s) (s .plant .shared) ≡ s
   unfolding stateIn
-  state-back = whole (listed-is _ (cores f) (s .plant .cores) absent (fit .table) core-back) holder-back
+  state-back = whole (listed-is _ (cores f) (s .plant .cores) absent (fit .table) core-back) semaphore-back
     where
-      whole : {l : List Core} {n : ℕ} → l ≡ s .plant .cores → n ≡ s .holder → _≡_ {A = State} record { plant = record { cores = l; shared = s .plant .shared }; holder = n } s
-      whole a b = λ z. record { plant = record { cores = a z; shared = s .plant .shared }; holder = b z }
+      whole : {l : List Core} {m : Semaphore} → l ≡ s .plant .cores → m ≡ s .semaphore → _≡_ {A = State} record { plant = record { cores = l; shared = s .plant .shared }; semaphore = m } s
+      whole a b = λ z. record { plant = record { cores = a z; shared = s .plant .shared }; semaphore = b z }
 
   pub sized-back : Sized f (heldAfter (cores f) h s) (dataOf s) (s .plant .shared)
   unfolding heldAfter
@@ -134,7 +143,7 @@ module _ (f : List ℕ) (h : Held) (d sh : List ℕ) (four : length (h .cores) �
   registers-same k j = go (ltb k (cores f)) refl
     where
       go : (b : Bool) → ltb k (cores f) ≡ b → pick b (core (stateOf f h d sh .plant) k .registers) (getD (h .cores) k none) ≡ getD (h .cores) k none
-      go true e = ap (λ (c : Core). c .registers) (core-in f (h .cores) (h .places) (h .offsets) (h .semaphore .holder) d sh k (ltb-true k (cores f) e))
+      go true e = ap (λ (c : Core). c .registers) (core-in f (h .cores) (h .places) (h .offsets) (semaphoreOf (h .semaphore)) d sh k (ltb-true k (cores f) e))
       go false e = refl
 
   entries-same : (field : Stack → List ℕ) (l : List ℕ) → ((k : ℕ) → field (stackIn (h .places) (h .offsets) k) ≡ part l (16 * k) 16)
@@ -144,19 +153,15 @@ module _ (f : List ℕ) (h : Held) (d sh : List ℕ) (four : length (h .cores) �
     where
       go : (b : Bool) → ltb (n / 16) (cores f) ≡ b → pick b (getD (field (core (stateOf f h d sh .plant) (n / 16) .stack)) (n % 16) 0) (getD l n 0) ≡ getD l n 0
       go true e =
-          ap (λ (c : Core). getD (field (c .stack)) (n % 16) 0) (core-in f (h .cores) (h .places) (h .offsets) (h .semaphore .holder) d sh (n / 16) (ltb-true (n / 16) (cores f) e))
+          ap (λ (c : Core). getD (field (c .stack)) (n % 16) 0) (core-in f (h .cores) (h .places) (h .offsets) (semaphoreOf (h .semaphore)) d sh (n / 16) (ltb-true (n / 16) (cores f) e))
           ∙ ap (λ (m : List ℕ). getD m (n % 16) 0) (a (n / 16))
           ∙ part-entry l (16 * (n / 16)) (n % 16) (mod-lt n (omega arith))
           ∙ ap (λ (p : ℕ). getD l p 0) (entry-place n)
       go false e = refl
 
-  holder-same : stateOf f h d sh .holder ≡ h .semaphore .holder
-  unfolding stateIn
-  holder-same = refl
-
-  pub held-back : heldAfter (cores f) h (stateOf f h d sh) ≡ h
-  unfolding heldAfter
-  held-back = held-same holder-same
+  pub held-back : heldAfter (cores f) h (stateOf f h d sh) ≡ tidied h
+  unfolding heldAfter stateIn
+  held-back = held-same
       (listed-is _ 4 (h .cores) none four registers-same)
       (listed-is _ 64 (h .places) 0 places (entries-same (λ x. x .places) (h .places) (λ k. refl)))
       (listed-is _ 64 (h .offsets) 0 offsets (entries-same (λ x. x .offsets) (h .offsets) (λ k. refl)))
@@ -182,7 +187,7 @@ module _ (n : ℕ) (h : Held) (s s′ : State) where
 
   pub held-twice : heldAfter n (heldAfter n h s) s′ ≡ heldAfter n h s′
   unfolding heldAfter
-  held-twice = held-same refl
+  held-twice = held-same
       (listed-same _ _ 4 registers-twice)
       (listed-same _ _ 64 (entries-twice (λ x. x .places) (h .places)))
       (listed-same _ _ 64 (entries-twice (λ x. x .offsets) (h .offsets)))

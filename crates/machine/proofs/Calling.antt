@@ -15,7 +15,7 @@ use Rattle.verdict.proofs.Verdict.{pick-true, pick-false, by-pick, next-none, n
 use Rattle.memory.specs.Memory.{total, split, flat, part, splice}
 use Rattle.memory.proofs.Cores.{split-flat-of}
 use Rattle.protocol.specs.declared.Registers.{Registers}
-use Rattle.protocol.specs.State.{Core, State as Whole, core, absent, cleared}
+use Rattle.protocol.specs.State.{Core, Semaphore, State as Whole, core, absent, cleared}
 use Rattle.protocol.specs.Step.{step, run, takingOf, takings, encoded}
 use Rattle.protocol.proofs.Steps.{run-append, takings-append}
 use Rattle.protocol.specs.Fresh.{freshCore, fresh}
@@ -26,6 +26,8 @@ use Rattle.taskset.specs.Task.{sizesOf}
 use Rattle.states.specs.declared.State.{State}
 use Rattle.states.specs.Task.{taskOf}
 use Rattle.states.specs.Set.{Set}
+use Rattle.semaphore.specs.Line.{semaphoreOf}
+use Rattle.semaphore.proofs.Laws.{of-back}
 use Rattle.states.specs.Machine.{none, coreIn, stateIn, Sized, stateOf, heldAfter, dataOf}
 use Rattle.states.specs.Fit.{Fit, stateRefusal}
 use Rattle.states.specs.Preparing.{heldRefusal}
@@ -36,18 +38,19 @@ use Rattle.states.proofs.Kept.{fit-kept}
 use Rattle.states.proofs.Fresh.{map-at, sizes-length, sizes-at, fresh-core, fresh-fit}
 use Rattle.runner.specs.Runs.{Left, left, allBelow, ranCall}
 use Rattle.machine.specs.Calls.{lentFits, callRefusal, answerOf, tableOf, freshRefusal, freshCall, runRefusal, runCall, stepRefusal, stepped, stepCall}
-use Rattle.machine.specs.Calling.{Lending, entire, front, lentOf, replaced, Call, stepping, running, restored, leaves, calls, stepCalls, wholeOf, countsAs, stepsOf, takenOf, Unchanged, RunIsSteps, CallsInterleaved}
+use Rattle.machine.specs.Calling.{Lending, entire, front, lentOf, replaced, Call, stepping, running, restored, leaves, calls, stepCalls, wholeOf, countsAs, stepsOf, takenOf, Unchanged, tidied, RunIsSteps, CallsInterleaved}
 use Rattle.runner.proofs.Running.{shared-in}
 use Rattle.runner.proofs.End.{listed-is, data-back}
 use Rattle.machine.proofs.Interleaving.{interleaved-machine}
 use Rattle.machine.proofs.Calls.{refuse-none, granted}
-use Rattle.machine.proofs.Back.{state-back, sized-back, held-back, held-twice}
+use Rattle.machine.proofs.Back.{line-few, state-back, sized-back, held-back, held-twice}
 
 -- ---- one call
 
 -- what a call left can be lent to the next
 pub record Lendable (f t : List ℕ) (x : Left) : Type 0 where
   pub count : x .answer .state .count ≡ cores f
+  pub line : x .answer .state .semaphore .waiting ≤ 4
   pub sized : Sized f (x .answer .state) (x .memory) (x .shared)
   pub fit : Fit f t (wholeOf f x)
 
@@ -86,6 +89,7 @@ module _ (f t : List ℕ) (ok : Set f t) (x : Left) (w : Lendable f t x) where
         back,
         record {
           count = ap (λ (h : State). h .count) a ∙ w .count;
+          line = let n : y .answer .state .semaphore .waiting ≡ length (s .semaphore .line) = ap (λ (h : State). h .semaphore .waiting) a in omega (arith, n, line-few f t (ok .few) (x .answer .state) s fit);
           sized = record {
             memory = ap length b ∙ sized .memory;
             shared = ap length c ∙ sized .shared;
@@ -112,7 +116,7 @@ module _ (f t : List ℕ) (ok : Set f t) (x : Left) (w : Lendable f t x) where
           whole = λ i. stateOf f (x .answer .state) (replaced-same (x .memory) a i) (replaced-same (x .shared) b i);
           taken = refl;
           lendable = subst (Lendable f t) (sym (λ i. left (answerOf r (x .answer .state)) (replaced-same (x .memory) a i) (replaced-same (x .shared) b i) list))
-              record { count = w .count; sized = w .sized; fit = w .fit };
+              record { count = w .count; line = w .line; sized = w .sized; fit = w .fit };
         })
 
     module _ (p : length memory ≡ total (sizesOf f)) (q : length shared ≡ 1024) where
@@ -141,7 +145,7 @@ module _ (f t : List ℕ) (ok : Set f t) (x : Left) (w : Lendable f t x) where
 
   held : heldRefusal f t (x .answer .state) ≡ 0
   unfolding heldRefusal
-  held = next-none _ _ (ok .trace) (not-refused f t ok (x .answer .state) (x .memory) (x .shared) (w .sized) (w .count, w .fit))
+  held = next-none _ _ (ok .trace) (not-refused f t ok (x .answer .state) (x .memory) (x .shared) (w .sized) ((w .count, w .line), w .fit))
 
   pub step-granted : (k : ℕ) → k < cores f → stepCall f t (x .answer .state) (x .memory) (x .shared) k ≡ stepped f t (x .answer .state) (x .memory) (x .shared) k
   unfolding stepCall stepRefusal
@@ -308,7 +312,7 @@ zero-core f few k i =
 pub fresh-state : (f : List ℕ) → cores f ≤ 4 → stateOf f (tableOf (cores f) 4) (replicate (total (sizesOf f)) 0) (replicate 1024 0) ≡ fresh (sizesOf f)
 unfolding stateIn tableOf
 fresh-state f few =
-    ap (λ (l : List Core). record { plant = record { cores = l; shared = replicate 1024 0 }; holder = 0 })
+    ap (λ (l : List Core). record { plant = record { cores = l; shared = replicate 1024 0 }; semaphore = record { holder = 0; line = [] } })
     (listed-is (coreIn f (replicate 4 (cleared 0 4)) (replicate 64 0) (replicate 64 0) (replicate (total (sizesOf f)) 0)) (cores f) (map freshCore (sizesOf f)) absent
     (length-map (sizesOf f) freshCore ∙ sizes-length f) (zero-core f few))
 
@@ -316,20 +320,27 @@ fresh-state f few =
 module _ (f t : List ℕ) (bytes : (i : ℕ) → getD f i 0 < 256) (trace-bytes : (i : ℕ) → getD t i 0 < 256) where
   pub run-is-steps : (h : State) → length (h .cores) ≡ 4 → length (h .places) ≡ 64 → length (h .offsets) ≡ 64 → (d sh order list : List ℕ)
       → runRefusal f t h d sh order list ≡ 0 → RunIsSteps f t h d sh order list
-  unfolding runCall runRefusal ranCall
+  unfolding runCall runRefusal ranCall stateIn
   run-is-steps h four places offsets d sh order list e =
       let known = granted f t h _ _ _ _ e in
       let ok : Set f t = accepted-set f t bytes trace-bytes (known .accepted) (known .sound) in
       let sized : Sized f h d sh = record { memory = known .memory; shared = known .shared-memory; places = places; offsets = offsets } in
       let fit = fit-accepted f t ok h d sh sized (known .state) in
-      let start : Follows f t h (stateOf f h d sh) (left (answerOf 0 h) d sh []) = record {
-        lendable = record { count = fit .0; sized = sized; fit = fit .1 };
+      let few : length (semaphoreOf (h .semaphore) .line) ≤ 4 = line-few f t (ok .few) h (stateOf f h d sh) (fit .1) in
+      let same : stateOf f (tidied h) d sh ≡ stateOf f h d sh = ap (λ (m : Semaphore). stateIn f (h .cores) (h .places) (h .offsets) m d sh) (of-back (semaphoreOf (h .semaphore)) few) in
+      let start : Follows f t h (stateOf f h d sh) (left (answerOf 0 (tidied h)) d sh []) = record {
+        lendable = record {
+          count = fit .0 .0;
+          line = few;
+          sized = record { memory = known .memory; shared = known .shared-memory; places = places; offsets = offsets };
+          fit = subst (Fit f t) (sym same) (fit .1);
+        };
         state = sym (held-back f h d sh four places offsets);
-        memory = sym (data-back f (h .cores) (h .places) (h .offsets) (h .semaphore .holder) d sh (known .memory));
-        shared = sym (shared-in f (h .cores) (h .places) (h .offsets) (h .semaphore .holder) d sh);
-        whole = refl;
+        memory = sym (data-back f (h .cores) (h .places) (h .offsets) (semaphoreOf (h .semaphore)) d sh (known .memory));
+        shared = sym (shared-in f (h .cores) (h .places) (h .offsets) (semaphoreOf (h .semaphore)) d sh);
+        whole = same;
       } in
-      let w = follows-steps f t ok h (stateOf f h d sh) (left (answerOf 0 h) d sh []) start order (known .below) in
+      let w = follows-steps f t ok h (stateOf f h d sh) (left (answerOf 0 (tidied h)) d sh []) start order (known .below) in
       let q : runCall f t h d sh order list ≡ ranCall f t h d sh order list = pick-true _ _ _ (eq-eqb _ _ e) in
       record {
         state = ap (λ (z : Left). z .answer .state) q ∙ sym (w .state);
@@ -365,6 +376,7 @@ module _ (f t : List ℕ) (bytes : (i : ℕ) → getD f i 0 < 256) (trace-bytes 
     unfolding tableOf
     fresh-lendable ok = subst (Lendable f t) (sym fresh-zeroed) record {
       count = refl;
+      line = omega arith;
       sized = record { memory = length-replicate {A = ℕ} (total (sizesOf f)) 0; shared = length-replicate {A = ℕ} 1024 0; places = length-replicate {A = ℕ} 64 0; offsets = length-replicate {A = ℕ} 64 0 };
       fit = subst (Fit f t) (sym (fresh-state f (ok .few))) (fresh-fit f t ok);
     }

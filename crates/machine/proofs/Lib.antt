@@ -6,3 +6,4 @@ pub mod Steps
 pub mod Nexts
 pub mod Back
 pub mod Calling
+pub mod Fair

@@ -15,6 +15,7 @@ use Rattle.protocol.specs.Fresh.{fresh}
 use Rattle.taskset.specs.Task.{sizesOf}
 use Rattle.states.specs.declared.State.{State}
 use Rattle.states.specs.Task.{taskOf}
+use Rattle.semaphore.specs.Line.{semaphoreOf, semaphoreBack}
 use Rattle.states.specs.Machine.{stateOf}
 use Rattle.runner.specs.Runs.{Left, left}
 use Rattle.machine.specs.Calls.{answerOf, freshCall, runCall, stepCall}
@@ -90,11 +91,15 @@ pub record Unchanged (x y : Left) : Type 0 where
   pub memory : y .memory ≡ x .memory
   pub shared : y .shared ≡ x .shared
 
+-- a caller's state with zeros past the line, as an accepted call leaves it; a run of no steps is one
+abbrev pub tidied : State → State
+tidied h = record { count = h .count; semaphore = semaphoreBack (semaphoreOf (h .semaphore)); cores = h .cores; places = h .places; offsets = h .offsets }
+
 -- A run equals its step calls one after another, and its order list is the takings
 pub record RunIsSteps (f t : List ℕ) (h : State) (d sh order list : List ℕ) : Type 0 where
-  pub state : runCall f t h d sh order list .answer .state ≡ stepCalls f t order (left (answerOf 0 h) d sh []) .answer .state
-  pub memory : runCall f t h d sh order list .memory ≡ stepCalls f t order (left (answerOf 0 h) d sh []) .memory
-  pub shared : runCall f t h d sh order list .shared ≡ stepCalls f t order (left (answerOf 0 h) d sh []) .shared
+  pub state : runCall f t h d sh order list .answer .state ≡ stepCalls f t order (left (answerOf 0 (tidied h)) d sh []) .answer .state
+  pub memory : runCall f t h d sh order list .memory ≡ stepCalls f t order (left (answerOf 0 (tidied h)) d sh []) .memory
+  pub shared : runCall f t h d sh order list .shared ≡ stepCalls f t order (left (answerOf 0 (tidied h)) d sh []) .shared
   pub listed : runCall f t h d sh order list .order ≡ splice list 0 (map encoded (takings (taskOf f t) order (stateOf f h d sh)))
   pub counted : runCall f t h d sh order list .answer .taken ≡ length (takings (taskOf f t) order (stateOf f h d sh))
 

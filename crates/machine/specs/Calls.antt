@@ -53,7 +53,7 @@ answerOf r h = record { refusal = r; taken = 0; state = h }
 unfoldable pub tableOf : ℕ → ℕ → State
 tableOf n flags = record {
   count = n;
-  semaphore = record { holder = 0 };
+  semaphore = record { holder = 0; waiting = 0; line = replicate 4 0 };
   cores = replicate 4 (cleared 0 flags);
   places = replicate 64 0;
   offsets = replicate 64 0;

@@ -1,3 +1,4 @@
 pub mod Interleaving
 pub mod Calls
 pub mod Calling
+pub mod Fair

@@ -3,8 +3,8 @@
 use exchange::Cursor;
 use protocol::Registers;
 use runner::Ran;
+use semaphore::Semaphore;
 use states::CoreTask;
-use states::Semaphore;
 use states::State;
 use table::Moving;
 use taskset::Layout;
@@ -100,7 +100,7 @@ fn cleared(flags: u8) -> Registers
     }
 }
 
-// A table of n cores with these flags, all else 0.
+// A table of n cores with these flags, all else 0: the semaphore free, and nobody in line.
 fn table_of(n: u8, flags: u8) -> State
     ensures { λ r. ⌜ r ≡ tableOf n flags ⌝ }
 {
@@ -108,7 +108,12 @@ fn table_of(n: u8, flags: u8) -> State
     let cores = [core, core, core, core];
     let places = [0u16; 64];
     let offsets = [0u16; 64];
-    let semaphore = Semaphore { holder: 0 };
+    let line = [0u8; 4];
+    let semaphore = Semaphore {
+        holder: 0,
+        waiting: 0,
+        line,
+    };
     State {
         count: n,
         semaphore,
@@ -118,7 +123,7 @@ fn table_of(n: u8, flags: u8) -> State
     }
 }
 
-// The fresh state of a file: memories zeroed, mode 0, registers 0, flags 4, semaphore free. A refused call gives a table of no cores.
+// The fresh state of a file: memories zeroed, mode 0, registers 0, flags 4, semaphore free, nobody in line. A refused call gives a table of no cores.
 pub fn fresh(file: &[u8], buffer: &mut [u8], shared: &mut [u8]) -> Ran
     ensures { λ r. ⌜ left r (now (buffer .exit)) (now (shared .exit)) [] ≡ freshCall (now (file .entry)) (now (buffer .entry)) (now (shared .entry)) ⌝ }
 {
