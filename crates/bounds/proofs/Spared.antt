@@ -20,7 +20,7 @@ use Rattle.protocol.specs.State.{Core, State, Task, core, mode, absent}
 use Rattle.protocol.specs.Step.{run, step, Taking, readTaken, readNext, readDone, writeTaken, writeNext, writeDone}
 use Rattle.protocol.specs.Instruction.{Executed, backFrom, appliedBy, applied, limited, instructionBy}
 use Rattle.protocol.specs.Fresh.{fresh, freshCore}
-use Rattle.protocol.proofs.View.{Moves, rests, takesRead, readsOn, readsLast, runs, takesWrite, writesOn, writesLast, view, at}
+use Rattle.protocol.proofs.View.{Moves, rests, waits, takesRead, readsOn, readsLast, runs, takesWrite, writesOn, writesLast, view, at}
 use Rattle.code.specs.Flow.{Returns, kind}
 use Rattle.processor.specs.Processor.{executed}
 use Rattle.bounds.specs.Paths.{returns}
@@ -225,7 +225,8 @@ module _ (t : Task) (code : ℕ → List ℕ) (limit : ℕ → ℕ) (e : t .inst
   kept-step : (j : ℕ) (s s′ : State) (ts : List Taking) → Holds (at s k) → Moves t j s s′ ts → Holds (at s′ k)
   unfolding readTaken readAcquired readNext byteCopied writeTaken writeAcquired writeNext writeDone writeReleased instructionBy
   kept-step j s s′ ts h (rests i) = h
-  kept-step j s s′ ts h (takesRead r rs i f m d) =
+  kept-step j s s′ ts h (waits i w g) = h
+  kept-step j s s′ ts h (takesRead r rs i f a m d) =
       replaced Holds (s .plant .cores) j k _ i h (λ z. rest _ (omega arith) (same j s h z .calm (omega arith)) (λ _. same j s h z .stacked (omega arith)))
   kept-step j s s′ ts h (readsOn b bs i m d) =
       replaced Holds (s .plant .cores) j k _ i h (λ z. rest _ (omega arith) (same j s h z .calm (omega arith)) (λ _. same j s h z .stacked (omega arith)))
@@ -236,7 +237,7 @@ module _ (t : Task) (code : ℕ → List ℕ) (limit : ℕ → ℕ) (e : t .inst
       (λ z.
       let n : mode (at s k) ≡ 2 = subst (λ (i : ℕ). mode (at s i) ≡ 2) z m in
       subst (λ (i : ℕ). Holds (t .instruction i (at s i))) (sym z) (rw e (instructed (code k) (limit k) g (at s k) h n)))
-  kept-step j s s′ ts h (takesWrite i f m) =
+  kept-step j s s′ ts h (takesWrite i f a m) =
       replaced Holds (s .plant .cores) j k _ i h (λ z. rest _ (omega arith) (same j s h z .calm (omega arith)) (λ _. same j s h z .stacked (omega arith)))
   kept-step j s s′ ts h (writesOn b bs i m d) =
       replaced Holds (s .plant .cores) j k _ i h (λ z. rest _ (omega arith) (same j s h z .calm (omega arith)) (λ _. same j s h z .stacked (omega arith)))

@@ -112,7 +112,7 @@ open-ringless = tt
 
 -- cores 0 and 1 have written 1 to shared memory; core 2's place 1 is no variable
 openEnd : State
-openEnd = record { plant = record { cores = ringCore 0 1 ∷ ringCore 0 1 ∷ ringCore 0 1 ∷ []; shared = 1 ∷ 1 ∷ replicate 1022 0 }; holder = 0 }
+openEnd = record { plant = record { cores = ringCore 0 1 ∷ ringCore 0 1 ∷ ringCore 0 1 ∷ []; shared = 1 ∷ 1 ∷ replicate 1022 0 }; semaphore = record { holder = 0; line = [] } }
 
 open-mixed : stateAfter openFile ringTrace ringSteps ≡ openEnd
 unfolding steps-compute openEnd

@@ -53,7 +53,7 @@ unfolding taskOf
 step-by-step f t ks x =
     let y = turns (taskOf f t) (instruction-laws (taskOf f t) (codeOf f) refl) (x .order) (fresh (sizesOf f)) (fresh-is (sizesOf f)) (x .real) in
     let e = turns-end (taskOf f t) (x .order) (y .0) (fresh (sizesOf f)) refl (y .1) in
-    record { lengths = y .0; turns = y .1; same = e ∙ sym (λ z. record { plant = x .ends z; holder = x .free z }) }
+    record { lengths = y .0; turns = y .1; same = ap (λ (s : State). s .plant) e ∙ sym (x .ends) }
 
 -- ---- of calls
 
@@ -97,8 +97,9 @@ calls-serial f t bytes trace-bytes d sh e sound lines cs =
       steps = counted .steps;
       serial = λ ends. serial-machine f t accepted lines ks (subst Between (counted .steps) ends);
       in-turn = λ x y.
-          step-calls f t ok (inTurn (x .order) (y .lengths)) (freshCall f d sh) (fresh-lendable f t bytes trace-bytes d sh e ok)
-          ∙ ap (run (taskOf f t) (inTurn (x .order) (y .lengths))) (fresh-whole f t bytes trace-bytes d sh e (ok .few))
+          ap (λ (s : State). s .plant)
+          (step-calls f t ok (inTurn (x .order) (y .lengths)) (freshCall f d sh) (fresh-lendable f t bytes trace-bytes d sh e ok)
+          ∙ ap (run (taskOf f t) (inTurn (x .order) (y .lengths))) (fresh-whole f t bytes trace-bytes d sh e (ok .few)))
           ∙ y .same
-          ∙ sym (counted .steps);
+          ∙ sym (ap (λ (s : State). s .plant) (counted .steps));
     }

@@ -7,7 +7,7 @@ use mathlib.Core.Path.{_≡_}
 use mathlib.Core.List.{List, [], _∷_, _++_}
 use Prim.Native.Nat.{ℕ}
 use lib.ListN.{replicate}
-use Rattle.protocol.specs.State.{State, Task}
+use Rattle.protocol.specs.State.{Semaphore, State, Task}
 use Rattle.protocol.specs.Step.{run}
 use Rattle.protocol.specs.Laws.{Between}
 use Rattle.protocol.specs.Fresh.{fresh}
@@ -38,18 +38,23 @@ inTurn [] ns = []
 inTurn (k ∷ ks) [] = []
 inTurn (k ∷ ks) (n ∷ ns) = replicate n k ++ inTurn ks ns
 
--- each turn is a whole cycle, and leaves the semaphore free
+-- a free semaphore, with nobody in line
+abbrev pub untaken : Semaphore
+untaken = record { holder = 0; line = [] }
+
+-- each turn is a whole cycle, and leaves the semaphore free with nobody in line
 abbrev pub Turns : Task → List ℕ → List ℕ → State → Type 0
 Turns t [] [] s = Unit {0}
 Turns t [] (n ∷ ns) s = ⊥
 Turns t (k ∷ ks) [] s = ⊥
-Turns t (k ∷ ks) (n ∷ ns) s = (run t (replicate n k) s ≡ record { plant = cycle t k (s .plant); holder = 0 }) × Turns t ks ns (run t (replicate n k) s)
+Turns t (k ∷ ks) (n ∷ ns) s = (run t (replicate n k) s ≡ record { plant = cycle t k (s .plant); semaphore = untaken }) × Turns t ks ns (run t (replicate n k) s)
 
--- The order x that the steps ks end as, by steps of the machine: one core at a time, a whole cycle in each turn
+-- The order x that the steps ks end as, by steps of the machine: one core at a time, a whole cycle in each turn. Endings are compared without the
+-- line, in which a core between cycles may stand (document 02, 2.4); the semaphore is free in both.
 pub record StepByStep (f t ks : List ℕ) (x : MachineSerial f t ks) : Type 0 where
   pub lengths : List ℕ
   pub turns : Turns (taskOf f t) (x .order) lengths (fresh (sizesOf f))
-  pub same : run (taskOf f t) (inTurn (x .order) lengths) (fresh (sizesOf f)) ≡ run (taskOf f t) ks (fresh (sizesOf f))
+  pub same : run (taskOf f t) (inTurn (x .order) lengths) (fresh (sizesOf f)) .plant ≡ run (taskOf f t) ks (fresh (sizesOf f)) .plant
 
 -- ---- of calls
 
@@ -59,6 +64,6 @@ pub record CallsSerial (f t d sh : List ℕ) (cs : List Call) : Type 0 where
   pub steps : wholeOf f (calls f t cs (freshCall f d sh)) ≡ run (taskOf f t) (stepsOf f t cs (freshCall f d sh)) (fresh (sizesOf f))
   -- and where they leave every core between cycles or stopped, those steps end as an order of whole cycles
   pub serial : Between (wholeOf f (calls f t cs (freshCall f d sh))) → MachineSerial f t (stepsOf f t cs (freshCall f d sh))
-  -- the step calls of that order, one core at a time, leave the same
+  -- the step calls of that order, one core at a time, leave the same but for the line
   pub in-turn : (x : MachineSerial f t (stepsOf f t cs (freshCall f d sh))) (y : StepByStep f t (stepsOf f t cs (freshCall f d sh)) x)
-      → wholeOf f (stepCalls f t (inTurn (x .order) (y .lengths)) (freshCall f d sh)) ≡ wholeOf f (calls f t cs (freshCall f d sh))
+      → wholeOf f (stepCalls f t (inTurn (x .order) (y .lengths)) (freshCall f d sh)) .plant ≡ wholeOf f (calls f t cs (freshCall f d sh)) .plant

@@ -9,7 +9,7 @@ use native.Mathlib.Nat.{not-suc-le-zero}
 use lib.ListN.{length, replicate}
 use Rattle.memory.specs.Memory.{splice, part}
 use Rattle.memory.proofs.Laws.{length-splice, part-splice-below, part-splice-same}
-use Rattle.states.specs.declared.Semaphore.{Semaphore}
+use Rattle.semaphore.specs.declared.Semaphore.{Semaphore}
 use Rattle.lent.specs.declared.Core.{Core}
 use Rattle.lent.specs.Lent.{registersIn, recordWith, recordAt, loaded, entries, heldPlaces, heldOffsets, held, coreOf}
 

@@ -25,7 +25,8 @@ use Rattle.taskset.specs.Judge.{judge}
 use Rattle.taskset.specs.Trace.{traceRefusal}
 use Rattle.taskset.specs.Task.{sizesOf}
 use Rattle.taskset.proofs.Accepted.{length-listed}
-use Rattle.states.specs.declared.Semaphore.{Semaphore}
+use Rattle.semaphore.specs.declared.Semaphore.{Semaphore}
+use Rattle.semaphore.specs.Line.{semaphoreOf}
 use Rattle.states.specs.declared.State.{State}
 use Rattle.states.specs.Task.{taskOf}
 use Rattle.states.specs.Set.{Set}
@@ -42,12 +43,13 @@ use Rattle.runner.proofs.End.{data-back}
 use Rattle.machine.specs.Calls.{lentFits, callRefusal, answerOf, tableOf, freshRefusal, freshCall, runRefusal, runCall, stepRefusal, stepCall}
 use Rattle.machine.specs.Calling.{Lending, entire, front, lentOf, replaced, Call, stepping, running, restored, leaves, calls, wholeOf, stepsIn}
 use Rattle.machine.proofs.Interleaving.{interleaved-machine}
+use Rattle.machine.proofs.Fair.{fair-machine}
 use Rattle.machine.proofs.Calls.{granted}
 use Rattle.machine.proofs.Calling.{Lendable, Counted, step-counted, run-counted, call-counted, fresh-state, calls-interleaved}
 use Rattle.lent.specs.declared.Core.{Core}
 use Rattle.lent.specs.declared.After.{After}
 use Rattle.lent.specs.Lent.{registersIn, noCore, recordAt, counted, loaded, entries, heldPlaces, heldOffsets, held, coreOf, recordAfter, acceptedOf, TableLeft, onTable, stored, Lent, lent, written, stepTable, stepLent, runTable, runLent, takenTable, takenLent, freshTable, freshLent, withRegisters, registersAfter, stepRegisters}
-use Rattle.lent.specs.Calling.{LentCall, over, restoredLent, leavesLent, lentCalls, wholeLent, countsLent, lentStepsOf, LentInterleaved, lentRegisters, leavesRegisters, RegistersLeave, MixedCall, by-value, with-registers, asCall, mixedCalls, MixedInterleaved, Same, SameCalls, no-call, one-call, RunLentListed}
+use Rattle.lent.specs.Calling.{LentCall, over, restoredLent, leavesLent, lentCalls, wholeLent, countsLent, lentStepsOf, LentInterleaved, LentFair, lentRegisters, leavesRegisters, RegistersLeave, MixedCall, by-value, with-registers, asCall, mixedCalls, MixedInterleaved, Same, SameCalls, no-call, one-call, RunLentListed}
 use Rattle.lent.proofs.Laws.{on-accepted, short-refused}
 use Rattle.lent.proofs.Unchanged.{refused-lent, fresh-refused, fresh-short-refused}
 use Rattle.lent.proofs.Back.{Sixteen, unspared, comes-back}
@@ -92,12 +94,13 @@ module _ (f : List ℕ) (few : cores f ≤ 4) (s : State) (places : length (s .p
   pub state-same : (d sh : List ℕ) → stateOf f (held (loaded zs) (s .semaphore)) d sh ≡ stateOf f s d sh
   unfolding stateIn held
   state-same d sh =
-      ap (λ (l : List Place). record { plant = record { cores = l; shared = sh }; holder = s .semaphore .holder }) (listed-same _ _ (cores f) (core-same (s .semaphore) d))
+      ap (λ (l : List Place). record { plant = record { cores = l; shared = sh }; semaphore = semaphoreOf (s .semaphore) }) (listed-same _ _ (cores f) (core-same (s .semaphore) d))
 
   pub lendable-same : (t d sh list list′ : List ℕ) (r r′ : ℕ) → Lendable f t (left (answerOf r s) d sh list) → Lendable f t (left (answerOf r′ (held (loaded zs) (s .semaphore))) d sh list′)
   unfolding held heldPlaces heldOffsets
   lendable-same t d sh list list′ r r′ w = record {
     count = ap counted rows ∙ counted-few (cores f) few;
+    line = w .line;
     sized = record {
       memory = w .sized .memory;
       shared = w .sized .shared;
@@ -215,7 +218,7 @@ module _ (f t : List ℕ) (ok : Set f t) (x : Lent) (w : Ready f t x) (rows : �
       let at : (k : ℕ) → k < cores f → recordAt zs k ≡ coreOf s k = stored-at s lentRows (cores f) (ok .few) (c .lendable .count) (omega (arith, n)) in
       let same = state-same f (ok .few) s (c .lendable .sized .places) (c .lendable .sized .offsets) zs full at memory shared in
       let lends = lendable-same f (ok .few) s (c .lendable .sized .places) (c .lendable .sized .offsets) zs full at t memory shared (y .order) [] (y .answer .refusal) 0
-      record { count = c .lendable .count; sized = c .lendable .sized; fit = c .lendable .fit } in
+      record { count = c .lendable .count; line = c .lendable .line; sized = c .lendable .sized; fit = c .lendable .fit } in
       subst (λ (v : Lent). CountedLent f t x v (pick (eqb (v .refusal) 0) ks [])) (sym q)
       (subst (CountedLent f t x (restoredLent rows a b x (lent 0 zs (s .semaphore) (y .memory) (y .shared) (y .order)))) (sym (pick-true _ _ _ refl))
       record {
@@ -250,7 +253,7 @@ module _ (f t : List ℕ) (ok : Set f t) (x : Lent) (w : Ready f t x) (rows : �
   unfolding held heldPlaces heldOffsets
   rows-known d sh room named e =
       let known = granted f t state _ _ _ _ e in
-      rows-few (fit-accepted f t ok state d sh record { memory = known .memory; shared = known .shared-memory; places = entries-length _ _ _ _; offsets = entries-length _ _ _ _ } (known .state) .0)
+      rows-few (fit-accepted f t ok state d sh record { memory = known .memory; shared = known .shared-memory; places = entries-length _ _ _ _; offsets = entries-length _ _ _ _ } (known .state) .0 .0)
 
   abbrev d : List ℕ
   d = lentOf a (x .memory)
@@ -360,6 +363,7 @@ module _ (f : List ℕ) (ys : List Core) (p : Semaphore) (d sh : List ℕ) (e : 
     unfolding tableOf
     value-lendable = record {
       count = refl;
+      line = omega arith;
       sized = record {
         memory = length-replicate {A = ℕ} (length d) 0 ∙ fresh-fits .0;
         shared = length-replicate {A = ℕ} (length sh) 0 ∙ fresh-fits .1;
@@ -409,6 +413,13 @@ lent-interleaved f t bytes trace-bytes ys p d sh e sound cs =
       steps = y .0 ∙ ap (run (taskOf f t) ks) (lent-fresh f ys p d sh e t ok);
       interleaved = interleaved-machine f t accepted ks;
     }
+
+pub lent-fair : (f t : List ℕ) → ((i : ℕ) → getD f i 0 < 256) → ((i : ℕ) → getD t i 0 < 256) → (ys : List Core) (p : Semaphore) (d sh : List ℕ)
+    → freshLent f ys p d sh .refusal ≡ 0 → traceRefusal f t ≡ 0 → (cs : List LentCall) → LentFair f t ys p d sh cs
+lent-fair f t bytes trace-bytes ys p d sh e sound cs = record {
+  steps = lent-interleaved f t bytes trace-bytes ys p d sh e sound cs .steps;
+  fair = fair-machine f t (lentStepsOf f t cs (freshLent f ys p d sh));
+}
 
 -- ---- steps with lent registers
 
@@ -471,7 +482,7 @@ module _ (f t : List ℕ) (ok : Set f t) (x : Left) (w : Lendable f t x) where
   number-is : (buffer shared : ℕ) (room named : Bool) → callRefusal f t (x .answer .state) buffer shared room named ≡ next (unless (both (lentFits f buffer shared) room) 21) (unless named 20)
   unfolding callRefusal heldRefusal next
   number-is buffer shared room named =
-      let sound : heldRefusal f t (x .answer .state) ≡ 0 = next-none _ _ (ok .trace) (not-refused f t ok (x .answer .state) (x .memory) (x .shared) (w .sized) (w .count, w .fit)) in
+      let sound : heldRefusal f t (x .answer .state) ≡ 0 = next-none _ _ (ok .trace) (not-refused f t ok (x .answer .state) (x .memory) (x .shared) (w .sized) ((w .count, w .line), w .fit)) in
       ap (λ (n : ℕ). next n (next (unless (both (lentFits f buffer shared) room) 21) (next (heldRefusal f t (x .answer .state)) (unless named 20)))) (ok .file)
       ∙ ap (λ (n : ℕ). next (unless (both (lentFits f buffer shared) room) 21) (next n (unless named 20))) sound
 
@@ -496,13 +507,13 @@ same-of f t x w y v e =
     record {
       whole = e;
       memory =
-          sym (data-back f (h .cores) (h .places) (h .offsets) (h .semaphore .holder) (x .memory) (x .shared) (w .lendable .sized .memory))
+          sym (data-back f (h .cores) (h .places) (h .offsets) (semaphoreOf (h .semaphore)) (x .memory) (x .shared) (w .lendable .sized .memory))
           ∙ ap dataOf e
-          ∙ data-back f (s .cores) (s .places) (s .offsets) (s .semaphore .holder) (y .memory) (y .shared) (v .sized .memory);
+          ∙ data-back f (s .cores) (s .places) (s .offsets) (semaphoreOf (s .semaphore)) (y .memory) (y .shared) (v .sized .memory);
       shared =
-          sym (shared-in f (h .cores) (h .places) (h .offsets) (h .semaphore .holder) (x .memory) (x .shared))
+          sym (shared-in f (h .cores) (h .places) (h .offsets) (semaphoreOf (h .semaphore)) (x .memory) (x .shared))
           ∙ ap (λ (z : Whole). z .plant .shared) e
-          ∙ shared-in f (s .cores) (s .places) (s .offsets) (s .semaphore .holder) (y .memory) (y .shared);
+          ∙ shared-in f (s .cores) (s .places) (s .offsets) (semaphoreOf (s .semaphore)) (y .memory) (y .shared);
     }
 
 module _ (f t : List ℕ) (ok : Set f t) (x : Lent) (w : Ready f t x) (y : Left) (v : Lendable f t y) (same : Same f x y) where

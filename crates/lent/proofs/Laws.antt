@@ -16,7 +16,7 @@ use Rattle.memory.proofs.Laws.{splice-is}
 use Rattle.verdict.proofs.Verdict.{pick-true, pick-false}
 use Rattle.records.specs.File.{cores}
 use Rattle.taskset.specs.Judge.{judge}
-use Rattle.states.specs.declared.Semaphore.{Semaphore}
+use Rattle.semaphore.specs.declared.Semaphore.{Semaphore}
 use Rattle.states.specs.declared.State.{State}
 use Rattle.runner.specs.declared.Ran.{Ran}
 use Rattle.runner.specs.Runs.{Left, left}

@@ -19,9 +19,9 @@ use denote.Struct.Laws as LL
 use denote.Triple.Statement.{Contract}
 use denote.Triple.Clauses.{ensured, lasts}
 use denote.Triple.Spec.{tripleOf}
-use Rattle.states.specs.declared.Semaphore.{Semaphore}
-use Rattle.states.proofs.Semaphore as P
-use Rattle.states.proofs.Semaphore.Laws as P′
+use Rattle.semaphore.specs.declared.Semaphore.{Semaphore}
+use Rattle.semaphore.proofs.Semaphore as P
+use Rattle.semaphore.proofs.Semaphore.Laws as P′
 use Rattle.lent.specs.declared.Core.{Core}
 use Rattle.lent.specs.declared.Table.{Table}
 use Rattle.lent.specs.declared.After.{After}

@@ -17,7 +17,8 @@ use Rattle.records.specs.File.{cores}
 use Rattle.taskset.specs.Task.{listed}
 use Rattle.taskset.proofs.Exact.{keeps-rules}
 use Rattle.taskset.specs.Trace.{recordCount}
-use Rattle.states.specs.declared.Semaphore.{Semaphore}
+use Rattle.semaphore.specs.declared.Semaphore.{Semaphore}
+use Rattle.semaphore.specs.Line.{semaphoreOf}
 use Rattle.states.specs.declared.State.{State}
 use Rattle.states.specs.declared.CoreTask.{CoreTask}
 use Rattle.states.specs.Machine.{none}
@@ -93,8 +94,8 @@ module _ (f t : List ℕ) (ys : List Core) (p : Semaphore) (given : ℕ) (few : 
   unfolding moves held
   record-moves k l =
       let m : k < 4 = omega arith in
-      ap (λ (n : ℕ). canMove (p .holder) n (registersIn (recordAt ys k))) (pick-true _ _ _ (lt-ltb k 4 m) ∙ counts-at k m ∙ count-is k l)
-      ∙ ap (canMove (p .holder) (recordCount f t k)) (sym (registers-at k m))
+      ap (λ (n : ℕ). canMove (semaphoreOf p) k n (registersIn (recordAt ys k))) (pick-true _ _ _ (lt-ltb k 4 m) ∙ counts-at k m ∙ count-is k l)
+      ∙ ap (canMove (semaphoreOf p) k (recordCount f t k)) (sym (registers-at k m))
 
   -- ---- the scan
 

@@ -15,7 +15,7 @@ use Rattle.verdict.proofs.Verdict.{pick-true, pick-false, by-pick}
 use Rattle.records.specs.File.{cores}
 use Rattle.taskset.specs.Judge.{judge}
 use Rattle.protocol.specs.declared.Registers.{Registers}
-use Rattle.states.specs.declared.Semaphore.{Semaphore}
+use Rattle.semaphore.specs.declared.Semaphore.{Semaphore}
 use Rattle.states.specs.declared.State.{State}
 use Rattle.states.specs.Machine.{none}
 use Rattle.runner.specs.Runs.{Left, left}

@@ -1,7 +1,8 @@
 -- Calls on a lent core table one after another, each with the table, the semaphore and the memories that the one before left, refused ones
 -- too; and step calls that are lent the registers of their core. They are the calls of crate machine (specs/Calling), made over the C interface.
 -- In order: a call and what it leaves; lists of calls; the steps that they count as; the claim; steps with lent registers; the same list by value; a run's takings.
--- `lent-interleaved` of proofs/Calling proves `LentInterleaved`, which is demand 3 of every list of lent calls; `mixed-interleaved` proves
+-- `lent-interleaved` of proofs/Calling proves `LentInterleaved`, which is demand 3 of every list of lent calls; `lent-fair` proves `LentFair`, the fair line of
+-- document 02, 2.4 of it; `mixed-interleaved` proves
 -- `MixedInterleaved`, by `registers-leave`, `lent-by-value` proves `SameCalls`, `run-listed` `RunLentListed`. Not here: what each call is for every input (specs/Lent); that a refused call leaves all (proofs/Unchanged).
 use mathlib.Core.Path.{_≡_}
 use mathlib.Core.List.{List, [], _∷_, _++_, map}
@@ -16,13 +17,14 @@ use Rattle.protocol.specs.Step.{run, takings, encoded}
 use Rattle.protocol.specs.Fresh.{fresh}
 use Rattle.records.specs.File.{cores}
 use Rattle.taskset.specs.Task.{sizesOf}
-use Rattle.states.specs.declared.Semaphore.{Semaphore}
+use Rattle.semaphore.specs.declared.Semaphore.{Semaphore}
 use Rattle.states.specs.Task.{taskOf}
 use Rattle.states.specs.Machine.{none, stateOf}
 use Rattle.runner.specs.Runs.{Left}
 use Rattle.machine.specs.Calling.{Lending, lentOf, replaced, Call, stepping, running, restored, leaves, calls, wholeOf, stepsIn, CallsInterleaved}
 use Rattle.machine.specs.Calls.{freshCall}
 use Rattle.machine.specs.Interleaving.{MachineInterleaved}
+use Rattle.machine.specs.Fair.{MachineFair}
 use Rattle.lent.specs.declared.Core.{Core}
 use Rattle.lent.specs.Lent.{loaded, held, Lent, lent, stepLent, runLent, takenLent, freshLent, registersAfter, stepRegisters}
 
@@ -73,6 +75,11 @@ pub record LentInterleaved (f t : List ℕ) (ys : List Core) (p : Semaphore) (d 
   pub steps : wholeLent f (lentCalls f t cs (freshLent f ys p d sh)) ≡ run (taskOf f t) (lentStepsOf f t cs (freshLent f ys p d sh)) (fresh (sizesOf f))
   -- and of those steps demand 3 holds, both parts
   pub interleaved : MachineInterleaved f t (lentStepsOf f t cs (freshLent f ys p d sh))
+
+-- The same calls, and the fair line (document 02, 2.4): the steps that they count as are fair
+pub record LentFair (f t : List ℕ) (ys : List Core) (p : Semaphore) (d sh : List ℕ) (cs : List LentCall) : Type 0 where
+  pub steps : wholeLent f (lentCalls f t cs (freshLent f ys p d sh)) ≡ run (taskOf f t) (lentStepsOf f t cs (freshLent f ys p d sh)) (fresh (sizesOf f))
+  pub fair : MachineFair f t (lentStepsOf f t cs (freshLent f ys p d sh))
 
 -- ---- a step call that is lent the registers of its core, as they stand in the state
 

@@ -12,7 +12,8 @@ use Rattle.memory.specs.Memory.{splice, part}
 use Rattle.protocol.specs.declared.Registers.{Registers}
 use Rattle.records.specs.File.{cores}
 use Rattle.taskset.specs.Judge.{judge}
-use Rattle.states.specs.declared.Semaphore.{Semaphore}
+use Rattle.semaphore.specs.declared.Semaphore.{Semaphore}
+use Rattle.semaphore.specs.Line.{semaphoreOf}
 use Rattle.states.specs.declared.State.{State}
 use Rattle.states.specs.Machine.{none}
 use Rattle.states.specs.Tasks.{taskAt}
@@ -225,7 +226,7 @@ placeAfter r i = pick (eqb (r .cores) 0) 0 (roundFrom (r .cores) (r .given) (i +
 
 -- core k with this record can move
 abbrev pub recordMoves : Ring → ℕ → Core → Bool
-recordMoves r k c = canMove (r .semaphore .holder) (pick (ltb k 4) (getD (r .counts) k 0) 0) (registersIn c)
+recordMoves r k c = canMove (semaphoreOf (r .semaphore)) k (pick (ltb k 4) (getD (r .counts) k 0) 0) (registersIn c)
 
 -- the number of the first core, of so many from number i + 1 after the given one on, whose record says that it can move; 255 for none
 abbrev pub scanFrom : List Core → Ring → ℕ → ℕ → ℕ

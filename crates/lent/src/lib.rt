@@ -4,7 +4,7 @@
 // The functions that start with `rikzord_` are the C interface too: a slice is a pointer and a length there.
 use protocol::Registers;
 use runner::Ran;
-use states::Semaphore;
+use semaphore::Semaphore;
 use states::State;
 use window::Shown;
 ghost use mathlib.Core.Path.{_≡_};
@@ -391,10 +391,10 @@ fn moves(r: Ring, k: u8, c: Core) -> bool
     ensures { λ ok. ⌜ ok ≡ recordMoves r k c ⌝ }
 {
     if 4 <= k {
-        return table::can_move(0, r.semaphore.holder, registers_in(c));
+        return table::can_move(0, r.semaphore, k, registers_in(c));
     }
     let count = r.counts[k as usize];
-    table::can_move(count, r.semaphore.holder, registers_in(c))
+    table::can_move(count, r.semaphore, k, registers_in(c))
 }
 
 // The number of the core that moves next, where the call is not refused.

@@ -13,7 +13,7 @@ abbrev after : Registers
 after = record { mode = 0; counter = 0; offset = 0; depth = 0; count = 1; exchange = 0; cycles = 1; flags = 0; time = 0 }
 
 abbrev ended : State
-ended = record { count = 1; semaphore = record { holder = 0 }; cores = after ∷ after ∷ after ∷ after ∷ []; places = []; offsets = [] }
+ended = record { count = 1; semaphore = record { holder = 0; waiting = 0; line = [] }; cores = after ∷ after ∷ after ∷ after ∷ []; places = []; offsets = [] }
 
 -- "0 0 1 0 1" and "order 0r 0w" after the header
 pub document-example : listing 1 ended (0 ∷ 16 ∷ []) ≡

@@ -4,6 +4,7 @@ use mathlib.Core.Path.{sym, ap, _∙_}
 use Prim.Native.Nat.{ℕ}
 use borrow.Author.Tests.{lt-ltb, le-ltb}
 use Rattle.verdict.proofs.Verdict.{pick-true, pick-false}
+use Rattle.semaphore.specs.Line.{semaphoreOf}
 use Rattle.table.specs.Table.{canMove}
 use Rattle.lent.specs.Lent.{registersIn}
 use Rattle.lent.proofs.moves.Statement.{statement}
@@ -17,10 +18,10 @@ can-move-requires c κs = search needs
 
 returns : tie.Need-returns
 returns c =
-    let a = c .before .before .before .args in
+    let a = c .before .before .before .before .args in
     c .can-move .ensures
-    ∙ ap (canMove (a .t1 .semaphore .holder) 0) (c .before .registers-in .ensures)
-    ∙ ap (λ (n : ℕ). canMove (a .t1 .semaphore .holder) n (registersIn (a .c))) (sym (pick-false _ _ _ (le-ltb (a .k) 4 (c .before .before .if1 .taken))))
+    ∙ ap (canMove (semaphoreOf (a .t1 .semaphore)) (a .k) 0) (c .before .registers-in .ensures)
+    ∙ ap (λ (n : ℕ). canMove (semaphoreOf (a .t1 .semaphore)) (a .k) n (registersIn (a .c))) (sym (pick-false _ _ _ (le-ltb (a .k) 4 (c .before .before .before .if1 .taken))))
 
 mul-count : tie.Need-mul-count
 mul-count c = search needs
@@ -36,10 +37,10 @@ can-move-requires-2 c κs = search needs
 
 returns-2 : tie.Need-returns-2
 returns-2 c =
-    let a = c .before .before .before .before .args in
+    let a = c .before .before .before .before .before .args in
     c .can-move2 .ensures
-    ∙ ap (canMove (a .t1 .semaphore .holder) _) (c .before .registers-in2 .ensures)
-    ∙ ap (λ (n : ℕ). canMove (a .t1 .semaphore .holder) n (registersIn (a .c))) (sym (pick-true _ _ _ (lt-ltb (a .k) 4 (c .before .before .before .if1 .left))))
+    ∙ ap (canMove (semaphoreOf (a .t1 .semaphore)) (a .k) _) (c .before .registers-in2 .ensures)
+    ∙ ap (λ (n : ℕ). canMove (semaphoreOf (a .t1 .semaphore)) (a .k) n (registersIn (a .c))) (sym (pick-true _ _ _ (lt-ltb (a .k) 4 (c .before .before .before .before .if1 .left))))
 
 pub moves-spec : {M : Type 1} → statement M
 moves-spec =

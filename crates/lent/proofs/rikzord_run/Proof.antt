@@ -43,9 +43,9 @@ use denote.Triple.Spec.{Meets, tripleOf}
 use denote.Triple.Table.{entered, cited}
 use denote.Triple.Walked.{says, Stays, stay-ref, gave-slice, gave-ref, stay-none-slice, walkOf, AllGo, goes-ref, goes-gave-slice, goes-gave-ref, goes-none-slice, Walks, ends-at, walked, walk-meets}
 use denote.Exit.{yes}
-use Rattle.states.specs.declared.Semaphore.{Semaphore}
-use Rattle.states.proofs.Semaphore as P
-use Rattle.states.proofs.Semaphore.Laws as P′
+use Rattle.semaphore.specs.declared.Semaphore.{Semaphore}
+use Rattle.semaphore.proofs.Semaphore as P
+use Rattle.semaphore.proofs.Semaphore.Laws as P′
 use Rattle.lent.specs.declared.Core.{Core}
 use Rattle.lent.specs.declared.Table.{Table}
 use Rattle.lent.specs.declared.After.{After}
