@@ -37,7 +37,7 @@ int main(void) {
     static const uint8_t order[5] = {0, 0, 0, 0, 0};
     struct rikzord_core table[2], before[2], made;
     uint8_t buffer[1] = {7}, shared[1024], list[5] = {9, 9, 9, 9, 9}, found = 77;
-    struct rikzord_semaphore semaphore = {3};
+    struct rikzord_semaphore semaphore = {3, 9, {9, 9, 9, 9}}, held = semaphore, none = {0, 0, {0, 0, 0, 0}};
     size_t taken = 99;
     memset(table, 0xA5, sizeof table);
     memcpy(before, table, sizeof table);
@@ -51,11 +51,11 @@ int main(void) {
     /* a table that is too short, and shared memory that is */
     expect(rikzord_fresh(task, sizeof task, table, 0, &semaphore, buffer, 1, shared, 1024) == 21, "a table of no records is too short");
     expect(rikzord_fresh(task, sizeof task, table, 1, &semaphore, buffer, 1, shared, 1023) == 21, "1,023 bytes");
-    expect(semaphore.holder == 3 && buffer[0] == 7 && memcmp(before, table, sizeof table) == 0, "a refused call changes nothing");
+    expect(memcmp(&held, &semaphore, sizeof held) == 0 && buffer[0] == 7 && memcmp(before, table, sizeof table) == 0, "a refused call changes nothing");
 
     /* only the first record of two is written */
     expect(rikzord_fresh(task, sizeof task, table, 2, &semaphore, buffer, 1, shared, 1024) == 0, "the fresh state");
-    expect(semaphore.holder == 0 && buffer[0] == 0 && table[0].flags == 4, "fresh: memory zero, flags 4, semaphore free");
+    expect(memcmp(&none, &semaphore, sizeof none) == 0 && buffer[0] == 0 && table[0].flags == 4, "fresh: memory zero, flags 4, semaphore free, nobody in line");
     memset(&made, 0, sizeof made);
     made.flags = 4;
     expect(memcmp(&made, &table[0], sizeof made) == 0, "a fresh record, every byte of it");

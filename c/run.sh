@@ -1,6 +1,6 @@
 #!/bin/sh
-# Builds the archive, compiles the examples against it and compares what they print: document 01's listing, what a task takes, the lowest readings and the
-# windows of document 02, 2.7, 2.11 and 2.14.
+# Builds the archive, compiles the examples against it and compares what they print: document 01's listing; the line at the semaphore, what a task takes, the
+# lowest readings and the windows of document 02, 2.4, 2.7, 2.11 and 2.14.
 set -e
 cd "$(dirname "$0")/.."
 rt staticlib lent
@@ -21,3 +21,17 @@ gcc -std=c99 -Wall -Wextra -Werror -Iinclude -o target/c/takes c/takes.c target/
 printf '25 21\n0 30 1024 2 1/0 7/1 8/9\n' > target/c/expected
 target/c/takes | diff - target/c/expected
 echo "c: what a task takes is that of document 02"
+gcc -std=c99 -Wall -Wextra -Werror -Iinclude -o target/c/fair c/fair.c target/staticlib/liblent.a
+cat > target/c/expected <<'END'
+0: 0 holder 1 line next 0 1
+1: 0 holder 1 line 1 next 0 0
+1: 0 holder 1 line 1 next 0 0
+0: 0 holder 0 line 1 next 0 1
+0: 0 holder 0 line 1 next 0 1
+0: 0 holder 0 line 1 0 next 0 1
+1: 0 holder 2 line 0 next 0 1
+0: 23 holder 2 line 0 0 next 23 0
+0: 23 holder 2 line 0 0 0 0
+END
+target/c/fair | diff - target/c/expected
+echo "c: the line at the semaphore is that of document 02"

@@ -38,15 +38,23 @@ struct rikzord_core {
 _Static_assert(sizeof(struct rikzord_core) == 84, "a record of the core table has 84 bytes, and no padding");
 #endif
 
-/* The semaphore, which stands beside the table. */
+/* The semaphore and the line of cores that wait for it, beside the table. A line that names a core twice, one from n on, one that is not in mode 0 or 3,
+ * or one out of records is unfit (23), and so are more than four in line. Entries past `waiting` are never judged; a call that is not refused leaves zeros
+ * there. */
 struct rikzord_semaphore {
-    uint8_t holder; /* 0 where it is free, k + 1 where core k holds it */
+    uint8_t holder;  /* 0 where it is free, k + 1 where core k holds it */
+    uint8_t waiting; /* cores in line */
+    uint8_t line[4]; /* their numbers, the first one first */
 };
+
+#if defined(__STDC_VERSION__) && __STDC_VERSION__ >= 201112L
+_Static_assert(sizeof(struct rikzord_semaphore) == 6, "a semaphore has 6 bytes, and no padding");
+#endif
 
 /* Judges a task set file. */
 uint8_t rikzord_check_file(const uint8_t *file, size_t file_length);
 
-/* Makes the fresh state: both memories zero, each core in mode 0 with registers 0 and flags 4, the semaphore free. The table needs at least n
+/* Makes the fresh state: both memories zero, each core in mode 0 with registers 0 and flags 4, the semaphore free and nobody in line. The table needs at least n
  * records (21); the first n are written. The data buffer has the sum of the data sizes, shared memory 1,024 bytes. */
 uint8_t rikzord_fresh(const uint8_t *file, size_t file_length, struct rikzord_core *table, size_t table_length, struct rikzord_semaphore *semaphore,
                       uint8_t *buffer, size_t buffer_length, uint8_t *shared, size_t shared_length);

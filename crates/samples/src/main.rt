@@ -5,6 +5,7 @@ use listing::Written;
 use machine::Next;
 use protocol::Registers;
 use runner::Ran;
+use semaphore::Semaphore;
 use states::State;
 use table::Moving;
 
@@ -134,9 +135,19 @@ fn same_entries(x: [u16; 64], y: [u16; 64]) -> bool {
     true
 }
 
+// Entries past the line too.
+fn same_semaphore(a: Semaphore, b: Semaphore) -> bool {
+    a.holder == b.holder
+        && a.waiting == b.waiting
+        && a.line[0] == b.line[0]
+        && a.line[1] == b.line[1]
+        && a.line[2] == b.line[2]
+        && a.line[3] == b.line[3]
+}
+
 fn same_state(a: State, b: State) -> bool {
     a.count == b.count
-        && a.semaphore.holder == b.semaphore.holder
+        && same_semaphore(a.semaphore, b.semaphore)
         && same_table(a, b)
         && same_entries(runner::places_of(a), runner::places_of(b))
         && same_entries(runner::offsets_of(a), runner::offsets_of(b))
@@ -192,10 +203,40 @@ fn with_entry(s: State, place: u16, offset: u16) -> State {
     }
 }
 
+fn with_semaphore(s: State, semaphore: Semaphore) -> State {
+    let cores = runner::table_of(s);
+    let places = runner::places_of(s);
+    let offsets = runner::offsets_of(s);
+    State {
+        count: s.count,
+        semaphore,
+        cores,
+        places,
+        offsets,
+    }
+}
+
 fn with_holder(s: State, holder: u8) -> State {
-    let mut t = s;
-    t.semaphore.holder = holder;
-    t
+    let m = s.semaphore;
+    let waiting = m.waiting;
+    let line = m.line;
+    let semaphore = Semaphore {
+        holder,
+        waiting,
+        line,
+    };
+    with_semaphore(s, semaphore)
+}
+
+fn with_line(s: State, waiting: u8, line: [u8; 4]) -> State {
+    let m = s.semaphore;
+    let holder = m.holder;
+    let semaphore = Semaphore {
+        holder,
+        waiting,
+        line,
+    };
+    with_semaphore(s, semaphore)
 }
 
 fn with_count(s: State, count: u8) -> State {
@@ -855,6 +896,43 @@ fn holders(f: &[u8], t: &[u8], s: State) {
     unfit(b"two cores in mode 1 or 4", f, t, with_holder(both, 1));
 }
 
+// Document 02, 2.4. Core 0 has two records, core 1 one.
+fn lines(f: &[u8], t: &[u8], s: State) {
+    fit(b"line 1 0", f, t, with_line(s, 2, [1, 0, 0, 0]));
+    fit(
+        b"entries past the line",
+        f,
+        t,
+        with_line(s, 1, [1, 1, 9, 9]),
+    );
+    unfit(b"core 1 twice in line", f, t, with_line(s, 2, [1, 1, 0, 0]));
+    unfit(
+        b"core 2 of two in line",
+        f,
+        t,
+        with_line(s, 1, [2, 0, 0, 0]),
+    );
+    unfit(b"five in line", f, t, with_line(s, 5, [0, 1, 0, 1]));
+    let line = with_line(s, 1, [0, 0, 0, 0]);
+    let mut r = core_of(s, 0);
+    r.mode = 3;
+    fit(b"in line and waiting to write", f, t, with_core(line, 0, r));
+    r.mode = 2;
+    unfit(b"in line and executing", f, t, with_core(line, 0, r));
+    r.mode = 5;
+    unfit(b"in line and stopped", f, t, with_core(line, 0, r));
+    r.mode = 4;
+    unfit(
+        b"in line and writing",
+        f,
+        t,
+        with_core(with_holder(line, 1), 0, r),
+    );
+    r.mode = 0;
+    r.cycles = 2;
+    unfit(b"in line and out of records", f, t, with_core(line, 0, r));
+}
+
 fn stacks(f: &[u8], t: &[u8], s: State) {
     unfit(b"return place above the depth", f, t, with_entry(s, 6, 0));
     unfit(b"offset above the depth", f, t, with_entry(s, 0, 3));
@@ -897,6 +975,7 @@ fn unfit_states(f: &[u8], t: &[u8], s: State) {
     exchanges(f, t, s);
     cycles(f, t, s);
     holders(f, t, s);
+    lines(f, t, s);
     stacks(f, t, s);
     tables(f, t, s);
     flag_bits(f, t, s);
@@ -943,7 +1022,8 @@ fn next_cores(f: &[u8], t: &[u8], s: State) {
     );
 }
 
-// Core 0 in its writing exchange: core 1 cannot begin, nor write.
+// Core 0 in its writing exchange: core 1 joins the line, and then waits. The semaphore free, core 1 in line: core 0 joins behind it, and then
+// only core 1 moves.
 fn next_held(f: &[u8], t: &[u8], s: State) {
     let mut r = core_of(s, 0);
     r.mode = 4;
@@ -951,13 +1031,34 @@ fn next_held(f: &[u8], t: &[u8], s: State) {
     case(
         b"next after core 0, which writes",
         next_number(f, t, held, 0),
+        101,
+    );
+    case(
+        b"next after core 0, core 1 in line",
+        next_number(f, t, with_line(held, 1, [1, 0, 0, 0]), 0),
         100,
     );
     r.mode = 3;
+    let both = with_core(held, 1, r);
+    case(
+        b"next after core 0, core 1 would write",
+        next_number(f, t, both, 0),
+        101,
+    );
     case(
         b"next after core 0, core 1 waits in vain",
-        next_number(f, t, with_core(held, 1, r), 0),
+        next_number(f, t, with_line(both, 1, [1, 0, 0, 0]), 0),
         100,
+    );
+    case(
+        b"next after core 1, which is first in line",
+        next_number(f, t, with_line(s, 1, [1, 0, 0, 0]), 1),
+        100,
+    );
+    case(
+        b"next after core 1, core 0 behind it",
+        next_number(f, t, with_line(s, 2, [1, 0, 0, 0]), 1),
+        101,
     );
 }
 
@@ -976,6 +1077,129 @@ fn next_spent(f: &[u8], t: &[u8], s: State) {
         b"next, both out of records",
         next_number(f, t, with_core(one, 0, r), 1),
         200,
+    );
+}
+
+// ---- document 02, 2.4: a fair line at the semaphore
+
+// One step of core 1, and what it leaves.
+fn stepped(f: &[u8], t: &[u8], s: State) -> State {
+    let mut buffer = [0u8; 8];
+    let mut shared = [0u8; 1024];
+    let r = machine::step(f, t, s, &mut buffer, &mut shared, 1);
+    r.state
+}
+
+// 0, or 99 where two states differ.
+fn differs(a: State, b: State) -> u8 {
+    if same_state(a, b) {
+        return 0;
+    }
+    CHANGED
+}
+
+// The bench case of a step in mode 3 against a held semaphore: the first such step joins, a second changes nothing.
+fn joins(f: &[u8], t: &[u8], s: State) {
+    let mut r = core_of(s, 0);
+    r.mode = 4;
+    let held = with_core(with_holder(s, 1), 0, r);
+    r.mode = 3;
+    let waiting = with_core(held, 1, r);
+    let first = stepped(f, t, waiting);
+    case(
+        b"mode 3, held: the first step joins",
+        differs(first, with_line(waiting, 1, [1, 0, 0, 0])),
+        0,
+    );
+    case(
+        b"mode 3, held: a second changes nothing",
+        differs(stepped(f, t, first), first),
+        0,
+    );
+    let free = with_line(s, 2, [1, 0, 7, 7]);
+    let mut taking = core_of(stepped(f, t, free), 1);
+    case(b"free and first: takes", taking.mode, 1);
+    taking.mode = 0;
+    taking.time = 0;
+    case(
+        b"and leaves the line, with zeros past it",
+        differs(
+            with_core(stepped(f, t, free), 1, taking),
+            with_holder(with_line(s, 1, [0, 0, 0, 0]), 2),
+        ),
+        0,
+    );
+    case(
+        b"free, another first: joins",
+        differs(
+            stepped(f, t, with_line(s, 1, [0, 0, 0, 0])),
+            with_line(s, 2, [0, 1, 0, 0]),
+        ),
+        0,
+    );
+}
+
+fn executes(r: Registers) -> bool {
+    r.mode == 2
+}
+
+// The exchanges that ended, where the semaphore is free and only core `last` stands in line.
+fn ended(ran: Ran, last: u8) -> u8 {
+    let s = ran.state;
+    let m = s.semaphore;
+    if ran.refusal != 0 || m.holder != 0 || m.waiting != 1 || m.line[0] != last {
+        return CHANGED;
+    }
+    let cores = runner::table_of(s);
+    let mut n: u8 = 0;
+    if executes(cores[0]) {
+        n += 1;
+    }
+    if executes(cores[1]) {
+        n += 1;
+    }
+    if executes(cores[2]) {
+        n += 1;
+    }
+    n
+}
+
+// Exchanges of others that the last core sees end from its joining on: it joins in the first steps, one for each core, and none has ended then.
+fn seen(label: &[u8], f: &[u8], t: &[u8], order: &[u8], buffer: &mut [u8], last: u8) {
+    let mut shared = [0u8; 1024];
+    let mut list = [0u8; 9];
+    let ran = run_fresh(f, t, order, buffer, &mut shared, &mut list);
+    case(label, ended(ran, last), last);
+}
+
+// Cores of one byte whose code is RETURN, without variables: an exchange is a taking and its release. Of n cores the last sees n - 1 end.
+fn bounds() {
+    let mut two = [0u8; 2];
+    let mut three = [0u8; 3];
+    let mut four = [0u8; 4];
+    seen(
+        b"two cores: exchanges of others seen in line",
+        b"MCS1\x02\x01\x00\x00\x00\x01\x00\x01\x00\x00\x00\x01\x00\x00\x01\x00\x00\x01\x00\x00",
+        b"\x01\x00\x00\x00\x00\x00\x01\x00\x00\x00\x00\x00",
+        b"\x00\x01\x00",
+        &mut two,
+        1,
+    );
+    seen(
+        b"three cores: exchanges of others seen in line",
+        b"MCS1\x03\x01\x00\x00\x00\x01\x00\x01\x00\x00\x00\x01\x00\x01\x00\x00\x00\x01\x00\x00\x01\x00\x00\x01\x00\x00\x01\x00\x00",
+        b"\x01\x00\x00\x00\x00\x00\x01\x00\x00\x00\x00\x00\x01\x00\x00\x00\x00\x00",
+        b"\x00\x01\x02\x00\x01\x01",
+        &mut three,
+        2,
+    );
+    seen(
+        b"four cores: exchanges of others seen in line",
+        b"MCS1\x04\x01\x00\x00\x00\x01\x00\x01\x00\x00\x00\x01\x00\x01\x00\x00\x00\x01\x00\x01\x00\x00\x00\x01\x00\x00\x01\x00\x00\x01\x00\x00\x01\x00\x00\x01\x00\x00",
+        b"\x01\x00\x00\x00\x00\x00\x01\x00\x00\x00\x00\x00\x01\x00\x00\x00\x00\x00\x01\x00\x00\x00\x00\x00",
+        b"\x00\x01\x02\x03\x00\x01\x01\x02\x02",
+        &mut four,
+        3,
     );
 }
 
@@ -1007,6 +1231,7 @@ fn pair() {
     next_cores(f, t, s);
     next_held(f, t, s);
     next_spent(f, t, s);
+    joins(f, t, s);
 }
 
 fn main() {
@@ -1020,4 +1245,5 @@ fn main() {
     bad_code();
     lone();
     pair();
+    bounds();
 }
