@@ -16,7 +16,7 @@ static void step(uint8_t core) {
     unsigned number = rikzord_step(task, sizeof task, trace, sizeof trace, table, 2, &semaphore, buffer, 2, shared, 1024, core);
     unsigned next = rikzord_next_core(task, sizeof task, trace, sizeof trace, table, 2, &semaphore, core, &found);
     printf("%u: %u holder %u line", core, number, semaphore.holder);
-    for (unsigned i = 0; i < semaphore.waiting; i++) {
+    for (unsigned i = 0; i < semaphore.waiting && i < sizeof semaphore.line; i++) {
         printf(" %u", semaphore.line[i]);
     }
     printf(" next %u %u\n", next, found);

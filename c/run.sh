@@ -31,7 +31,7 @@ cat > target/c/expected <<'END'
 0: 0 holder 0 line 1 0 next 0 1
 1: 0 holder 2 line 0 next 0 1
 0: 23 holder 2 line 0 0 next 23 0
-0: 23 holder 2 line 0 0 0 0
+0: 23 holder 2 line 0 0 0 0 next 23 0
 END
 target/c/fair | diff - target/c/expected
 echo "c: the line at the semaphore is that of document 02"
