@@ -1143,7 +1143,7 @@ fn executes(r: Registers) -> bool {
     r.mode == 2
 }
 
-// The exchanges that ended, where the semaphore is free and only core `last` stands in line.
+// The exchanges that ended, of cores 0, 1 and 2 in turn, where the semaphore is free and only core `last` stands in line.
 fn ended(ran: Ran, last: u8) -> u8 {
     let s = ran.state;
     let m = s.semaphore;
@@ -1151,17 +1151,16 @@ fn ended(ran: Ran, last: u8) -> u8 {
         return CHANGED;
     }
     let cores = runner::table_of(s);
-    let mut n: u8 = 0;
-    if executes(cores[0]) {
-        n += 1;
+    if !executes(cores[0]) {
+        return 0;
     }
-    if executes(cores[1]) {
-        n += 1;
+    if !executes(cores[1]) {
+        return 1;
     }
-    if executes(cores[2]) {
-        n += 1;
+    if !executes(cores[2]) {
+        return 2;
     }
-    n
+    3
 }
 
 // Exchanges of others that the last core sees end from its joining on: it joins in the first steps, one for each core, and none has ended then.
