@@ -39,4 +39,4 @@ unfolding tableOf
 fresh-not-refused f t ok =
     not-refused f t ok (tableOf (cores f) 4) (memory f) (zeros 1024)
     record { memory = length-replicate (total (sizesOf f)) 0; shared = refl; places = refl; offsets = refl }
-    (refl, subst (Fit f t) (sym (fresh-state f (ok .few))) (fresh-fit f t ok))
+    ((refl, omega arith), subst (Fit f t) (sym (fresh-state f (ok .few))) (fresh-fit f t ok))
