@@ -38,11 +38,11 @@ place-fits p w t h e = let l : widthOf t ≤ 8 = width-room t in omega arith
 
 -- ---- what the test of the addresses gives
 
-either-false : (a b : Bool) → either a b ≡ false → (a ≡ false) × (b ≡ false)
+pub either-false : (a b : Bool) → either a b ≡ false → (a ≡ false) × (b ≡ false)
 either-false true b e = absurd-bool (sym e)
 either-false false b e = (refl, e)
 
-in-data : (size p n : ℕ) → beyond size p n ≡ false → p + n ≤ size
+pub in-data : (size p n : ℕ) → beyond size p n ≡ false → p + n ≤ size
 unfolding beyond
 in-data size p n e = ltb-false size (p + n) e
 

@@ -358,7 +358,7 @@ fn zero_divisor(t: u8, d: &[u8], b: usize) -> bool
 
 // Stores a pattern of w bytes, by a copy of its bytes: stores of the single bytes, alike in every arm, would be compiled as one for all
 // widths, a byte at a time; a copy of a constant length is one instruction.
-fn store_pattern(d: &mut [u8], w: usize, to: usize, p: u64)
+pub fn store_pattern(d: &mut [u8], w: usize, to: usize, p: u64)
     requires { ⌜ Width w × (to + w ≤ length (now d)) ⌝ }
     ensures { λ _. ⌜ now (d .exit) ≡ splice (now (d .entry)) to (bytesLE w p) ⌝ }
 {

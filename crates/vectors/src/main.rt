@@ -1,12 +1,13 @@
-// Runs every vector of the files in data/ through the typed commands: the published float vectors, comparisons of special floats, and whole
-// numbers at their limits. For each file and command it prints how many vectors were compared and how many differed.
+// Runs every vector of the files in data/ through the typed commands and conversions: the published float vectors, comparisons of special floats,
+// whole numbers at their limits, and conversions between every two number types. For each file and command it prints how many vectors were compared and how many differed.
 ghost use Prim.Native.Nat.{_<_};
 use commands::Operands;
 use commands::Performed;
+use conversions::Conversion;
 use libc::STDOUT_FILENO;
 
-// What is known of a line `op type a b result` when some of it is read. A name is the number that its letters spell. Of DIV by zero the
-// result is `-`; a line that starts with `#` is a comment.
+// What is known of a line `op type a b result` when some of it is read. A name is the number that its letters spell. Of a fault the result is
+// `-`; b of a conversion is the number of its to-type; a line that starts with `#` is a comment.
 struct Line {
     field: u8,
     op: u64,
@@ -107,6 +108,7 @@ fn code_of(op: u64) -> u8 {
         0x6c_65 => 35, // le
         0x6c_74 => 36, // lt
         0x6e_65 => 37, // ne
+        0x63_6f_6e_76_65_72_74 => 43, // convert
         _ => 0,
     }
 }
@@ -157,9 +159,34 @@ fn run(code: u8, t: u8, a: u64, b: u64) -> Outcome {
     }
 }
 
+// A conversion on memory: a at 0, the result at 16.
+fn converted(from: u8, to: u64, a: u64) -> Outcome {
+    if 11 < from {
+        return Outcome::Unknown;
+    }
+    if 11 < to {
+        return Outcome::Unknown;
+    }
+    let mut d = [0u8; 24];
+    memory::store(&mut d, 0, 8, a);
+    match conversions::convert_at(&mut d, from, to as u8, 16, 0) {
+        Conversion::Done => Outcome::Stored(memory::load(&d, 16, 8)),
+        Conversion::NotHeld => Outcome::Fault,
+        Conversion::Beyond => Outcome::Unknown,
+    }
+}
+
+fn outcome_of(l: Line, code: u8) -> Outcome {
+    let t = type_of(l.kind);
+    match code {
+        43 => converted(t, l.b, l.a),
+        _ => run(code, t, l.a, l.b),
+    }
+}
+
 // Whether the command gives what the line says.
 fn agrees(l: Line, code: u8) -> bool {
-    match run(code, type_of(l.kind), l.a, l.b) {
+    match outcome_of(l, code) {
         Outcome::Unknown => false,
         Outcome::Fault => l.fault,
         Outcome::Stored(r) => { if l.fault { false } else { r == l.result } }
@@ -217,6 +244,7 @@ fn print_name(code: u64) {
         35 => io::write_all(STDOUT_FILENO, b"le"),
         36 => io::write_all(STDOUT_FILENO, b"lt"),
         37 => io::write_all(STDOUT_FILENO, b"ne"),
+        43 => io::write_all(STDOUT_FILENO, b"convert"),
         _ => io::write_all(STDOUT_FILENO, b"unknown"),
     }
     ;
@@ -278,4 +306,5 @@ fn main() {
     examine(b"float-specials.txt");
     examine(b"comparisons.txt");
     examine(b"whole-numbers.txt");
+    examine(b"conversions.txt");
 }

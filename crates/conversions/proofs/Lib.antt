@@ -1,0 +1,9 @@
+pub mod Rounding
+pub mod Whole
+pub mod Single
+pub mod Infinity
+pub mod Ieee
+pub mod Types
+pub mod Data
+pub mod Kept
+pub mod Floats

@@ -1,0 +1,54 @@
+-- `conversions::convert_at` meets its contract. The addresses are tried; then what is converted is stored, or not held. Assumes nothing.
+use mathlib.Core.Path.{ap, _∙_}
+use lib.ListN.{length}
+use Rattle.values.specs.Values.{readValue}
+use Rattle.values.specs.Types.{widthOf}
+use Rattle.memory.specs.Memory.{readLE}
+use Rattle.conversions.specs.declared.Converted.{Converted}
+use Rattle.conversions.specs.Conversions.{resultAs, toType, converted}
+use Rattle.conversions.specs.Data.{settled, converting}
+use Rattle.commands.proofs.Attempts.{place-fits}
+use Rattle.conversions.proofs.Data.{to-in, source-in, was-beyond, was-tried}
+use borrow.Author.Needs.{needs}
+use Rattle.conversions.proofs.convert_at.Statement.{statement}
+use Rattle.conversions.proofs.convert_at.Tie as tie
+
+beyond-requires : tie.Need-beyond-requires
+beyond-requires c κs = let a = c .before .before .before .args in (place-fits (a .destination) _ (a .to) (c .before .before .before .pre .2) (c .before .width-of .ensures), place-fits (a .source) _ (a .from) (c .before .before .before .pre .3) (c .width-of2 .ensures))
+
+returns : tie.Need-returns
+unfolding converting
+returns c =
+    let a = c .before .before .before .before .before .args in
+    was-beyond (a .d .now) (a .destination) _ (a .source) _ (a .to) (a .from) _ (c .before .beyond .ensures) (c .before .before .before .width-of .ensures) (c .before .before .width-of2 .ensures) (converted (a .from) (a .to) (readLE (a .d .now) (a .source) (widthOf (a .from)))) (c .if1 .taken)
+
+read-value-requires : tie.Need-read-value-requires
+read-value-requires c κs =
+    let a = c .before .before .before .before .before .before .args in
+    (c .before .before .before .before .before .before .pre .0, source-in (length (a .d .now)) (a .destination) _ (a .source) _ (a .to) (a .from) _ (c .before .before .beyond .ensures) (c .before .before .before .before .width-of .ensures) (c .before .before .before .width-of2 .ensures) (c .before .if1 .left))
+
+settle-requires : tie.Need-settle-requires
+settle-requires c κs =
+    let a = c .before .before .before .before .before .before .before .before .before .args in
+    (c .before .before .before .before .before .before .before .before .before .pre .1, to-in (length (a .d .now)) (a .destination) _ (a .source) _ (a .to) (a .from) _ (c .before .before .before .before .before .beyond .ensures) (c .before .before .before .before .before .before .before .width-of .ensures) (c .before .before .before .before .before .before .width-of2 .ensures) (c .before .before .before .before .if1 .left))
+
+returns-2 : tie.Need-returns-2
+unfolding converting converted readValue
+returns-2 c =
+    let a = c .before .before .before .before .before .before .before .before .before .before .before .before .args in
+    was-tried (a .d .now) (a .destination) _ (a .source) _ (a .to) (a .from) _ (c .before .before .before .before .before .before .before .before .beyond .ensures) (c .before .before .before .before .before .before .before .before .before .before .width-of .ensures) (c .before .before .before .before .before .before .before .before .before .width-of2 .ensures) (converted (a .from) (a .to) (readLE (a .d .now) (a .source) (widthOf (a .from)))) (c .before .before .before .before .before .before .before .if1 .left) _ _
+    (c .before .before .settle .ensures ∙ ap (λ (x : Converted). settled (a .to) (a .d .now) (a .destination) (resultAs (a .to) x)) (c .before .before .before .convert .ensures ∙ ap (toType (a .to)) (c .before .before .before .before .before .read-value .ensures)))
+
+pub convert-at-spec : {M : Type 1} → statement M
+convert-at-spec =
+    tie.close
+    (tie.spec
+    (λ c κs. search needs)
+    (λ c κs. search needs)
+    beyond-requires
+    returns
+    read-value-requires
+    (λ c κs. search needs)
+    settle-requires
+    (λ c. search needs)
+    returns-2)
