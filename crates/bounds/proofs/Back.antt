@@ -13,7 +13,7 @@ use Rattle.verdict.specs.Verdict.{pick}
 use Rattle.verdict.proofs.Verdict.{absurd-bool, by-pick}
 use Rattle.memory.specs.Memory.{byte}
 use Rattle.code.specs.declared.Instruction.{Instruction}
-use Rattle.code.specs.declared.Instruction.the-variants.{Return, Jump, JumpZero, JumpNotZero, CallInstance, CallFunction, MoveConstant, CopyMemory, ReadElement, WriteElement, Typed, CycleTime, FlagByte, Unknown}
+use Rattle.code.specs.declared.Instruction.the-variants.{Return, Jump, JumpZero, JumpNotZero, CallInstance, CallFunction, MoveConstant, CopyMemory, ReadElement, WriteElement, Typed, CycleTime, FlagByte, Convert, Unknown}
 use Rattle.code.specs.Commands.{lengthOf}
 use Rattle.code.specs.Instructions.{instructionAt}
 use Rattle.code.specs.Flow.{Kind, kindOf, targetOf, kind, goesTo, after, target}
@@ -288,6 +288,7 @@ no-t (WriteElement v a i size count) e = refl
 no-t (Typed code type to a b) e = refl
 no-t (CycleTime to) e = refl
 no-t (FlagByte to) e = refl
+no-t (Convert from to destination source) e = refl
 no-t Unknown e = refl
 
 -- an instruction that starts at p

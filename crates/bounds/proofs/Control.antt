@@ -11,14 +11,17 @@ use lib.Dec.{eqb}
 use lib.ListN.{length, getD, set}
 use lib.Seq.{getD-set-other}
 use Rattle.verdict.proofs.Verdict.{by-pick}
+use Rattle.conversions.specs.declared.Conversion.{Conversion}
+use Rattle.conversions.specs.declared.Conversion.the-variants.{Done, Beyond, NotHeld}
+use Rattle.conversions.specs.Data.{converting}
 use Rattle.protocol.specs.declared.Registers.{Registers}
 use Rattle.protocol.specs.declared.Outcome.{Outcome}
 use Rattle.protocol.specs.declared.Outcome.the-variants.{Fault, Next, Call, Return as Returned}
 use Rattle.protocol.specs.Instruction.{Executed}
 use Rattle.code.specs.declared.Instruction.{Instruction}
-use Rattle.code.specs.declared.Instruction.the-variants.{Return, Jump, JumpZero, JumpNotZero, CallInstance, CallFunction, MoveConstant, CopyMemory, ReadElement, WriteElement, Typed, CycleTime, FlagByte, Unknown}
+use Rattle.code.specs.declared.Instruction.the-variants.{Return, Jump, JumpZero, JumpNotZero, CallInstance, CallFunction, MoveConstant, CopyMemory, ReadElement, WriteElement, Typed, CycleTime, FlagByte, Convert, Unknown}
 use Rattle.code.specs.Flow.{Kind, Returns, Jumps, Branches, Calls, Passes, kind, after, target}
-use Rattle.processor.specs.Processor.{Decided, refused, decided, faultIf, ofElement, dataPart, called, controlled, meaning, executed}
+use Rattle.processor.specs.Processor.{Decided, refused, decided, faultIf, at, endedBy, ofElement, dataPart, called, controlled, meaning, executed}
 use Rattle.bounds.specs.Paths.{Goes, passes, jumps, stays, leaves, calls}
 
 -- ---- the faults of the data part: neither the limit nor the seventeenth call
@@ -42,6 +45,14 @@ third = (omega arith, omega arith, omega arith)
 fourth : Ordinary 4
 fourth = (omega arith, omega arith, omega arith)
 
+sixth : Ordinary 6
+sixth = (omega arith, omega arith, omega arith)
+
+ended-fair : (r : Registers) (x : Conversion) (m : List ℕ) → Fair (endedBy r x m)
+ended-fair r Done m = tt
+ended-fair r Beyond m = fourth
+ended-fair r NotHeld m = sixth
+
 element-fair : (r : Registers) (d : List ℕ) (v a i size count : ℕ) (x : Decided) → Fair x → Fair (ofElement r d v a i size count x)
 unfolding ofElement
 element-fair r d v a i size count x f = fault _ 4 _ fourth (fault _ 0 _ zeroth (fault _ 4 x fourth f))
@@ -61,6 +72,7 @@ fair (WriteElement v a i size count) c r d = element-fair r d v a i size count _
 fair (Typed code t to a b) c r d = fault _ 4 _ fourth (fault _ 3 _ third tt)
 fair (CycleTime to) c r d = fault _ 4 _ fourth tt
 fair (FlagByte to) c r d = fault _ 4 _ fourth tt
+fair (Convert from to destination source) c r d = let x = converting from to d (at r destination) (at r source) in ended-fair r (x .conversion) (x .memory)
 fair Unknown c r d = tt
 
 -- ---- control

@@ -17,7 +17,7 @@ use Rattle.values.specs.Types.{takes}
 use Rattle.code.specs.Commands.{Layout, known, three, layoutOf, lengthOf, lengthWith}
 use Rattle.code.specs.Instructions.{instructionAt, typedAt}
 use Rattle.code.specs.Flow.{kind, goesTo, target}
-use Rattle.code.specs.Code.{isWidth, elementOk, operandsOk, instructionOk}
+use Rattle.code.specs.Code.{isWidth, elementOk, convertible, operandsOk, instructionOk}
 use Rattle.code.specs.Rules.{TypeRules, InstructionRules, Target, jmp, jz-jnz, calb, calf}
 use Rattle.code.proofs.Laws.{is, same, same-is, Whole, whole, typed-takes, typed-left, no-target}
 
@@ -27,16 +27,16 @@ either-way : {P : Type 0} (a b : Bool) → either a b ≡ true → (a ≡ true �
 either-way true b e f g = f refl
 either-way false b e f g = g e
 
-three-low : (code : ℕ) → three code ≡ true → code < 43
+three-low : (code : ℕ) → three code ≡ true → code < 44
 three-low code e =
     either-way (within 16 20 code) _ e (λ a. omega (arith, inside-true 16 20 code a))
     (λ d. either-way (within 24 26 code) _ d (λ a. omega (arith, inside-true 24 26 code a)) (λ a. omega (arith, inside-true 28 37 code a)))
 
--- only code bytes below 43 are known
-low : (code : ℕ) → 0 < lengthOf code → code < 43
+-- only code bytes below 44 are known
+low : (code : ℕ) → 0 < lengthOf code → code < 44
 unfolding lengthOf layoutOf
 low code =
-    let P : Layout → Type 0 = λ (l : Layout). 0 < lengthWith l → code < 43 in
+    let P : Layout → Type 0 = λ (l : Layout). 0 < lengthWith l → code < 44 in
     by-pick P _ _ _ (λ e h. omega (arith, eqb-true code 0 e))
     (λ e. by-pick P _ _ _ (λ e h. omega (arith, eqb-true code 1 e))
     (λ e. by-pick P _ _ _ (λ e h. omega (arith, inside-true 2 3 code e))
@@ -48,31 +48,32 @@ low code =
     (λ e. by-pick P _ _ _ (λ e h. three-low code e)
     (λ e. by-pick P _ _ _ (λ e h. omega (arith, eqb-true code 27 e))
     (λ e. by-pick P _ _ _ (λ e h. omega (arith, inside-true 41 42 code e))
-    (λ e h. absurd (let y : ⊥ = omega arith in y))))))))))))
+    (λ e. by-pick P _ _ _ (λ e h. omega (arith, eqb-true code 43 e))
+    (λ e h. absurd (let y : ⊥ = omega arith in y)))))))))))))
 
-known-low : (code : ℕ) → known code ≡ true → code < 43
+known-low : (code : ℕ) → known code ≡ true → code < 44
 known-low code e =
     either-way (within 0 9 code) _ e (λ a. omega (arith, inside-true 0 9 code a))
     (λ d. either-way (within 16 20 code) _ d (λ a. omega (arith, inside-true 16 20 code a))
-    (λ g. either-way (within 24 37 code) _ g (λ a. omega (arith, inside-true 24 37 code a)) (λ a. omega (arith, inside-true 41 42 code a))))
+    (λ g. either-way (within 24 37 code) _ g (λ a. omega (arith, inside-true 24 37 code a)) (λ a. omega (arith, inside-true 41 43 code a))))
 
 refuted : (b : Bool) → (b ≡ true → ⊥) → b ≡ false
 refuted true h = absurd (h refl)
 refuted false h = refl
 
-none-known : (code : ℕ) → ltb code 43 ≡ false → ltb 0 (lengthOf code) ≡ known code
+none-known : (code : ℕ) → ltb code 44 ≡ false → ltb 0 (lengthOf code) ≡ known code
 none-known code e =
-    let h : 43 ≤ code = ltb-false _ _ e in
+    let h : 44 ≤ code = ltb-false _ _ e in
     refuted (ltb 0 (lengthOf code)) (λ z. let l = low code (ltb-true _ _ z) in let y : ⊥ = omega arith in y)
     ∙ sym (refuted (known code) (λ z. let l = known-low code z in let y : ⊥ = omega arith in y))
 
 -- the code bytes with a length are those of the table of commands
 pub known-is : (code : ℕ) → ltb 0 (lengthOf code) ≡ known code
 unfolding lengthOf layoutOf pick
-known-is code = go (ltb code 43) refl
+known-is code = go (ltb code 44) refl
   where
-    go : (b : Bool) → ltb code 43 ≡ b → ltb 0 (lengthOf code) ≡ known code
-    go true e = same-is _ _ (below (λ k. same (ltb 0 (lengthOf k)) (known k)) 43 tt code (ltb-true _ _ e))
+    go : (b : Bool) → ltb code 44 ≡ b → ltb 0 (lengthOf code) ≡ known code
+    go true e = same-is _ _ (below (λ k. same (ltb 0 (lengthOf k)) (known k)) 44 tt code (ltb-true _ _ e))
     go false e = none-known code e
 
 -- ---- types
@@ -208,7 +209,7 @@ module _ (c : List ℕ) (p : ℕ) where
   typed-listed : From 16 37 (byte c p) → operandsOk (instructionAt c p) ≡ takes (byte c p) (byte c (p + 1))
   typed-listed h =
       ap operandsOk
-      (typed-left c p (other 0 (inl (omega arith))) (other 1 (inl (omega arith))) (other 2 (inl (omega arith))) (other 3 (inl (omega arith))) (other 4 (inl (omega arith))) (other 5 (inl (omega arith))) (other 6 (inl (omega arith))) (other 7 (inl (omega arith))) (other 8 (inl (omega arith))) (other 9 (inl (omega arith))) (other 41 (inr (omega arith))) (other 42 (inr (omega arith))))
+      (typed-left c p (other 0 (inl (omega arith))) (other 1 (inl (omega arith))) (other 2 (inl (omega arith))) (other 3 (inl (omega arith))) (other 4 (inl (omega arith))) (other 5 (inl (omega arith))) (other 6 (inl (omega arith))) (other 7 (inl (omega arith))) (other 8 (inl (omega arith))) (other 9 (inl (omega arith))) (other 41 (inr (omega arith))) (other 42 (inr (omega arith))) (other 43 (inr (omega arith))))
       ∙ typed-takes c p (omega arith)
     where
       other : (k : ℕ) → (k < 16) ⊎ (37 < k) → byte c p ≡ k → ⊥
@@ -223,6 +224,10 @@ module _ (c : List ℕ) (p : ℕ) where
   unfolding instructionAt pick
   element-listed h = is _ (byte c p) 8 (λ e. rw e) (λ n. let e : byte c p ≡ 9 = omega arith in rw e)
 
+  conversion-listed : byte c p ≡ 43 → operandsOk (instructionAt c p) ≡ convertible (byte c (p + 1)) (byte c (p + 2))
+  unfolding instructionAt typedAt pick
+  conversion-listed e = rw e
+
   -- ---- the instruction
 
   pub keeps-instruction : instructionOk c p ≡ true → InstructionRules c p
@@ -233,6 +238,8 @@ module _ (c : List ℕ) (p : ℕ) where
         mcd-length = λ e. inside-true 1 8 _ (sym (constant-listed e) ∙ w .listed);
         element-size = λ h. keeps-width (byte c (p + 7)) (element h .0);
         element-count = λ h. inside-true 1 4096 _ (element h .1);
+        from-type = λ e. inside-true 1 10 _ (conversion e .0);
+        to-type = λ e. inside-true 1 10 _ (conversion e .1);
         uncut = w .inside;
       }
     where
@@ -241,6 +248,9 @@ module _ (c : List ℕ) (p : ℕ) where
 
       element : From 8 9 (byte c p) → (isWidth (byte c (p + 7)) ≡ true) × (within 1 4096 (word c (p + 8)) ≡ true)
       element h = both-true (isWidth (byte c (p + 7))) _ (sym (element-listed h) ∙ w .listed)
+
+      conversion : byte c p ≡ 43 → (within 1 10 (byte c (p + 1)) ≡ true) × (within 1 10 (byte c (p + 2)) ≡ true)
+      conversion e = both-true (within 1 10 (byte c (p + 1))) _ (sym (conversion-listed e) ∙ w .listed)
 
   ranged : (lo hi : ℕ) {x : ℕ} → From lo hi x → within lo hi x ≡ true
   ranged lo hi h = inside lo hi _ (h .0) (h .1)
@@ -256,12 +266,15 @@ module _ (c : List ℕ) (p : ℕ) where
       wide (inl k) = (omega arith, omega arith)
       wide (inr k) = (omega arith, omega arith)
 
+  conversion-kept : InstructionRules c p → byte c p ≡ 43 → operandsOk (instructionAt c p) ≡ true
+  conversion-kept r e = conversion-listed e ∙ rw (ranged 1 10 (r .from-type e)) (ranged 1 10 (r .to-type e))
+
   past : (k : ℕ) → k ≤ byte c p → (byte c p ≡ k → ⊥) → k + 1 ≤ byte c p
   past k h n = omega arith
 
-  none-between : within 41 42 (byte c p) ≡ true → (byte c p ≡ 41 → ⊥) → (byte c p ≡ 42 → ⊥) → ⊥
-  none-between a n m =
-      let h = inside-true 41 42 (byte c p) a in
+  none-between : within 41 43 (byte c p) ≡ true → (byte c p ≡ 41 → ⊥) → (byte c p ≡ 42 → ⊥) → (byte c p ≡ 43 → ⊥) → ⊥
+  none-between a n m o =
+      let h = inside-true 41 43 (byte c p) a in
       let y : ⊥ = omega arith in
       y
 
@@ -278,13 +291,14 @@ module _ (c : List ℕ) (p : ℕ) where
       is _ (byte c p) 7 (λ e. rw e) (λ n7.
       is _ (byte c p) 41 (λ e. rw e) (λ n41.
       is _ (byte c p) 42 (λ e. rw e) (λ n42.
+      is _ (byte c p) 43 (λ e. conversion-kept r e) (λ n43.
       either-way (within 0 9 (byte c p)) _ (r .code-byte)
       (λ a. element-kept r (past 7 (past 6 (past 5 (past 4 (past 3 (past 2 (past 1 (past 0 (inside-true 0 9 (byte c p) a .0) n0) n1) n2) n3) n4) n5) n6) n7, inside-true 0 9 (byte c p) a .1))
       (λ d.
       either-way (within 16 20 (byte c p)) _ d (λ a. typed-kept r (inl (inside-true 16 20 (byte c p) a)))
       (λ g.
       either-way (within 24 37 (byte c p)) _ g (λ a. typed-kept r (inr (inside-true 24 37 (byte c p) a)))
-      (λ a. absurd (none-between a n41 n42))))))))))))))
+      (λ a. absurd (none-between a n41 n42 n43)))))))))))))))
 
   pub accepts-instruction : InstructionRules c p → instructionOk c p ≡ true
   unfolding instructionOk

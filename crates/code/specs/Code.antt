@@ -14,7 +14,7 @@ use Rattle.code.specs.Commands.{lengthOf}
 use Rattle.code.specs.Instructions.{instructionAt, instructionLength}
 use Rattle.code.specs.Flow.{kind, goesTo, target, after}
 use Rattle.code.specs.declared.Instruction.{Instruction}
-use Rattle.code.specs.declared.Instruction.the-variants.{Return, Jump, JumpZero, JumpNotZero, CallInstance, CallFunction, MoveConstant, CopyMemory, ReadElement, WriteElement, Typed, CycleTime, FlagByte, Unknown}
+use Rattle.code.specs.declared.Instruction.the-variants.{Return, Jump, JumpZero, JumpNotZero, CallInstance, CallFunction, MoveConstant, CopyMemory, ReadElement, WriteElement, Typed, CycleTime, FlagByte, Convert, Unknown}
 
 -- ---- one instruction
 
@@ -26,7 +26,11 @@ isWidth w = either (eqb w 1) (either (eqb w 2) (either (eqb w 4) (eqb w 8)))
 abbrev pub elementOk : ℕ → ℕ → Bool
 elementOk size count = both (isWidth size) (within 1 4096 count)
 
--- MCD's length, the element size and count, and the type byte lie on their lists
+-- the two types of a conversion: types 1 to 10 are numbers
+abbrev pub convertible : ℕ → ℕ → Bool
+convertible from to = both (within 1 10 from) (within 1 10 to)
+
+-- MCD's length, the element size and count, and the type bytes lie on their lists
 abbrev pub operandsOk : Instruction → Bool
 operandsOk Return = true
 operandsOk (Jump t) = true
@@ -41,6 +45,7 @@ operandsOk (WriteElement v a i size count) = elementOk size count
 operandsOk (Typed code type to a b) = takes code type
 operandsOk (CycleTime to) = true
 operandsOk (FlagByte to) = true
+operandsOk (Convert from to destination source) = convertible from to
 operandsOk Unknown = false
 
 -- the instruction at p is known, whole, and its operands lie on their lists

@@ -1,4 +1,4 @@
--- Document 01, "Types and commands": the operands of each command, in the document's order, and the length that follows from them.
+-- Document 01, "Types and commands", and document 02: the operands of each command, in the document's order, and the length that follows from them.
 use Prim.Native.Nat.{ℕ, _+_, _<_}
 use mathlib.Core.Path.{_≡_}
 use mathlib.Core.Bool.{Bool, not}
@@ -50,7 +50,8 @@ layoutOf code =
     (pick (three code) (operands (type ∷ address ∷ address ∷ address ∷ []))  -- ADD .. MOD, AND OR XOR, SHL .. ROR, GT .. NE: type, to, a, b
     (pick (eqb code 27) (operands (type ∷ address ∷ address ∷ []))  -- NOT: type, to, a
     (pick (within 41 42 code) (operands (address ∷ []))  -- cycle time, flag byte: addr
-    unknown))))))))))
+    (pick (eqb code 43) (operands (type ∷ type ∷ address ∷ address ∷ []))  -- conversion: from-type, to-type, destination, source (document 02, 2.3)
+    unknown)))))))))))
 
 -- ---- the length of an instruction
 
@@ -68,7 +69,7 @@ lengthOf code = lengthWith (layoutOf code)
 
 -- the code bytes of the table of commands
 abbrev pub known : ℕ → Bool
-known code = either (within 0 9 code) (either (within 16 20 code) (either (within 24 37 code) (within 41 42 code)))
+known code = either (within 0 9 code) (either (within 16 20 code) (either (within 24 37 code) (within 41 43 code)))
 
 -- what the table of 256 lengths has to say: each length fits the operands, and it is 0 exactly for the unknown codes
 pub record Lengths (table : List ℕ) : Type 0 where

@@ -4,7 +4,7 @@ use mathlib.Core.Bool.{Bool, true, false}
 use mathlib.Core.List.{List}
 use Rattle.code.specs.Instructions.{instructionAt, instructionLength}
 use Rattle.code.specs.declared.Instruction.{Instruction}
-use Rattle.code.specs.declared.Instruction.the-variants.{Return, Jump, JumpZero, JumpNotZero, CallInstance, CallFunction, MoveConstant, CopyMemory, ReadElement, WriteElement, Typed, CycleTime, FlagByte, Unknown}
+use Rattle.code.specs.declared.Instruction.the-variants.{Return, Jump, JumpZero, JumpNotZero, CallInstance, CallFunction, MoveConstant, CopyMemory, ReadElement, WriteElement, Typed, CycleTime, FlagByte, Convert, Unknown}
 
 -- RETURN; JMP; JZ, JNZ; CALB, CALF; all others
 pub data Kind : Type 0 where
@@ -28,6 +28,7 @@ kindOf (WriteElement v a i size count) = Passes
 kindOf (Typed code type to a b) = Passes
 kindOf (CycleTime to) = Passes
 kindOf (FlagByte to) = Passes
+kindOf (Convert from to destination source) = Passes
 kindOf Unknown = Passes
 
 -- its T; 0 where it has none
@@ -45,6 +46,7 @@ targetOf (WriteElement v a i size count) = 0
 targetOf (Typed code type to a b) = 0
 targetOf (CycleTime to) = 0
 targetOf (FlagByte to) = 0
+targetOf (Convert from to destination source) = 0
 targetOf Unknown = 0
 
 -- control may go on to the next instruction

@@ -1,4 +1,4 @@
--- Document 01, "Types and commands": the instruction that stands at a place of a core's code, with its operands.
+-- Document 01, "Types and commands", and document 02: the instruction that stands at a place of a core's code, with its operands.
 use Prim.Native.Nat.{ℕ, _+_}
 use mathlib.Core.List.{List}
 use lib.Dec.{eqb}
@@ -6,7 +6,7 @@ use Rattle.verdict.specs.Verdict.{pick}
 use Rattle.memory.specs.Memory.{byte, word}
 use Rattle.code.specs.Commands.{three, lengthOf}
 use Rattle.code.specs.declared.Instruction.{Instruction}
-use Rattle.code.specs.declared.Instruction.the-variants.{Return, Jump, JumpZero, JumpNotZero, CallInstance, CallFunction, MoveConstant, CopyMemory, ReadElement, WriteElement, Typed, CycleTime, FlagByte, Unknown}
+use Rattle.code.specs.declared.Instruction.the-variants.{Return, Jump, JumpZero, JumpNotZero, CallInstance, CallFunction, MoveConstant, CopyMemory, ReadElement, WriteElement, Typed, CycleTime, FlagByte, Convert, Unknown}
 
 -- a typed command, or else the other one
 unfoldable pub typedAt : List ℕ → ℕ → Instruction → Instruction
@@ -29,7 +29,8 @@ instructionAt c p =
     (typedAt c p
     (pick (eqb (byte c p) 41) (CycleTime (word c (p + 1)))
     (pick (eqb (byte c p) 42) (FlagByte (word c (p + 1)))
-    Unknown))))))))))))
+    (pick (eqb (byte c p) 43) (Convert (byte c (p + 1)) (byte c (p + 2)) (word c (p + 3)) (word c (p + 5)))
+    Unknown)))))))))))))
 
 -- its length: the table's, to which MCD adds n
 unfoldable pub instructionLength : List ℕ → ℕ → ℕ

@@ -31,6 +31,9 @@ pub record InstructionRules (c : List ℕ) (p : ℕ) : Type 0 where
   pub mcd-length : byte c p ≡ 6 → From 1 8 (byte c (p + 3))
   pub element-size : From 8 9 (byte c p) → OneOf (1 ∷ 2 ∷ 4 ∷ 8 ∷ []) (byte c (p + 7))
   pub element-count : From 8 9 (byte c p) → From 1 4096 (word c (p + 8))
+  -- "A type outside 1 to 10 gives 6." (document 02, 2.3)
+  pub from-type : byte c p ≡ 43 → From 1 10 (byte c (p + 1))
+  pub to-type : byte c p ≡ 43 → From 1 10 (byte c (p + 2))
   pub uncut : after c p ≤ length c
 
 -- "JMP T; JZ addr T; JNZ addr T", "CALB instance T; CALF T": the T of the instruction at p

@@ -9,7 +9,7 @@ ghost use Rattle.memory.specs.Memory.{byte, readLE};
 ghost use Rattle.values.specs.Types.{takes};
 ghost use Rattle.code.specs.Commands.{three, lengthOf, Lengths};
 ghost use Rattle.code.specs.Instructions.{instructionAt, instructionLength, typedAt};
-ghost use Rattle.code.specs.Code.{isWidth, elementOk, operandsOk, acceptedLength, Sized, isStart, judgeCode, Marked, Asked, TargetAsked, Pass, AllMet};
+ghost use Rattle.code.specs.Code.{isWidth, elementOk, convertible, operandsOk, acceptedLength, Sized, isStart, judgeCode, Marked, Asked, TargetAsked, Pass, AllMet};
 
 // "Each of the 256 code bytes has its instruction length in one table, 0 where unknown; MCD adds n."
 pub const LENGTHS: [u8; 256] = [
@@ -56,8 +56,8 @@ pub const LENGTHS: [u8; 256] = [
     0,
     3, // 41 cycle time
     3, // 42 flag byte
-    0, // 43 to 255: unknown
-    0,
+    7, // 43 conversion
+    0, // 44 to 255: unknown
     0,
     0,
     0,
@@ -299,6 +299,8 @@ const CYCLE_TIME: usize = LENGTHS[41] as usize;
 
 const FLAG_BYTE: usize = LENGTHS[42] as usize;
 
+const CONVERT: usize = LENGTHS[43] as usize;
+
 // The table as a value: a `const` is rebuilt at each use, so a walk that looks for a place makes it once and lends it.
 fn lengths() -> [u8; 256]
     ensures { λ r. ⌜ Lengths r ⌝ }
@@ -341,6 +343,8 @@ pub enum Instruction {
     // destination
     CycleTime(u16),
     FlagByte(u16),
+    // from-type, to-type, destination, source
+    Convert(u8, u8, u16, u16),
     Unknown,
 }
 
@@ -421,6 +425,12 @@ pub fn decode(file: &[u8], p: usize) -> Instruction
         ),
         41 => Instruction::CycleTime(word(file, p + 1)),
         42 => Instruction::FlagByte(word(file, p + 1)),
+        43 => Instruction::Convert(
+            file[p + 1],
+            file[p + 2],
+            word(file, p + 3),
+            word(file, p + 5),
+        ),
         _ => typed(file, p),
     }
 }
@@ -561,6 +571,23 @@ fn typed_length(code: &[u8], p: usize, n: usize) -> usize
     0
 }
 
+// 43.
+fn conversion_length(code: &[u8], p: usize) -> usize
+    requires { ⌜ (p < length (now code)) × Sized (now code) p 7 × (operandsOk (instructionAt (now code) p) ≡ convertible (byte (now code) (p + 1)) (byte (now code) (p + 2))) ⌝ }
+    ensures { λ r. ⌜ r ≡ acceptedLength (now (code .entry)) p ⌝ }
+{
+    if code.len() - p < CONVERT {
+        return 0;
+    }
+    if !inside(1, 10, code[p + 1]) {
+        return 0;
+    }
+    if !inside(1, 10, code[p + 2]) {
+        return 0;
+    }
+    CONVERT
+}
+
 // By the code byte; what is none of the others is a typed command with three addresses, or unknown.
 fn accepted_length(code: &[u8], p: usize) -> usize
     requires { ⌜ p < length (now code) ⌝ }
@@ -581,6 +608,7 @@ fn accepted_length(code: &[u8], p: usize) -> usize
         27 => typed_length(code, p, NOT),
         41 => plain_length(code, p, CYCLE_TIME),
         42 => plain_length(code, p, FLAG_BYTE),
+        43 => conversion_length(code, p),
         _ => typed_length(code, p, TYPED),
     }
 }

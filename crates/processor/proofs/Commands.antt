@@ -18,14 +18,19 @@ use Rattle.protocol.specs.Instruction.{Executed, halted}
 use Rattle.code.specs.declared.Instruction.the-variants.{Typed}
 use Rattle.code.specs.Commands.{layoutOf, lengthOf}
 use Rattle.code.specs.Instructions.{typedAt, instructionAt, instructionLength}
+use Rattle.values.specs.Types.{widthOf}
 use Rattle.values.specs.Commands.{beyond, anyBeyond}
 use Rattle.commands.specs.declared.Operands.{Operands}
 use Rattle.commands.specs.declared.Performed.{Performed}
 use Rattle.commands.specs.declared.Performed.the-variants.{Done, Beyond, ByZero}
 use Rattle.commands.specs.Attempts.{Attempt, attempt, attempted}
+use Rattle.conversions.specs.declared.Conversion.{Conversion}
+use Rattle.conversions.specs.declared.Conversion.the-variants.{Beyond as Outside}
+use Rattle.conversions.specs.Conversions.{Result, stores, not-held, converted as convertedTo}
+use Rattle.conversions.specs.Data.{Ended, ended, settled, tried, converting}
 use Rattle.processor.specs.Executable.{Reports}
-use Rattle.processor.specs.Processor.{placeOf, answer, branched, called, passed, decided, faultIf, changed, elementAt, ofElement, dataPart, meaning, executed}
-use Rattle.processor.specs.Typed.{operandsAt, outcomeOf}
+use Rattle.processor.specs.Processor.{placeOf, answer, branched, called, passed, decided, faultIf, changed, elementAt, ofElement, ofConversion, dataPart, meaning, executed}
+use Rattle.processor.specs.Typed.{operandsAt, outcomeOf, conversionOutcome}
 use Rattle.processor.proofs.Accepted.{TypedAt, three-here, three-given, next-fits}
 
 is-true : (b : Bool) → Bool·beq b true ≡ b
@@ -103,6 +108,11 @@ module _ (c : List ℕ) (r : Registers) (d : List ℕ) where
   unfolding executed meaning dataPart typedAt instructionAt instructionLength lengthOf layoutOf pick
   report-at op width value (inl (z, w, v)) e = rw (e, z, w, v)
   report-at op width value (inr (z, w, v)) e = rw (e, z, w, v)
+
+  conversion-at : byte c (r .counter) ≡ 43
+      → executed c r d ≡ passed (r .counter + 7) d (ofConversion r (converting (byteAt 1) (byteAt 2) d (operandAt 3) (operandAt 5)))
+  unfolding executed meaning dataPart typedAt instructionAt instructionLength lengthOf layoutOf pick
+  conversion-at e = rw e
 
   -- AURD and AUWD: they differ in what is copied where
   element-at : (op : ℕ) → (op ≡ 8) ⊎ (op ≡ 9) → byte c (r .counter) ≡ op
@@ -251,6 +261,26 @@ module _ (c : List ℕ) (r : Registers) (d : List ℕ) where
   unfolding attempted dataPart
   typed-done op n o p q m x e f g =
       rw g (ap (finished (r .counter + (n + 2))) f ∙ rw e (finished-tests (r .counter + (n + 2)) _ _ _) ∙ sym (typed-at op n x))
+
+  -- how a conversion ended, as the instruction's answer
+  abbrev converted : ℕ → Ended → Executed
+  converted next x = answer (conversionOutcome next (x .conversion)) (x .memory)
+
+  converted-tests : (next t u to source : ℕ) (x : Result) → converted next (tried t u d to source x) ≡ passed next d (ofConversion r (tried t u d to source x))
+  unfolding tried pick
+  converted-tests next t u to source x = go (anyBeyond (length d) to (widthOf t) source (widthOf u)) x
+    where
+      go : (b : Bool) (x : Result) → converted next (pick b (ended Outside d) (settled t d to x)) ≡ passed next d (ofConversion r (pick b (ended Outside d) (settled t d to x)))
+      go true x = refl
+      go false (stores p) = refl
+      go false not-held = refl
+
+  pub conversion-done : (from to destination source : ℕ) (x : Conversion) (o : Outcome) (m : List ℕ) → byte c (r .counter) ≡ 43
+      → from ≡ byteAt 1 → to ≡ byteAt 2 → destination ≡ operandAt 3 → source ≡ operandAt 5 → ended x m ≡ converting from to d destination source
+      → o ≡ conversionOutcome (r .counter + 7) x → answer o m ≡ executed c r d
+  unfolding converting
+  conversion-done from to destination source x o m e f g h k l w =
+      rw w (ap (converted (r .counter + 7)) l ∙ rw (f, g, h, k) (converted-tests (r .counter + 7) (byteAt 2) (byteAt 1) (operandAt 3) (operandAt 5) (convertedTo (byteAt 1) (byteAt 2) (readLE d (operandAt 5) (widthOf (byteAt 1))))) ∙ sym (conversion-at e))
 
 pub ruleset branches = (branch-beyond, branch-made, branch-not)
 

@@ -11,9 +11,15 @@ use lib.Dec.{eqb, leb}
 use lib.ListN.{length, getD, set, length-set, replicate}
 use lib.Seq.{getD-set-other}
 use Rattle.verdict.proofs.Verdict.{by-pick}
-use Rattle.memory.specs.Memory.{splice}
+use Rattle.memory.specs.Memory.{splice, readLE}
 use Rattle.memory.proofs.Laws.{length-splice}
+use Rattle.values.specs.Types.{widthOf}
 use Rattle.values.specs.Commands.{performed}
+use Rattle.conversions.specs.declared.Conversion.{Conversion}
+use Rattle.conversions.specs.declared.Conversion.the-variants.{Done, Beyond, NotHeld}
+use Rattle.conversions.specs.Conversions.{Result, converted}
+use Rattle.conversions.specs.Data.{tried, converting}
+use Rattle.conversions.proofs.Data.{tried-length}
 use Rattle.protocol.specs.declared.Registers.{Registers}
 use Rattle.protocol.specs.declared.Stack.{Stack}
 use Rattle.protocol.specs.declared.Outcome.{Outcome}
@@ -24,19 +30,19 @@ use Rattle.protocol.specs.Instruction.{Executed, backFrom, appliedBy, applied, 
 use Rattle.protocol.specs.Laws.{Laws}
 use Rattle.protocol.proofs.Instance.{obeys}
 use Rattle.code.specs.declared.Instruction.{Instruction}
-use Rattle.code.specs.declared.Instruction.the-variants.{Return, Jump, JumpZero, JumpNotZero, CallInstance, CallFunction, MoveConstant, CopyMemory, ReadElement, WriteElement, Typed, CycleTime, FlagByte, Unknown}
+use Rattle.code.specs.declared.Instruction.the-variants.{Return, Jump, JumpZero, JumpNotZero, CallInstance, CallFunction, MoveConstant, CopyMemory, ReadElement, WriteElement, Typed, CycleTime, FlagByte, Convert, Unknown}
 use Rattle.code.specs.Flow.{Kind, Returns, Jumps, Branches, Calls, Passes, goesOn, goesTo, kind, target, after}
 use Rattle.code.specs.Code.{judgeCode, isStart}
 use Rattle.code.specs.Instructions.{instructionAt}
 use Rattle.code.proofs.Sound.{sound, inside-code, start-zero}
-use Rattle.processor.specs.Processor.{Decided, refused, decided, faultIf, changed, at, ofElement, dataPart, answer, controlled, meaning, executed}
+use Rattle.processor.specs.Processor.{Decided, refused, decided, faultIf, changed, at, ofElement, endedBy, ofConversion, dataPart, answer, controlled, meaning, executed}
 use Rattle.processor.specs.Placed.{Placed, Leads}
 
 -- ---- the answers of the data part
 
--- its faults are array index, zero divisor and address beyond the data
+-- its faults are array index, zero divisor, address beyond the data and a conversion's result that is not held
 abbrev pub DataFault : ℕ → Type 0
-DataFault b = (b ≡ 0) ⊎ ((b ≡ 3) ⊎ (b ≡ 4))
+DataFault b = (b ≡ 0) ⊎ ((b ≡ 3) ⊎ ((b ≡ 4) ⊎ (b ≡ 6)))
 
 abbrev Faults : Decided → Type 0
 Faults (refused b) = DataFault b
@@ -64,7 +70,18 @@ module _ (r : Registers) (d : List ℕ) where
   divisor-answers = record { faults = inr (inl refl); keeps = tt; inside = tt }
 
   address-answers : Answers r d (refused 4)
-  address-answers = record { faults = inr (inr refl); keeps = tt; inside = tt }
+  address-answers = record { faults = inr (inr (inl refl)); keeps = tt; inside = tt }
+
+  -- a conversion, whose data keep their size
+  ended-answers : (x : Conversion) (m : List ℕ) → length m ≡ length d → Answers r d (endedBy r x m)
+  ended-answers Done m e = record { faults = tt; keeps = e; inside = λ h. h }
+  ended-answers Beyond m e = address-answers
+  ended-answers NotHeld m e = record { faults = inr (inr (inr refl)); keeps = tt; inside = tt }
+
+  conversion-answers : (t u to source : ℕ) (x : Result) → Answers r d (ofConversion r (tried t u d to source x))
+  conversion-answers t u to source x =
+      let y = tried t u d to source x in
+      ended-answers (y .conversion) (y .memory) (tried-length t u d to source x)
 
   same-answers : (made : Bool) → Answers r d (decided made (r .offset) d)
   same-answers made = record { faults = tt; keeps = refl; inside = λ h. h }
@@ -81,7 +98,7 @@ module _ (r : Registers) (d : List ℕ) where
       tested _ _ (by-pick (Answers r d) _ _ _ (λ e. index-answers) (λ e. tested _ _ a))
 
   data-answers : (i : Instruction) (c : List ℕ) → Answers r d (dataPart i c r d)
-  unfolding dataPart performed
+  unfolding dataPart performed converting
   data-answers Return c = same-answers false
   data-answers (Jump t) c = same-answers false
   data-answers (JumpZero a t) c = tested _ _ (same-answers _)
@@ -98,6 +115,7 @@ module _ (r : Registers) (d : List ℕ) where
       tested _ _ (by-pick (Answers r d) _ _ _ (λ e. divisor-answers) (λ e. splice-answers _ _))
   data-answers (CycleTime to) c = tested _ _ (splice-answers _ _)
   data-answers (FlagByte to) c = tested _ _ (splice-answers _ _)
+  data-answers (Convert from to destination source) c = conversion-answers to from (at r destination) (at r source) (converted from to (readLE d (at r source) (widthOf from)))
   data-answers Unknown c = same-answers false
 
   pub data-faults : (i : Instruction) (c : List ℕ) (b : ℕ) → dataPart i c r d ≡ refused b → DataFault b
@@ -130,7 +148,8 @@ instruction-laws t code e = obeys t _ (λ k x m n. executed-length (code k) (x .
 fault-bit : {b : ℕ} → DataFault b → b < 8
 fault-bit (inl e) = omega arith
 fault-bit (inr (inl e)) = omega arith
-fault-bit (inr (inr e)) = omega arith
+fault-bit (inr (inr (inl e))) = omega arith
+fault-bit (inr (inr (inr e))) = omega arith
 
 module _ (c : List ℕ) (r : Registers) (d : List ℕ) (offset : r .offset < length d) (depth : r .depth ≤ 16) where
   To : Executed → Type 0

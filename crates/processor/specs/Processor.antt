@@ -8,13 +8,16 @@ use lib.ListN.{length}
 use lib.Dec.{ltb, leb, eqb}
 use Rattle.verdict.specs.Verdict.{pick}
 use Rattle.memory.specs.Memory.{byte, splice, part, bytesLE, readLE, word}
+use Rattle.conversions.specs.declared.Conversion.{Conversion}
+use Rattle.conversions.specs.declared.Conversion.the-variants.{Done, Beyond, NotHeld}
+use Rattle.conversions.specs.Data.{Ended, converting}
 use Rattle.values.specs.Commands.{beyond, anyBeyond, typedBeyond, secondWidth, zeroDivisor, performed}
 use Rattle.protocol.specs.declared.Registers.{Registers}
 use Rattle.protocol.specs.declared.Outcome.{Outcome}
 use Rattle.protocol.specs.declared.Outcome.the-variants.{Fault, Next, Call, Return as Returned}
 use Rattle.protocol.specs.Instruction.{Executed, halted}
 use Rattle.code.specs.declared.Instruction.{Instruction}
-use Rattle.code.specs.declared.Instruction.the-variants.{Return, Jump, JumpZero, JumpNotZero, CallInstance, CallFunction, MoveConstant, CopyMemory, ReadElement, WriteElement, Typed, CycleTime, FlagByte, Unknown}
+use Rattle.code.specs.declared.Instruction.the-variants.{Return, Jump, JumpZero, JumpNotZero, CallInstance, CallFunction, MoveConstant, CopyMemory, ReadElement, WriteElement, Typed, CycleTime, FlagByte, Convert, Unknown}
 use Rattle.code.specs.Instructions.{instructionAt}
 use Rattle.code.specs.Flow.{Kind, Returns, Jumps, Branches, Calls, Passes, kindOf, targetOf, after}
 
@@ -57,6 +60,15 @@ ofElement r d variable array index size count x =
     (faultIf (leb count (indexOf r d index)) 0
     (faultIf (beyond (length d) (elementAt r d array index size) size) 4 x))
 
+-- how a conversion ended: the data afterwards; bit 4, an address beyond the data; bit 6, a result that the destination can't hold
+abbrev pub endedBy : Registers → Conversion → List ℕ → Decided
+endedBy r Done m = changed r m
+endedBy r Beyond m = refused 4
+endedBy r NotHeld m = refused 6
+
+abbrev pub ofConversion : Registers → Ended → Decided
+ofConversion r x = endedBy r (x .conversion) (x .memory)
+
 -- ---- the data part of each command
 
 -- the instruction i of the code c, by a core with registers r and data d
@@ -80,6 +92,7 @@ dataPart (Typed code t to a b) c r d =
     (changed r (performed code t d (at r to) (at r a) (at r b))))
 dataPart (CycleTime to) c r d = faultIf (beyond (length d) (at r to) 4) 4 (changed r (splice d (at r to) (bytesLE 4 (r .time))))
 dataPart (FlagByte to) c r d = faultIf (beyond (length d) (at r to) 1) 4 (changed r (splice d (at r to) (bytesLE 1 (r .flags))))
+dataPart (Convert from to destination source) c r d = ofConversion r (converting from to d (at r destination) (at r source))
 dataPart Unknown c r d = changed r d
 
 -- ---- control

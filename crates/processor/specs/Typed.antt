@@ -1,10 +1,12 @@
--- What an instruction hands to its typed command, and what the command's answer is as an instruction's.
+-- What an instruction hands to its typed command, and what the answer of a typed command or of a conversion is as an instruction's.
 use Prim.Native.Nat.{ℕ, _+_, _<_}
 use mathlib.Core.List.{List}
 use Rattle.memory.specs.Memory.{byte, word}
 use Rattle.commands.specs.declared.Operands.{Operands}
 use Rattle.commands.specs.declared.Performed.{Performed}
 use Rattle.commands.specs.declared.Performed.the-variants.{Done, Beyond, ByZero}
+use Rattle.conversions.specs.declared.Conversion.{Conversion}
+use Rattle.conversions.specs.declared.Conversion.the-variants.{Done as Converted, Beyond as Outside, NotHeld}
 use Rattle.protocol.specs.declared.Registers.{Registers}
 use Rattle.protocol.specs.declared.Outcome.{Outcome}
 use Rattle.protocol.specs.declared.Outcome.the-variants.{Fault, Next}
@@ -29,3 +31,9 @@ abbrev pub outcomeOf : ℕ → Performed → Outcome
 outcomeOf next Done = Next next
 outcomeOf next Beyond = Fault 4
 outcomeOf next ByZero = Fault 3
+
+-- the same of a conversion
+abbrev pub conversionOutcome : ℕ → Conversion → Outcome
+conversionOutcome next Converted = Next next
+conversionOutcome next Outside = Fault 4
+conversionOutcome next NotHeld = Fault 6

@@ -2,6 +2,7 @@
 // registers and the call stack by the machine, which also tries the instruction limit first.
 use commands::Operands;
 use commands::Performed;
+use conversions::Conversion;
 use protocol::Outcome;
 use protocol::Registers;
 ghost use mathlib.Core.Path.{_≡_};
@@ -13,7 +14,7 @@ ghost use Rattle.verdict.specs.Verdict.{pick};
 ghost use Rattle.values.specs.Width.{Width};
 ghost use Rattle.values.specs.Commands.{beyond, anyBeyond};
 ghost use Rattle.processor.specs.Processor.{placeOf, answer, executed};
-ghost use Rattle.processor.specs.Typed.{operandsAt, Low, outcomeOf};
+ghost use Rattle.processor.specs.Typed.{operandsAt, Low, outcomeOf, conversionOutcome};
 ghost use Rattle.processor.specs.Executable.{Executable, Stands, Reports};
 
 // The entries of the table of lengths that lead to the next instruction.
@@ -34,6 +35,8 @@ const TYPED: u16 = code::LENGTHS[16] as u16;
 const NOT: u16 = code::LENGTHS[27] as u16;
 
 const REPORT: u16 = code::LENGTHS[41] as u16;
+
+const CONVERT: u16 = code::LENGTHS[43] as u16;
 
 // ---- addresses
 
@@ -289,6 +292,35 @@ fn store_number(
     Outcome::Next(r.counter + REPORT)
 }
 
+// ---- conversions
+
+// How a conversion before the place `next` ended, as an instruction.
+fn conversion_outcome(conversion: Conversion, next: u16) -> Outcome
+    ensures { λ o. ⌜ o ≡ conversionOutcome next conversion ⌝ }
+{
+    match conversion {
+        Conversion::Done => Outcome::Next(next),
+        Conversion::Beyond => Outcome::Fault(protocol::ADDRESS),
+        Conversion::NotHeld => Outcome::Fault(protocol::CONVERSION),
+    }
+}
+
+// 43
+fn convert(r: Registers, code: &[u8], d: &mut [u8]) -> Outcome
+    requires { ⌜ Stands 43 7 (now code) r × (byte (now code) (r .counter + 1) < 12) × (byte (now code) (r .counter + 2) < 12) ⌝ }
+    ensures { λ o. ⌜ answer o (now (d .exit)) ≡ executed (now (code .entry)) r (now (d .entry)) ⌝ }
+{
+    let p = r.counter as usize;
+    let from = code[p + 1];
+    let to = code[p + 2];
+    let destination = operand(r.offset, code, p + 3);
+    let source = operand(r.offset, code, p + 5);
+    conversion_outcome(
+        conversions::convert_at(d, from, to, destination, source),
+        r.counter + CONVERT,
+    )
+}
+
 // ---- one instruction
 
 // The instruction at the program counter, by its code byte: what it answers, and the data after it in place.
@@ -327,6 +359,7 @@ pub fn execute(r: Registers, code: &[u8], d: &mut [u8]) -> Outcome
         35 => outcome(commands::le_at(d, operands(r, code)), r.counter + TYPED),
         36 => outcome(commands::lt_at(d, operands(r, code)), r.counter + TYPED),
         37 => outcome(commands::ne_at(d, operands(r, code)), r.counter + TYPED),
+        43 => convert(r, code, d),
         _ => outcome(commands::not_at(d, single(r, code)), r.counter + NOT),
     }
 }

@@ -1,5 +1,5 @@
 // Small programs with known results: latches, a counter, nested calls, instances in instances, arrays, overlapping copies, every fault and
-// the order in which two at once are tried, and the last place of each operand. Each line has the program's name, the mode, program counter,
+// the order in which two at once are tried, the last place of each operand, and conversions. Each line has the program's name, the mode, program counter,
 // data offset, depth, instruction count and flag byte after its cycle, and the data. In the comments @n is the absolute address n.
 use protocol::Outcome;
 use protocol::Registers;
@@ -713,6 +713,147 @@ fn negations() {
     );
 }
 
+// 43, by document 02's own numbers (2.3), and where the destination can't hold the result
+fn conversions() {
+    // REAL 2.5 to INT gives 2
+    run(
+        b"convert",
+        b"\x2B\x09\x03\x00\x00\x04\x00\x00",
+        b"\xEE\xEE\xEE\xEE\x00\x00\x20\x40",
+        100,
+    );
+    // REAL 3.5 to INT gives 4
+    run(
+        b"convert",
+        b"\x2B\x09\x03\x00\x00\x04\x00\x00",
+        b"\xEE\xEE\xEE\xEE\x00\x00\x60\x40",
+        100,
+    );
+    // REAL -0.5 to INT gives 0
+    run(
+        b"convert",
+        b"\x2B\x09\x03\x00\x00\x04\x00\x00",
+        b"\xEE\xEE\xEE\xEE\x00\x00\x00\xBF",
+        100,
+    );
+    // DINT 16777217 to REAL gives 16777216
+    run(
+        b"convert",
+        b"\x2B\x05\x09\x00\x00\x04\x00\x00",
+        b"\xEE\xEE\xEE\xEE\x01\x00\x00\x01",
+        100,
+    );
+    // LREAL 1e300 to REAL gives infinity
+    run(
+        b"convert",
+        b"\x2B\x0A\x09\x00\x00\x04\x00\x00",
+        b"\xEE\xEE\xEE\xEE\x9C\x75\x00\x88\x3C\xE4\x37\x7E",
+        100,
+    );
+    // a NaN, REAL to LREAL, has the stored form
+    run(
+        b"convert",
+        b"\x2B\x09\x0A\x00\x00\x08\x00\x00",
+        b"\xEE\xEE\xEE\xEE\xEE\xEE\xEE\xEE\x01\x00\x80\xFF",
+        100,
+    );
+    // SINT -2 to LINT keeps the value
+    run(
+        b"convert",
+        b"\x2B\x01\x07\x00\x00\x08\x00\x00",
+        b"\xEE\xEE\xEE\xEE\xEE\xEE\xEE\xEE\xFE",
+        100,
+    );
+    // in the place of its source
+    run(
+        b"convert",
+        b"\x2B\x0A\x08\x00\x00\x00\x00\x00",
+        b"\x00\x00\x00\x00\x00\x00\xE0\x43",
+        100,
+    );
+    // REAL 127.5 to SINT: bit 6
+    run(
+        b"convert",
+        b"\x2B\x09\x01\x00\x00\x04\x00\x00",
+        b"\xEE\xEE\xEE\xEE\x00\x00\xFF\x42",
+        100,
+    );
+    // REAL -0.6 to BYTE: bit 6
+    run(
+        b"convert",
+        b"\x2B\x09\x02\x00\x00\x04\x00\x00",
+        b"\xEE\xEE\xEE\xEE\x9A\x99\x19\xBF",
+        100,
+    );
+    // INT -1 to WORD: bit 6
+    run(
+        b"convert",
+        b"\x2B\x03\x04\x00\x00\x04\x00\x00",
+        b"\xEE\xEE\xEE\xEE\xFF\xFF",
+        100,
+    );
+    // a NaN to DINT: bit 6
+    run(
+        b"convert",
+        b"\x2B\x09\x05\x00\x00\x04\x00\x00",
+        b"\xEE\xEE\xEE\xEE\x00\x00\xC0\x7F",
+        100,
+    );
+    // an infinity to LWORD: bit 6
+    run(
+        b"convert",
+        b"\x2B\x0A\x08\x00\x00\x08\x00\x00",
+        b"\xEE\xEE\xEE\xEE\xEE\xEE\xEE\xEE\x00\x00\x00\x00\x00\x00\xF0\x7F",
+        100,
+    );
+    // the destination one byte past the data, of a result that is not held: bit 4
+    run(
+        b"convert",
+        b"\x2B\x09\x05\x05\x00\x04\x00\x00",
+        b"\xEE\xEE\xEE\xEE\x00\x00\xC0\x7F",
+        100,
+    );
+    // the source one byte past the data: bit 4
+    run(
+        b"convert",
+        b"\x2B\x09\x05\x00\x00\x05\x00\x00",
+        b"\xEE\xEE\xEE\xEE\x00\x00\xC0\x7F",
+        100,
+    );
+    run(
+        b"convert",
+        b"\x2B\x00\x01\x00\x00\x00\x00\x00",
+        b"\x00",
+        100,
+    );
+    run(
+        b"convert",
+        b"\x2B\x01\x00\x00\x00\x00\x00\x00",
+        b"\x00",
+        100,
+    );
+    run(
+        b"convert",
+        b"\x2B\x0B\x01\x00\x00\x00\x00\x00",
+        b"\x00",
+        100,
+    );
+    run(
+        b"convert",
+        b"\x2B\x01\x0B\x00\x00\x00\x00\x00",
+        b"\x00",
+        100,
+    );
+    run(
+        b"convert",
+        b"\x2B\x0A\xFF\x00\x00\x00\x00\x00",
+        b"\x00",
+        100,
+    );
+    // cut inside its last operand
+    run(b"convert", b"\x2B\x01\x01\x00\x00\x00", b"\x00", 100);
+}
+
 fn main() {
     latches();
     counting();
@@ -724,4 +865,5 @@ fn main() {
     faults();
     typed_ends();
     negations();
+    conversions();
 }

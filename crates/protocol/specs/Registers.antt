@@ -6,7 +6,12 @@ use lib.ListN.{set}
 use Rattle.protocol.specs.declared.Registers.{Registers}
 use Rattle.protocol.specs.declared.Stack.{Stack}
 
--- ---- the flag byte: bit 0 array index, 1 instruction limit, 2 cold start, 3 zero divisor, 4 address beyond the data, 5 seventeenth call
+-- ---- the flag byte: bit 0 array index, 1 instruction limit, 2 cold start, 3 zero divisor, 4 address beyond the data, 5 seventeenth call,
+-- 6 a conversion whose result the destination can't hold (document 02, 2.3)
+
+-- a lawful flag byte is below this: bit 7 alone is none
+abbrev pub flagBound : ℕ
+flagBound = 128
 
 -- bit b on
 unfoldable pub withFlag : ℕ → ℕ → ℕ

@@ -30,6 +30,8 @@ pub const ADDRESS: u8 = 4;
 
 pub const CALL: u8 = 5;
 
+pub const CONVERSION: u8 = 6;
+
 // A core's registers, in C's layout for the lent core table. The call stack stands beside them, so that a step moves no array.
 #[repr(C)]
 pub struct Registers {

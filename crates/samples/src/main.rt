@@ -961,7 +961,9 @@ fn flag_bits(f: &[u8], t: &[u8], s: State) {
     r.flags = 63;
     fit(b"flags 63", f, t, with_core(s, 0, r));
     r.flags = 64;
-    unfit(b"flag bit 6", f, t, with_core(s, 0, r));
+    fit(b"flag bit 6", f, t, with_core(s, 0, r));
+    r.flags = 127;
+    fit(b"flags 127", f, t, with_core(s, 0, r));
     r.flags = 128;
     unfit(b"flag bit 7", f, t, with_core(s, 0, r));
 }

@@ -16,6 +16,7 @@ use Rattle.memory.specs.Memory.{part, start, total, split}
 use Rattle.memory.proofs.Laws.{length-part}
 use Rattle.memory.proofs.Cores.{split-at, start-end}
 use Rattle.code.specs.Code.{isStart}
+use Rattle.protocol.specs.Registers.{flagBound}
 use Rattle.protocol.specs.declared.Registers.{Registers}
 use Rattle.protocol.specs.State.{Core, State as Whole, absent, core}
 use Rattle.protocol.specs.Variables.{readsOf, writesOf}
@@ -110,7 +111,7 @@ record Rules (f t : List ℕ) (holder k : ℕ) (r : Registers) (place offset : �
   cycles : Cycles r (recordCount f t k)
   holds : Holds r holder k
   freed : Freed r place offset
-  flags : r .flags < 64
+  flags : r .flags < flagBound
 
 says-execution : (c : List ℕ) (size most : ℕ) (r : Registers) (place offset : ℕ → ℕ)
     → Says (executionFit c size most r place offset)
@@ -131,7 +132,7 @@ says-rules f t holder k r place offset =
     let all =
     says-both (says-execution (codeOf f k) (dataSize f k) (limit f k) r place offset)
     (says-both (says-exchanges (length (readsOf (variablesOf f) k)) (length (writesOf (variablesOf f) k)) (recordCount f t k) holder k r)
-    (says-both (says-freed r place offset) (says-less (r .flags) 64))) in
+    (says-both (says-freed r place offset) (says-less (r .flags) flagBound))) in
     record {
       tested = λ e.
           let x = all .tested e in

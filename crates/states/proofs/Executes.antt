@@ -25,23 +25,24 @@ use Rattle.states.proofs.Kept.{Bits, Executes}
 
 -- ---- fault bits
 
-fault-six : {b : ℕ} → DataFault b → b < 6
-fault-six (inl e) = omega arith
-fault-six (inr (inl e)) = omega arith
-fault-six (inr (inr e)) = omega arith
+fault-lawful : {b : ℕ} → DataFault b → b < 7
+fault-lawful (inl e) = omega arith
+fault-lawful (inr (inl e)) = omega arith
+fault-lawful (inr (inr (inl e))) = omega arith
+fault-lawful (inr (inr (inr e))) = omega arith
 
--- where the data part's faults are its own, an instruction's are the six of document 01
+-- where the data part's faults are its own, an instruction's are the lawful ones
 controlled-bits : (k : Kind) (next target depth : ℕ) (d : List ℕ) (x : Decided) → ((b : ℕ) → x ≡ refused b → DataFault b)
     → Bits (controlled k next target depth d x .outcome)
 controlled-bits Returns next target depth d x h = tt
 controlled-bits Jumps next target depth d x h = tt
-controlled-bits Branches next target depth d (refused b) h = fault-six (h b refl)
+controlled-bits Branches next target depth d (refused b) h = fault-lawful (h b refl)
 controlled-bits Branches next target depth d (decided made offset m) h = tt
 controlled-bits Calls next target depth d (refused b) h =
-    by-pick (λ (y : Executed). Bits (y .outcome)) (eqb depth 16) (halted 5 d) (halted b d) (λ e. omega arith) (λ e. fault-six (h b refl))
+    by-pick (λ (y : Executed). Bits (y .outcome)) (eqb depth 16) (halted 5 d) (halted b d) (λ e. omega arith) (λ e. fault-lawful (h b refl))
 controlled-bits Calls next target depth d (decided made offset m) h =
     by-pick (λ (y : Executed). Bits (y .outcome)) (eqb depth 16) (halted 5 d) (answer (Call next target offset) d) (λ e. omega arith) (λ e. tt)
-controlled-bits Passes next target depth d (refused b) h = fault-six (h b refl)
+controlled-bits Passes next target depth d (refused b) h = fault-lawful (h b refl)
 controlled-bits Passes next target depth d (decided made offset m) h = tt
 
 executed-bits : (c : List ℕ) (r : Registers) (d : List ℕ) → Bits (executed c r d .outcome)

@@ -16,7 +16,7 @@ use Rattle.protocol.specs.declared.Registers.{Registers}
 use Rattle.protocol.specs.declared.Stack.{Stack}
 use Rattle.protocol.specs.declared.Outcome.{Outcome}
 use Rattle.protocol.specs.declared.Outcome.the-variants.{Fault, Next, Call, Return}
-use Rattle.protocol.specs.Registers.{withFlag, warm, readAcquired, byteCopied, readReleased, writeAcquired, writeReleased, advanced, called, returned, cycleEnded, faulted}
+use Rattle.protocol.specs.Registers.{withFlag, warm, readAcquired, byteCopied, readReleased, writeAcquired, writeReleased, advanced, called, returned, cycleEnded, faulted, flagBound}
 use Rattle.protocol.specs.State.{Core, Semaphore, State, Task, Move, Sample, mode}
 use Rattle.protocol.specs.Step.{acquiredBy, released, left, readTaken, readNext, readDone, writeTaken, writeNext, writeDone, step, Taking, takingOf}
 use Rattle.protocol.specs.Instruction.{Executed, backFrom, appliedBy, applied, halted, limited, instructionBy}
@@ -39,27 +39,27 @@ use Rattle.states.specs.Set.{Set}
 use Rattle.states.proofs.Line.{records-left}
 use Rattle.taskset.proofs.Accepted.{length-listed}
 
--- ---- the flag byte has six bits
+-- ---- the flag byte stays lawful
 
-six : ℕ → ℕ → Bool
-six b f = ltb (withFlag b f) 64
+lawful : ℕ → ℕ → Bool
+lawful b f = ltb (withFlag b f) flagBound
 
 cooler : ℕ → Bool
-cooler f = ltb (warm f) 64
+cooler f = ltb (warm f) flagBound
 
-flag-six : (b f : ℕ) → b < 6 → f < 64 → withFlag b f < 64
-unfolding six withFlag
-flag-six b f h k = ltb→lt (withFlag b f) 64 (below (six b) 64 (below (λ i. upto (six i) 64) 6 tt b h) f k)
+flag-lawful : (b f : ℕ) → b < 7 → f < flagBound → withFlag b f < flagBound
+unfolding lawful withFlag
+flag-lawful b f h k = ltb→lt (withFlag b f) flagBound (below (lawful b) flagBound (below (λ i. upto (lawful i) flagBound) 7 tt b h) f k)
 
-warm-six : (f : ℕ) → f < 64 → warm f < 64
+warm-lawful : (f : ℕ) → f < flagBound → warm f < flagBound
 unfolding cooler warm
-warm-six f k = ltb→lt (warm f) 64 (below cooler 64 tt f k)
+warm-lawful f k = ltb→lt (warm f) flagBound (below cooler flagBound tt f k)
 
 -- ---- an instruction
 
--- a fault has one of the six bits
+-- a fault has one of the lawful bits
 abbrev pub Bits : Outcome → Type 0
-Bits (Fault b) = b < 6
+Bits (Fault b) = b < 7
 Bits (Next p) = Unit {0}
 Bits (Call next target offset) = Unit {0}
 Bits Return = Unit {0}
@@ -71,7 +71,7 @@ record Sane (c c′ : Core) : Type 0 where
   counts : c′ .registers .count ≤ c .registers .count + 1
   exchange : c′ .registers .exchange ≡ c .registers .exchange
   cycles : c′ .registers .cycles ≡ c .registers .cycles
-  flags : c .registers .flags < 64 → c′ .registers .flags < 64
+  flags : c .registers .flags < flagBound → c′ .registers .flags < flagBound
 
 sane-back : (d : ℕ) (m : List ℕ) (c : Core) → mode c ≡ 2 → c .registers .depth ≡ d → Sane c (backFrom d m c)
 unfolding cycleEnded returned
@@ -81,7 +81,7 @@ sane-back (suc d) m c e h = record { modes = inl e; shallow = λ f. absurd (omeg
 sane : (o : Outcome) (m : List ℕ) (c : Core) → mode c ≡ 2 → Bits o → Sane c (appliedBy o m c)
 unfolding faulted advanced called
 sane (Fault b) m c e h =
-    record { modes = inr (inr refl); shallow = λ f. absurd (omega arith); counts = omega arith; exchange = refl; cycles = refl; flags = flag-six b (c .registers .flags) h }
+    record { modes = inr (inr refl); shallow = λ f. absurd (omega arith); counts = omega arith; exchange = refl; cycles = refl; flags = flag-lawful b (c .registers .flags) h }
 sane (Next p) m c e h = record { modes = inl e; shallow = λ f. absurd (omega arith); counts = omega arith; exchange = refl; cycles = refl; flags = λ f. f }
 sane (Call next target offset) m c e h =
     record { modes = inl e; shallow = λ f. absurd (omega arith); counts = omega arith; exchange = refl; cycles = refl; flags = λ f. f }
@@ -311,7 +311,7 @@ module _ (f t : List ℕ) (ok : Set f t) (ex : Executes f t) (k : ℕ) (s : Stat
         outside = λ a b. refl;
         cycles = omega (arith, x .under-way (omega arith) (omega arith));
         under-way = λ a b. absurd (omega arith);
-        flags = warm-six (at s k .registers .flags) (x .flags);
+        flags = warm-lawful (at s k .registers .flags) (x .flags);
         size = x .size;
       }
 

@@ -9,6 +9,7 @@ use lib.ListN.{getD, length}
 use lib.Dec.{ltb, leb, eqb}
 use Rattle.verdict.specs.Verdict.{pick, both, either, within, upto, unless}
 use Rattle.code.specs.Code.{isStart}
+use Rattle.protocol.specs.Registers.{flagBound}
 use Rattle.protocol.specs.declared.Registers.{Registers}
 use Rattle.protocol.specs.State.{Core, State as Whole, core, mode}
 use Rattle.protocol.specs.Variables.{readsOf, writesOf}
@@ -76,12 +77,12 @@ executionFit c size most r place offset =
 unfoldable pub exchangesFit : ℕ → ℕ → ℕ → ℕ → ℕ → Registers → Bool
 exchangesFit reads writes count holder k r = both (exchangeFit reads writes r) (both (cyclesFit count r) (holderFit holder k r))
 
--- all rules; flag bits 6, 7 are not set
+-- all rules; flag bit 7 is not set
 unfoldable pub coreFit : List ℕ → List ℕ → ℕ → ℕ → Registers → (ℕ → ℕ) → (ℕ → ℕ) → Bool
 coreFit f t holder k r place offset =
     both (executionFit (codeOf f k) (dataSize f k) (limit f k) r place offset)
     (both (exchangesFit (length (readsOf (variablesOf f) k)) (length (writesOf (variablesOf f) k)) (recordCount f t k) holder k r)
-    (both (freedFit r place offset) (ltb (r .flags) 64)))
+    (both (freedFit r place offset) (ltb (r .flags) flagBound)))
 
 -- core k of a state
 unfoldable pub fitAt : List ℕ → List ℕ → State → ℕ → Bool
@@ -121,7 +122,7 @@ pub record FitCore (f t : List ℕ) (k : ℕ) (c : Core) : Type 0 where
   pub outside : mode c ≢ 1 → mode c ≢ 4 → c .registers .exchange ≡ 0
   pub cycles : c .registers .cycles ≤ recordCount f t k
   pub under-way : 1 ≤ mode c → mode c ≤ 4 → c .registers .cycles < recordCount f t k
-  pub flags : c .registers .flags < 64
+  pub flags : c .registers .flags < flagBound
   pub size : length (c .memory) ≡ dataSize f k
 
 -- The state: its n cores, the semaphore and its line, and lent memory of the right size

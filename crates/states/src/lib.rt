@@ -119,7 +119,7 @@ const ENTRIES: usize = 16; // of a call stack
 
 const CALLS: u8 = 16; // that may be open
 
-const FLAGS: u8 = 64; // above the six flag bits
+const FLAGS: u8 = 128; // above the lawful flag bits: bit 7 alone is none
 
 const LINE: usize = 4; // entries of a line
 

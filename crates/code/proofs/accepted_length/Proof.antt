@@ -67,8 +67,12 @@ plain-length-requires-9 : tie.Need-plain-length-requires-9
 unfolding instructionLength instructionAt typedAt lengthOf layoutOf pick
 plain-length-requires-9 c κs = (c .before .before .before .pre, omega arith, record { own = λ _. rw (c .match .keys13); all = λ _. rw (c .match .keys13) }, rw (c .match .keys13))
 
+conversion-length-requires : tie.Need-conversion-length-requires
+unfolding instructionLength instructionAt typedAt lengthOf layoutOf pick
+conversion-length-requires c κs = (c .before .before .before .pre, record { own = λ _. rw (c .match .keys14); all = λ _. rw (c .match .keys14) }, rw (c .match .keys14))
+
 typed-length-requires-2 : tie.Need-typed-length-requires-2
-typed-length-requires-2 c κs = let n = c .match .rest in let b = c .before .before .shared-slice-known .given (c .before .before .before .args .p) .fits in let o : operandsOk (instructionAt (c .before .before .before .args .code .now) (c .before .before .before .args .p)) ≡ takes (byte (c .before .before .before .args .code .now) (c .before .before .before .args .p)) (byte (c .before .before .before .args .code .now) (c .before .before .before .args .p + 1)) = ap operandsOk (typed-left _ _ (n .0 .0 .0 .0 .0 .0 .0 .0 .0 .0 .0 .0 .1) (n .0 .0 .0 .0 .0 .0 .0 .0 .0 .0 .0 .1) (n .0 .0 .0 .0 .0 .0 .0 .0 .0 .0 .1) (n .0 .0 .0 .0 .0 .0 .0 .0 .0 .1) (n .0 .0 .0 .0 .0 .0 .0 .0 .1) (n .0 .0 .0 .0 .0 .0 .0 .1) (n .0 .0 .0 .0 .0 .0 .1) (n .0 .0 .0 .0 .0 .1) (n .0 .0 .0 .0 .1) (n .0 .0 .0 .1) (n .0 .1) (n .1)) ∙ typed-takes _ _ b in (c .before .before .before .pre, omega arith, typed-sized _ _ b (n .0 .0 .0 .0 .0 .0 .1) (n .0 .0 .1) o, o)
+typed-length-requires-2 c κs = let n = c .match .rest in let b = c .before .before .shared-slice-known .given (c .before .before .before .args .p) .fits in let o : operandsOk (instructionAt (c .before .before .before .args .code .now) (c .before .before .before .args .p)) ≡ takes (byte (c .before .before .before .args .code .now) (c .before .before .before .args .p)) (byte (c .before .before .before .args .code .now) (c .before .before .before .args .p + 1)) = ap operandsOk (typed-left _ _ (n .0 .0 .0 .0 .0 .0 .0 .0 .0 .0 .0 .0 .0 .1) (n .0 .0 .0 .0 .0 .0 .0 .0 .0 .0 .0 .0 .1) (n .0 .0 .0 .0 .0 .0 .0 .0 .0 .0 .0 .1) (n .0 .0 .0 .0 .0 .0 .0 .0 .0 .0 .1) (n .0 .0 .0 .0 .0 .0 .0 .0 .0 .1) (n .0 .0 .0 .0 .0 .0 .0 .0 .1) (n .0 .0 .0 .0 .0 .0 .0 .1) (n .0 .0 .0 .0 .0 .0 .1) (n .0 .0 .0 .0 .0 .1) (n .0 .0 .0 .0 .1) (n .0 .0 .1) (n .0 .1) (n .1)) ∙ typed-takes _ _ b in (c .before .before .before .pre, omega arith, typed-sized _ _ b (n .0 .0 .0 .0 .0 .0 .0 .1) (n .0 .0 .0 .1) o, o)
 
 returns : tie.Need-returns
 returns c = search needs
@@ -112,6 +116,9 @@ returns-13 c = search needs
 returns-14 : tie.Need-returns-14
 returns-14 c = search needs
 
+returns-15 : tie.Need-returns-15
+returns-15 c = search needs
+
 pub accepted-length-spec : {M : Type 1} → statement M
 accepted-length-spec =
     tie.close
@@ -130,6 +137,7 @@ accepted-length-spec =
     typed-length-requires
     plain-length-requires-8
     plain-length-requires-9
+    conversion-length-requires
     typed-length-requires-2
     returns
     returns-2
@@ -144,4 +152,5 @@ accepted-length-spec =
     returns-11
     returns-12
     returns-13
-    returns-14)
+    returns-14
+    returns-15)

@@ -187,6 +187,34 @@ word-requires-22 : tie.Need-word-requires-22
 unfolding lengthOf layoutOf pick
 word-requires-22 c κs = omega (arith, length-at _ (c .match .keys12))
 
+add-t60 : tie.Need-add-t60
+add-t60 c = search needs
+
+shared-slice-read-t62 : tie.Need-shared-slice-read-t62
+unfolding lengthOf layoutOf pick
+shared-slice-read-t62 c = omega (arith, length-at _ (c .before .match .keys13))
+
+add-t63 : tie.Need-add-t63
+add-t63 c = search needs
+
+shared-slice-read-t65 : tie.Need-shared-slice-read-t65
+unfolding lengthOf layoutOf pick
+shared-slice-read-t65 c = omega (arith, length-at _ (c .before .before .match .keys13))
+
+add-word-23 : tie.Need-add-word-23
+add-word-23 c = search needs
+
+word-requires-23 : tie.Need-word-requires-23
+unfolding lengthOf layoutOf pick
+word-requires-23 c κs = omega (arith, length-at _ (c .before .before .match .keys13))
+
+add-word-24 : tie.Need-add-word-24
+add-word-24 c = search needs
+
+word-requires-24 : tie.Need-word-requires-24
+unfolding lengthOf layoutOf pick
+word-requires-24 c κs = omega (arith, length-at _ (c .before .before .before .match .keys13))
+
 typed-requires : tie.Need-typed-requires
 typed-requires c κs = search needs
 
@@ -239,7 +267,11 @@ unfolding instructionAt typedAt pick
 returns-12 c = rw (c .before .match .keys12, c .word22 .ensures)
 
 returns-13 : tie.Need-returns-13
-returns-13 c = let n = c .before .match .rest in c .typed .ensures ∙ sym (typed-left _ _ (n .0 .0 .0 .0 .0 .0 .0 .0 .0 .0 .0 .1) (n .0 .0 .0 .0 .0 .0 .0 .0 .0 .0 .1) (n .0 .0 .0 .0 .0 .0 .0 .0 .0 .1) (n .0 .0 .0 .0 .0 .0 .0 .0 .1) (n .0 .0 .0 .0 .0 .0 .0 .1) (n .0 .0 .0 .0 .0 .0 .1) (n .0 .0 .0 .0 .0 .1) (n .0 .0 .0 .0 .1) (n .0 .0 .0 .1) (n .0 .0 .1) (n .0 .1) (n .1))
+unfolding instructionAt typedAt pick
+returns-13 c = rw (c .before .before .before .before .match .keys13, c .word24 .ensures, c .before .word23 .ensures)
+
+returns-14 : tie.Need-returns-14
+returns-14 c = let n = c .before .match .rest in c .typed .ensures ∙ sym (typed-left _ _ (n .0 .0 .0 .0 .0 .0 .0 .0 .0 .0 .0 .0 .1) (n .0 .0 .0 .0 .0 .0 .0 .0 .0 .0 .0 .1) (n .0 .0 .0 .0 .0 .0 .0 .0 .0 .0 .1) (n .0 .0 .0 .0 .0 .0 .0 .0 .0 .1) (n .0 .0 .0 .0 .0 .0 .0 .0 .1) (n .0 .0 .0 .0 .0 .0 .0 .1) (n .0 .0 .0 .0 .0 .0 .1) (n .0 .0 .0 .0 .0 .1) (n .0 .0 .0 .0 .1) (n .0 .0 .0 .1) (n .0 .0 .1) (n .0 .1) (n .1))
 
 pub decode-spec : {M : Type 1} → statement M
 decode-spec =
@@ -296,6 +328,14 @@ decode-spec =
     word-requires-21
     add-word-22
     word-requires-22
+    add-t60
+    shared-slice-read-t62
+    add-t63
+    shared-slice-read-t65
+    add-word-23
+    word-requires-23
+    add-word-24
+    word-requires-24
     typed-requires
     returns
     returns-2
@@ -309,4 +349,5 @@ decode-spec =
     returns-10
     returns-11
     returns-12
-    returns-13)
+    returns-13
+    returns-14)

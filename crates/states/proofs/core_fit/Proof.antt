@@ -5,6 +5,7 @@ use Prim.Native.Nat.{ℕ, _+_, _-_, _≤_, _<_}
 use native.Mathlib.Omega.{arith}
 use lib.Dec.{ltb}
 use lib.ListN.{length, getD, take, drop}
+use Rattle.protocol.specs.Registers.{flagBound}
 use Rattle.verdict.specs.Verdict.{both}
 use Rattle.memory.specs.Memory.{part}
 use Rattle.records.specs.File.{cores}
@@ -39,7 +40,7 @@ module _ (f t : List ℕ) (k : ℕ) (task : CoreTask) (e : task ≡ coreTask f t
   by-task : (s : State)
       → both (executionFit (lent f task) (task .size) (task .limit) (getD (s .cores) k none) (entry (s .places) k) (entry (s .offsets) k))
       (both (exchangesFit (task .reads) (task .writes) (task .count) (s .semaphore .holder) k (getD (s .cores) k none))
-      (both (freedFit (getD (s .cores) k none) (entry (s .places) k) (entry (s .offsets) k)) (ltb (getD (s .cores) k none .flags) 64)))
+      (both (freedFit (getD (s .cores) k none) (entry (s .places) k) (entry (s .offsets) k)) (ltb (getD (s .cores) k none .flags) flagBound)))
       ≡ fitAt f t s k
   unfolding fitAt coreFit coreTask
   by-task s = rw (code-is, e)

@@ -1,0 +1,32 @@
+-- The types and the places are those that stand in the code; how the conversion ended is how the instruction ends.
+use mathlib.Core.Path.{refl}
+use native.Mathlib.Omega.{arith}
+use borrow.Author.Needs.{needs}
+use Rattle.processor.proofs.Commands.{conversion-done}
+use Rattle.processor.proofs.convert.Statement.{statement}
+use Rattle.processor.proofs.convert.Tie as tie
+
+convert-at-requires : tie.Need-convert-at-requires
+convert-at-requires c κs = (c .before .before .before .before .before .before .before .before .pre .1, c .before .before .before .before .before .before .before .before .pre .2, c .before .before .operand .ensures .1, c .before .operand2 .ensures .1)
+
+returns : tie.Need-returns
+returns c = conversion-done _ _ _ _ _ _ _ _ _ _ (c .before .before .before .before .before .before .before .before .before .before .before .before .before .pre .0 .here) refl refl (c .before .before .before .before .before .before .before .operand .ensures .0) (c .before .before .before .before .before .before .operand2 .ensures .0) (c .before .before .before .before .convert-at .ensures) (c .conversion-outcome .ensures)
+
+pub convert-spec : {M : Type 1} → statement M
+convert-spec =
+    tie.close
+    (tie.spec
+    (λ c. search needs)
+    (λ c. search needs)
+    (λ c. search needs)
+    (λ c. search needs)
+    (λ c. search needs)
+    (λ c. search needs)
+    (λ c κs. search needs)
+    (λ c. search needs)
+    (λ c κs. search needs)
+    convert-at-requires
+    (λ c. search needs)
+    (λ c κs. search needs)
+    (λ c. search needs)
+    returns)
