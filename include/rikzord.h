@@ -28,7 +28,8 @@ struct rikzord_core {
     uint16_t cycles;
     uint8_t mode;      /* 0 between cycles, 1 reading, 2 executing, 3 waiting to write, 4 writing, 5 stopped */
     uint8_t depth;     /* open calls */
-    uint8_t flags;
+    uint8_t flags;     /* bits: 0 array index, 1 instruction limit, 2 cold start, 3 zero divisor, 4 address beyond the data, 5 seventeenth call,
+                        * 6 a conversion whose result the destination can't hold; bit 7 makes a state unfit (23) */
     uint8_t spare[3];
     uint16_t places[16];  /* return places */
     uint16_t offsets[16]; /* the data offsets that go with them */

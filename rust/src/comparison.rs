@@ -50,7 +50,7 @@ impl Tally {
         missing.extend(names.filter(|name| !self.damages.contains_key(name)).map(|name| format!("damage: {name}")));
         let codes = (0..=255).filter(|&code| crate::reference::LENGTHS[code as usize] != 0);
         missing.extend(codes.filter(|&code| !self.commands.contains_key(&(code, true))).map(|code| format!("command {code}")));
-        let bits = [flag::ARRAY_INDEX, flag::INSTRUCTION_LIMIT, flag::ZERO_DIVISOR, flag::BEYOND_DATA, flag::NESTED_CALL];
+        let bits = [flag::ARRAY_INDEX, flag::INSTRUCTION_LIMIT, flag::ZERO_DIVISOR, flag::BEYOND_DATA, flag::NESTED_CALL, flag::NOT_HELD];
         missing
             .extend(bits.into_iter().filter(|bit| !self.faults.contains_key(bit)).map(|bit| format!("fault bit {}", bit.trailing_zeros())));
         missing

@@ -165,6 +165,12 @@ impl Program {
         self.words(code, &[address])
     }
 
+    /// CONVERT: from-type and to-type, destination and source.
+    pub fn convert(self, from: u8, to: u8, destination: u16, source: u16) -> Program {
+        let words = [destination, source].map(u16::to_le_bytes).concat();
+        self.raw(&[&[CONVERT, from, to], &words[..]].concat())
+    }
+
     /// Where each instruction that was written starts.
     pub fn starts(&self) -> &[u16] {
         &self.starts

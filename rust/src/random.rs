@@ -142,6 +142,11 @@ fn any_typed(random: &mut Random) -> (u8, u8) {
     (code, random.pick(&kinds))
 }
 
+fn any_conversion(random: &mut Random) -> (u8, u8) {
+    let kinds: Vec<u8> = (SINT..=LREAL).collect();
+    (random.pick(&kinds), random.pick(&kinds))
+}
+
 /// An address that mostly lies within the data, often at its end, sometimes anywhere.
 fn address(random: &mut Random, data_size: usize, width: usize) -> u16 {
     let last = data_size.saturating_sub(width);
@@ -182,7 +187,7 @@ fn code(random: &mut Random, data_size: usize) -> Code {
 /// One instruction, at times with another before it that gives an index or a divisor. Places of targets are noted for later.
 fn any_instruction(random: &mut Random, program: Program, data_size: usize, targets: &mut Vec<u16>) -> Program {
     let at = |random: &mut Random, width| address(random, data_size, width);
-    match random.below(24) {
+    match random.below(26) {
         0 => program.returns(),
         1 => {
             targets.push(program.here() + 1);
@@ -221,6 +226,14 @@ fn any_instruction(random: &mut Random, program: Program, data_size: usize, targ
             program.element(random.pick(&[AURD, AUWD]), at(random, size), at(random, 3 * size), index, size as u8, count)
         }
         13 => program.register(random.pick(&[CYCLE_TIME, FLAG_BYTE]), at(random, 4)),
+        14..=15 => {
+            let (from, to) = any_conversion(random);
+            let [width, wide] = [from, to].map(|kind| WIDTHS[kind as usize] as usize);
+            let source = at(random, width);
+            let number = operand(random, from);
+            let program = if random.once_in(2) { program } else { program.constant(source, &number[..width]) };
+            program.convert(from, to, at(random, wide), source)
+        }
         _ => {
             let (code, kind) = any_typed(random);
             let width = WIDTHS[kind as usize] as usize;
@@ -420,6 +433,8 @@ pub fn command(random: &mut Random) -> Case {
         // An element whose place passes 65,535 by so little that its low 16 bits lie within the data.
         let (index, last) = (ABSOLUTE, MOST_ELEMENTS - 1);
         Program::new().constant(index, &last.to_le_bytes()).element(random.pick(&[AURD, AUWD]), 0, ABSOLUTE - 1, index, 8, MOST_ELEMENTS)
+    } else if random.once_in(3) {
+        conversion(random, &mut buffer)
     } else {
         let (code, kind) = any_typed(random);
         let width = WIDTHS[kind as usize] as usize;
@@ -453,6 +468,40 @@ pub fn command(random: &mut Random) -> Case {
         damages: Vec::new(),
         expected: Some(refusal::NONE),
     }
+}
+
+/// A conversion of a telling number; both places are absolute, the destination's at times one byte past the data.
+fn conversion(random: &mut Random, buffer: &mut [u8]) -> Program {
+    let (from, to) = any_conversion(random);
+    let [width, wide] = [from, to].map(|kind| WIDTHS[kind as usize] as usize);
+    let source = random.between(0, buffer.len() - width);
+    let number = if random.once_in(2) { near_an_edge(random, from, to) } else { operand(random, from) };
+    buffer[source..source + width].copy_from_slice(&number[..width]);
+    let last = buffer.len() - wide;
+    let destination = if random.once_in(20) { last + 1 } else { random.between(0, last) };
+    Program::new().convert(from, to, destination as u16 + ABSOLUTE, source as u16 + ABSOLUTE)
+}
+
+/// A number of the first type near a power of two, or halfway between two numbers of the second.
+fn near_an_edge(random: &mut Random, from: u8, to: u8) -> [u8; 8] {
+    let power = (1u128 << random.between(0, 64)) as f64;
+    let half = random.pick(&[0.0, 0.5, 1.0, 1.5, -0.5, -1.0, 0.25, 0.75]);
+    let sign = random.pick(&[1.0, -1.0]);
+    let digits = random.draw() >> random.below(64);
+    match from {
+        REAL => ((sign * (power + half)) as f32).to_bits().wrapping_add(random.below(3) as u32).wrapping_sub(1) as u64,
+        // Halfway between two neighbouring REALs, and beside it.
+        LREAL if to == REAL => {
+            let low = f32::from_bits(random.draw() as u32 % 0x7F80_0000);
+            let high = f32::from_bits(low.to_bits() + 1) as f64;
+            let high = if high.is_finite() { high } else { 2f64.powi(128) };
+            (sign * ((low as f64 + high) / 2.0)).to_bits().wrapping_add(random.below(3) as u64).wrapping_sub(1)
+        }
+        LREAL => (sign * (power + half)).to_bits().wrapping_add(random.below(3) as u64).wrapping_sub(1),
+        // Longer than a float's digits, with a one far below.
+        _ => (digits & !0xFF_FFFF_FFFF) | random.draw() % 3 | 1 << random.below(64),
+    }
+    .to_le_bytes()
 }
 
 // ---- damages
@@ -673,6 +722,10 @@ pub const FILE_DAMAGES: &[FileDamage] = &[
         let others: Vec<u8> = (0..=255).filter(|&kind| !takes_type(bytes[start], kind) && !(32..=250).contains(&kind)).collect();
         bytes[start + 1] = random.pick(&others);
         true
+    }),
+    ("type of a conversion", refusal::CODE, |random, draft| {
+        let (at, kind) = (random.between(1, 2), random.pick(&[BOOL, TIME, 12, 255]));
+        set_operand(random, draft, &[CONVERT], at, kind)
     }),
     ("MCD length", refusal::CODE, |random, draft| {
         let count = random.pick(&[0, 9, 255]);
@@ -901,9 +954,9 @@ pub const STATE_DAMAGES: &[StateDamage] = &[
             true
         })
     }),
-    ("flag bits 6 and 7", |random, _, _, case| {
+    ("flag bit 7", |random, _, _, case| {
         in_modes(random, case, EVERY_MODE, |random, _, core| {
-            core.registers.flags |= random.pick(&[64, 128, 192]);
+            core.registers.flags |= random.pick(&[128, 192]);
             true
         })
     }),

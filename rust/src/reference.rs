@@ -63,6 +63,7 @@ pub mod command {
     pub const NE: u8 = 37;
     pub const CYCLE_TIME: u8 = 41;
     pub const FLAG_BYTE: u8 = 42;
+    pub const CONVERT: u8 = 43;
 }
 
 /// The types by type byte.
@@ -101,8 +102,9 @@ pub mod flag {
     pub const ZERO_DIVISOR: u8 = 1 << 3;
     pub const BEYOND_DATA: u8 = 1 << 4;
     pub const NESTED_CALL: u8 = 1 << 5;
-    /// Bits 6 and 7 are never set in a fit state.
-    pub const UNUSED: u8 = 3 << 6;
+    pub const NOT_HELD: u8 = 1 << 6;
+    /// Bit 7 is never set in a fit state.
+    pub const UNUSED: u8 = 1 << 7;
 }
 
 pub const FILE_MARK: [u8; 4] = *b"MCS1";
@@ -137,7 +139,7 @@ const fn lengths() -> [u8; 256] {
             JMP | CALF | CYCLE_TIME | FLAG_BYTE => 3,
             JZ | JNZ | CALB => 5,
             MCD => 4,
-            MEMCP => 7,
+            MEMCP | CONVERT => 7,
             AURD | AUWD => 10,
             NOT => 6,
             ADD..=MOD | AND..=XOR | SHL..=ROR | GT..=NE => 8,
@@ -454,6 +456,7 @@ fn judge_code(code: &[u8], starts: &mut CodePlaces) -> Judged<()> {
                 demand((1..=MOST_ELEMENTS).contains(&word(instruction, 8)), refusal::CODE)?;
             }
             ADD..=NE => demand(takes_type(last, instruction[1]), refusal::CODE)?,
+            CONVERT => demand(instruction[1..3].iter().all(|kind| (SINT..=LREAL).contains(kind)), refusal::CODE)?,
             _ => {}
         }
         starts.add(at);
@@ -720,6 +723,64 @@ fn typed(code: u8, kind: u8, data: &mut [u8], o: &Operands) -> Result<(), Fault>
     }
 }
 
+/// A number on its way from one type to another: a whole number of any type, or a float, which an LREAL holds exactly.
+#[derive(Clone, Copy)]
+enum Number {
+    Whole(i128),
+    Float(f64),
+}
+
+impl Number {
+    fn of(kind: u8, bytes: &[u8]) -> Number {
+        match kind {
+            REAL => Number::Float(f32::of(bytes) as f64),
+            LREAL => Number::Float(f64::of(bytes)),
+            _ => wholes!(kind, T, Number::Whole(T::of(bytes) as i128)),
+        }
+    }
+
+    /// The nearest whole number, ties to even; none of NaN, an infinity or what lies far beyond every type.
+    fn whole(self) -> Option<i128> {
+        match self {
+            Number::Whole(number) => Some(number),
+            Number::Float(number) if number.abs() < 1e30 => Some(number.round_ties_even() as i128),
+            Number::Float(_) => None,
+        }
+    }
+
+    /// Stores it as one of the type; tells whether the type can hold it.
+    fn put(self, kind: u8, bytes: &mut [u8]) -> bool {
+        match (kind, self) {
+            (REAL, Number::Whole(number)) => (number as f32).put(bytes),
+            (REAL, Number::Float(number)) => (number as f32).put(bytes),
+            (LREAL, Number::Whole(number)) => (number as f64).put(bytes),
+            (LREAL, Number::Float(number)) => number.put(bytes),
+            _ => {
+                return wholes!(kind, T, match self.whole().map(T::try_from) {
+                    Some(Ok(number)) => {
+                        number.put(bytes);
+                        true
+                    }
+                    _ => false,
+                })
+            }
+        }
+        true
+    }
+}
+
+/// Code 43 (document 02, 2.3): both addresses first, then whether the destination can hold the result.
+#[inline(always)]
+fn convert(from: u8, to: u8, data: &mut [u8], destination: usize, source: usize) -> Result<(), Fault> {
+    let number = Number::of(from, stretch(data, source, WIDTHS[from as usize] as usize)?);
+    let place = stretch_mut(data, destination, WIDTHS[to as usize] as usize)?;
+    if number.put(to, place) {
+        Ok(())
+    } else {
+        Err(flag::NOT_HELD)
+    }
+}
+
 /// AURD and AUWD: variable and index, then the index's range, then the chosen element.
 #[inline(always)]
 fn element(reads: bool, instruction: &[u8; 10], offset: u16, data: &mut [u8]) -> Result<(), Fault> {
@@ -812,6 +873,11 @@ fn execute(code: &[u8], core: &mut Core, data: &mut [u8]) -> Result<u16, Fault> 
             let i = instruction::<3>(code, counter);
             r.flags.put(stretch_mut(data, resolve(offset, word(i, 1)), u8::WIDTH)?);
             Ok(counter + 3)
+        }
+        CONVERT => {
+            let i = instruction::<7>(code, counter);
+            convert(i[1], i[2], data, resolve(offset, word(i, 3)), resolve(offset, word(i, 5)))?;
+            Ok(counter + 7)
         }
         _ => unreachable!("the loader admits no other code"),
     }

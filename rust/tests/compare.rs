@@ -61,6 +61,12 @@ enum Mistake {
     PastTheLineKept,
     /// Says that a core in line moves.
     CoreInLineMoves,
+    /// Refuses a state with flag bit 6.
+    BitSixUnfit,
+    /// Goes on where the destination of a conversion can't hold the result.
+    NotHeldGoesOn,
+    /// Tells it as an address beyond the data.
+    NotHeldIsBeyond,
 }
 
 /// The records of core `core` that are left, where the trace is sound.
@@ -171,6 +177,9 @@ impl Machine for Wrong {
                 semaphore.line.swap(0, place);
             }
         }
+        if self.0 == Mistake::BitSixUnfit && table.iter().any(|core| core.registers.flags & flag::NOT_HELD != 0) {
+            return refusal::UNFIT;
+        }
         let number = reference::step(file, trace, table, semaphore, buffer, shared, core, taken);
         if number == refusal::NONE {
             let k = core as usize;
@@ -178,6 +187,16 @@ impl Machine for Wrong {
             *semaphore = wrong_line(self.0, core, left, on_entry, *semaphore, before[k].registers.mode, table[k].registers.mode);
         } else {
             *semaphore = on_entry;
+        }
+        for (core, before) in table.iter_mut().zip(&before) {
+            let r = &mut core.registers;
+            if r.flags & !before.registers.flags == flag::NOT_HELD {
+                match self.0 {
+                    Mistake::NotHeldGoesOn => (r.flags, r.mode) = (before.registers.flags, before.registers.mode),
+                    Mistake::NotHeldIsBeyond => r.flags ^= flag::NOT_HELD | flag::BEYOND_DATA,
+                    _ => {}
+                }
+            }
         }
         if let (refusal::NONE, Some((dividend, to))) = (number, mod_by_zero(file, &before, &data, core)) {
             match self.0 {
@@ -261,6 +280,9 @@ fn wrong_machines_are_seen() {
         TakingKeepsTheLine,
         PastTheLineKept,
         CoreInLineMoves,
+        BitSixUnfit,
+        NotHeldGoesOn,
+        NotHeldIsBeyond,
     ] {
         let compared = catch_unwind(AssertUnwindSafe(|| compare(&Reference, &Wrong(mistake), 4, 2000)));
         assert!(compared.is_err(), "{mistake:?} went unseen");

@@ -286,6 +286,11 @@ fn edges_of_code() {
         (&[ADD, TIME, 0, 0, 0, 0, 0, 0, RETURN], 0),
         (&[MUL, TIME, 0, 0, 0, 0, 0, 0, RETURN], 6),
         (&[MOD, REAL, 0, 0, 0, 0, 0, 0, RETURN], 6),
+        (&[CONVERT, SINT, LREAL, 0, 0, 0, 0, RETURN], 0),
+        (&[CONVERT, BOOL, LREAL, 0, 0, 0, 0, RETURN], 6),
+        (&[CONVERT, SINT, TIME, 0, 0, 0, 0, RETURN], 6),
+        (&[CONVERT, TIME, SINT, 0, 0, 0, 0, RETURN], 6),
+        (&[CONVERT, SINT, LREAL, 0, 0, 0], 6),
         (&[SHL, BOOL, 0, 0, 0, 0, 0, 0, RETURN], 6),
         (&[GT, 12, 0, 0, 0, 0, 0, 0, RETURN], 6),
         (&[GT, TIME, 0, 0, 0, 0, 0, 0], 7),
@@ -308,7 +313,7 @@ fn length_table() {
         1 | 5 | 41 | 42 => 3,
         2..=4 => 5,
         6 => 4,
-        7 => 7,
+        7 | 43 => 7,
         8 | 9 => 10,
         27 => 6,
         16..=20 | 24..=26 | 28..=37 => 8,
@@ -501,6 +506,63 @@ fn faults_and_addresses() {
     }
 }
 
+/// Document 02, 2.3: its own numbers, and the edges that its rules name.
+#[test]
+fn conversions() {
+    let real = |number: f32| number.to_bits() as u64;
+    let lreal = |number: f64| number.to_bits();
+    let held: Vec<(u8, u8, u64, u64)> = vec![
+        (REAL, INT, real(2.5), 2),
+        (REAL, INT, real(3.5), 4),
+        (REAL, INT, real(-0.5), 0),
+        (REAL, BYTE, real(-0.5), 0),
+        (REAL, SINT, real(127.4), 127),
+        (LREAL, SINT, lreal(-128.5), 0x80),
+        (DINT, REAL, 16_777_217, real(16_777_216.0)),
+        // Through LREAL it would round twice.
+        (LINT, REAL, (1 << 60) + (1 << 36) + 1, 0x5D80_0001),
+        (LREAL, REAL, lreal(1e300), real(f32::INFINITY)),
+        (LREAL, REAL, 0x47EF_FFFF_EFFF_FFFF, real(f32::MAX)),
+        (LREAL, REAL, 0x47EF_FFFF_F000_0000, real(f32::INFINITY)),
+        (LREAL, REAL, lreal(-0.0), real(-0.0)),
+        (REAL, REAL, 0xFFFF_FFFF, 0x7FC0_0000),
+        (REAL, LREAL, 0x7F80_0001, 0x7FF8_0000_0000_0000),
+        (SINT, LINT, 0x80, -128i64 as u64),
+        (LWORD, LREAL, u64::MAX, lreal(18_446_744_073_709_551_616.0)),
+    ];
+    let lost: Vec<(u8, u8, u64)> = vec![
+        (REAL, SINT, real(127.5)),
+        (REAL, BYTE, real(-0.6)),
+        (REAL, DINT, real(f32::NAN)),
+        (REAL, LINT, real(f32::NEG_INFINITY)),
+        (LREAL, LWORD, lreal(18_446_744_073_709_551_616.0)),
+        (SINT, BYTE, 0xFF),
+        (WORD, SINT, 128),
+    ];
+    for machine in machines() {
+        let after = |from, to, number: u64| {
+            let mut data = [0xEE; 16];
+            data[8..].copy_from_slice(&number.to_le_bytes());
+            outcome(&*machine, data, Program::new().convert(from, to, 0, 8))
+        };
+        for &(from, to, number, result) in &held {
+            let width = WIDTHS[to as usize] as usize;
+            let (flags, data) = after(from, to, number);
+            assert_eq!((flags, &data[..width]), (0, &result.to_le_bytes()[..width]), "{from} to {to}, {number:x}");
+            assert!(data[width..8].iter().all(|&byte| byte == 0xEE));
+        }
+        for &(from, to, number) in &lost {
+            let (flags, data) = after(from, to, number);
+            assert_eq!((flags, &data[..8]), (flag::NOT_HELD, &[0xEE; 8][..]), "{from} to {to}, {number:x}");
+        }
+        // Bit 6 is tried last.
+        let beyond = Program::new().convert(SINT, BYTE, 16, 0);
+        assert_eq!(outcome(&*machine, [0xFF; 16], beyond), (flag::BEYOND_DATA, vec![0xFF; 16]));
+        let beyond = Program::new().convert(LREAL, BYTE, 0, 9);
+        assert_eq!(outcome(&*machine, [0xFF; 16], beyond), (flag::BEYOND_DATA, vec![0xFF; 16]));
+    }
+}
+
 #[test]
 fn calls_with_an_instance() {
     // 0: CALB 4; 5: RETURN; 6 (at offset 4): MCD 1; 11: CALB 2; 16: RETURN
@@ -634,7 +696,7 @@ fn fitness() {
         let register = |change: &dyn Fn(&mut Registers)| judged(&|plant| change(&mut plant.table[1].registers));
         // Fit, however odd.
         assert_eq!(register(&|r| r.mode = mode::STOPPED), 0);
-        assert_eq!(register(&|r| r.flags = 0x3F), 0);
+        assert_eq!(register(&|r| r.flags = 0x7F), 0);
         assert_eq!(register(&|r| r.offset = 15), 0);
         assert_eq!(register(&|r| r.cycles = 2), 0);
         assert_eq!(register(&|r| r.count = 9), 0);
@@ -645,7 +707,7 @@ fn fitness() {
         };
         assert_eq!((reading(0), reading(2), reading(3)), (0, 0, 23));
         // Unfit.
-        assert_eq!(register(&|r| r.flags = 0x40), 23);
+        assert_eq!(register(&|r| r.flags = 0x80), 23);
         assert_eq!(register(&|r| r.offset = 16), 23);
         assert_eq!(register(&|r| r.counter = 1), 23);
         assert_eq!(register(&|r| r.cycles = 3), 23);
