@@ -13,7 +13,7 @@ use Rattle.verdict.specs.Verdict.{pick}
 use Rattle.verdict.proofs.Verdict.{absurd-bool, by-pick}
 use Rattle.memory.specs.Memory.{byte}
 use Rattle.code.specs.declared.Instruction.{Instruction}
-use Rattle.code.specs.declared.Instruction.the-variants.{Return, Jump, JumpZero, JumpNotZero, CallInstance, CallFunction, MoveConstant, CopyMemory, ReadElement, WriteElement, Typed, CycleTime, FlagByte, Convert, Unknown}
+use Rattle.code.specs.declared.Instruction.the-variants.{Return, Jump, JumpZero, JumpNotZero, CallInstance, CallFunction, MoveConstant, CopyMemory, ReadElement, WriteElement, Typed, CycleTime, FlagByte, Convert, Pack, Unpack, Unknown}
 use Rattle.code.specs.Commands.{lengthOf}
 use Rattle.code.specs.Instructions.{instructionAt}
 use Rattle.code.specs.Flow.{Kind, kindOf, targetOf, kind, goesTo, after, target}
@@ -289,6 +289,8 @@ no-t (Typed code type to a b) e = refl
 no-t (CycleTime to) e = refl
 no-t (FlagByte to) e = refl
 no-t (Convert from to destination source) e = refl
+no-t (Pack type destination source) e = refl
+no-t (Unpack type destination source) e = refl
 no-t Unknown e = refl
 
 -- an instruction that starts at p

@@ -69,7 +69,7 @@ plain c p h =
     (λ _. by-pick Plain _ _ _ (λ e. (refl, refl))
     (λ _. by-pick Plain _ _ _ (λ e. (refl, refl))
     (λ _. by-pick Plain _ _ _ (λ e. (refl, refl))
-    (λ _. typed-plain c p _ (by-pick Plain _ _ _ (λ e. (refl, refl)) (λ _. by-pick Plain _ _ _ (λ e. (refl, refl)) (λ _. by-pick Plain _ _ _ (λ e. (refl, refl)) (λ _. (refl, refl)))))))))))))))
+    (λ _. typed-plain c p _ (by-pick Plain _ _ _ (λ e. (refl, refl)) (λ _. by-pick Plain _ _ _ (λ e. (refl, refl)) (λ _. by-pick Plain _ _ _ (λ e. (refl, refl)) (λ _. by-pick Plain _ _ _ (λ e. (refl, refl)) (λ _. by-pick Plain _ _ _ (λ e. (refl, refl)) (λ _. (refl, refl)))))))))))))))))
   where
     not : (n : ℕ) → byte c p ≡ n → n < 6 → ⊥
     not n e k = omega arith

@@ -13,15 +13,16 @@ use lib.Seq.{getD-set-other}
 use Rattle.verdict.proofs.Verdict.{by-pick}
 use Rattle.conversions.specs.declared.Conversion.{Conversion}
 use Rattle.conversions.specs.declared.Conversion.the-variants.{Done, Beyond, NotHeld}
-use Rattle.conversions.specs.Data.{converting}
+use Rattle.conversions.specs.Data.{Ended, converting}
+use Rattle.packed.specs.Data.{packing, unpacking}
 use Rattle.protocol.specs.declared.Registers.{Registers}
 use Rattle.protocol.specs.declared.Outcome.{Outcome}
 use Rattle.protocol.specs.declared.Outcome.the-variants.{Fault, Next, Call, Return as Returned}
 use Rattle.protocol.specs.Instruction.{Executed}
 use Rattle.code.specs.declared.Instruction.{Instruction}
-use Rattle.code.specs.declared.Instruction.the-variants.{Return, Jump, JumpZero, JumpNotZero, CallInstance, CallFunction, MoveConstant, CopyMemory, ReadElement, WriteElement, Typed, CycleTime, FlagByte, Convert, Unknown}
+use Rattle.code.specs.declared.Instruction.the-variants.{Return, Jump, JumpZero, JumpNotZero, CallInstance, CallFunction, MoveConstant, CopyMemory, ReadElement, WriteElement, Typed, CycleTime, FlagByte, Convert, Pack, Unpack, Unknown}
 use Rattle.code.specs.Flow.{Kind, Returns, Jumps, Branches, Calls, Passes, kind, after, target}
-use Rattle.processor.specs.Processor.{Decided, refused, decided, faultIf, at, endedBy, ofElement, dataPart, called, controlled, meaning, executed}
+use Rattle.processor.specs.Processor.{Decided, refused, decided, faultIf, at, endedBy, ofConversion, ofElement, dataPart, called, controlled, meaning, executed}
 use Rattle.bounds.specs.Paths.{Goes, passes, jumps, stays, leaves, calls}
 
 -- ---- the faults of the data part: neither the limit nor the seventeenth call
@@ -53,6 +54,9 @@ ended-fair r Done m = tt
 ended-fair r Beyond m = fourth
 ended-fair r NotHeld m = sixth
 
+conversion-fair : (r : Registers) (x : Ended) → Fair (ofConversion r x)
+conversion-fair r x = ended-fair r (x .conversion) (x .memory)
+
 element-fair : (r : Registers) (d : List ℕ) (v a i size count : ℕ) (x : Decided) → Fair x → Fair (ofElement r d v a i size count x)
 unfolding ofElement
 element-fair r d v a i size count x f = fault _ 4 _ fourth (fault _ 0 _ zeroth (fault _ 4 x fourth f))
@@ -72,7 +76,9 @@ fair (WriteElement v a i size count) c r d = element-fair r d v a i size count _
 fair (Typed code t to a b) c r d = fault _ 4 _ fourth (fault _ 3 _ third tt)
 fair (CycleTime to) c r d = fault _ 4 _ fourth tt
 fair (FlagByte to) c r d = fault _ 4 _ fourth tt
-fair (Convert from to destination source) c r d = let x = converting from to d (at r destination) (at r source) in ended-fair r (x .conversion) (x .memory)
+fair (Convert from to destination source) c r d = conversion-fair r (converting from to d (at r destination) (at r source))
+fair (Pack type destination source) c r d = conversion-fair r (packing type d (at r destination) (at r source))
+fair (Unpack type destination source) c r d = conversion-fair r (unpacking type d (at r destination) (at r source))
 fair Unknown c r d = tt
 
 -- ---- control

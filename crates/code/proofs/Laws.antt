@@ -121,9 +121,9 @@ typed-takes c p h = go (three (byte c p)) refl
 -- what has no code byte of another command is typed or unknown
 pub typed-left : (c : List ℕ) (p : ℕ) → (byte c p ≡ 0 → ⊥) → (byte c p ≡ 1 → ⊥) → (byte c p ≡ 2 → ⊥) → (byte c p ≡ 3 → ⊥) → (byte c p ≡ 4 → ⊥)
     → (byte c p ≡ 5 → ⊥) → (byte c p ≡ 6 → ⊥) → (byte c p ≡ 7 → ⊥) → (byte c p ≡ 8 → ⊥) → (byte c p ≡ 9 → ⊥) → (byte c p ≡ 41 → ⊥) → (byte c p ≡ 42 → ⊥) → (byte c p ≡ 43 → ⊥)
-    → instructionAt c p ≡ typedAt c p Unknown
+    → (byte c p ≡ 44 → ⊥) → (byte c p ≡ 45 → ⊥) → instructionAt c p ≡ typedAt c p Unknown
 unfolding instructionAt pick
-typed-left c p n0 n1 n2 n3 n4 n5 n6 n7 n8 n9 n41 n42 n43 =
+typed-left c p n0 n1 n2 n3 n4 n5 n6 n7 n8 n9 n41 n42 n43 n44 n45 =
     simp (
       ne-eqb _ _ n0,
       ne-eqb _ _ n1,
@@ -138,6 +138,8 @@ typed-left c p n0 n1 n2 n3 n4 n5 n6 n7 n8 n9 n41 n42 n43 =
       ne-eqb _ _ n41,
       ne-eqb _ _ n42,
       ne-eqb _ _ n43,
+      ne-eqb _ _ n44,
+      ne-eqb _ _ n45,
     )
 
 typed-passes : (c : List ℕ) (p : ℕ) (other : Instruction) → goesTo (kindOf other) ≡ false → goesTo (kindOf (typedAt c p other)) ≡ false
@@ -162,7 +164,7 @@ no-target c p n1 n2 n3 n4 n5 =
     (λ e. by-pick P _ _ _ (λ z. refl)
     (λ e. by-pick P _ _ _ (λ z. refl)
     (λ e. by-pick P _ _ _ (λ z. refl)
-    (λ e. typed-passes c p _ (by-pick P _ _ _ (λ z. refl) (λ e. by-pick P _ _ _ (λ z. refl) (λ e. by-pick P _ _ _ (λ z. refl) (λ e. refl))))))))))))))
+    (λ e. typed-passes c p _ (by-pick P _ _ _ (λ z. refl) (λ e. by-pick P _ _ _ (λ z. refl) (λ e. by-pick P _ _ _ (λ z. refl) (λ e. by-pick P _ _ _ (λ z. refl) (λ e. by-pick P _ _ _ (λ z. refl) (λ e. refl))))))))))))))))
 
 -- RETURN and JMP do not go on
 pub high : (c : List ℕ) (p : ℕ) → goesOn (kind c p) ≡ true → 2 ≤ byte c p

@@ -75,9 +75,11 @@ module _ (s : List ℕ) (a n : ℕ) where
         (is _ (byte s (a + p)) 41 (λ e. rw (byte-part p h, e, words 1 (omega (arith, length-at _ e)))) (λ n41.
         (is _ (byte s (a + p)) 42 (λ e. rw (byte-part p h, e, words 1 (omega (arith, length-at _ e)))) (λ n42.
         (is _ (byte s (a + p)) 43 (λ e. rw (byte-part p h, e, bytes 1 (omega (arith, length-at _ e)), bytes 2 (omega (arith, length-at _ e)), words 3 (omega (arith, length-at _ e)), words 5 (omega (arith, length-at _ e)))) (λ n43.
-        (typed-left (part s a n) p (not-part n0) (not-part n1) (not-part n2) (not-part n3) (not-part n4) (not-part n5) (not-part n6) (not-part n7) (not-part n8) (not-part n9) (not-part n41) (not-part n42) (not-part n43)
+        (is _ (byte s (a + p)) 44 (λ e. rw (byte-part p h, e, bytes 1 (omega (arith, length-at _ e)), words 2 (omega (arith, length-at _ e)), words 4 (omega (arith, length-at _ e)))) (λ n44.
+        (is _ (byte s (a + p)) 45 (λ e. rw (byte-part p h, e, bytes 1 (omega (arith, length-at _ e)), words 2 (omega (arith, length-at _ e)), words 4 (omega (arith, length-at _ e)))) (λ n45.
+        (typed-left (part s a n) p (not-part n0) (not-part n1) (not-part n2) (not-part n3) (not-part n4) (not-part n5) (not-part n6) (not-part n7) (not-part n8) (not-part n9) (not-part n41) (not-part n42) (not-part n43) (not-part n44) (not-part n45)
         ∙ typed-part
-        ∙ sym (typed-left s (a + p) n0 n1 n2 n3 n4 n5 n6 n7 n8 n9 n41 n42 n43))))))))))))))))))))))))))))
+        ∙ sym (typed-left s (a + p) n0 n1 n2 n3 n4 n5 n6 n7 n8 n9 n41 n42 n43 n44 n45))))))))))))))))))))))))))))))))
 
     pub length-part-same : instructionLength (part s a n) p ≡ instructionLength s (a + p)
     unfolding instructionLength pick lengthOf layoutOf

@@ -17,7 +17,7 @@ use Rattle.values.specs.Types.{takes}
 use Rattle.code.specs.Commands.{Layout, known, three, layoutOf, lengthOf, lengthWith}
 use Rattle.code.specs.Instructions.{instructionAt, typedAt}
 use Rattle.code.specs.Flow.{kind, goesTo, target}
-use Rattle.code.specs.Code.{isWidth, elementOk, convertible, operandsOk, instructionOk}
+use Rattle.code.specs.Code.{isWidth, elementOk, convertible, packable, operandsOk, instructionOk}
 use Rattle.code.specs.Rules.{TypeRules, InstructionRules, Target, jmp, jz-jnz, calb, calf}
 use Rattle.code.proofs.Laws.{is, same, same-is, Whole, whole, typed-takes, typed-left, no-target}
 
@@ -27,16 +27,16 @@ either-way : {P : Type 0} (a b : Bool) → either a b ≡ true → (a ≡ true �
 either-way true b e f g = f refl
 either-way false b e f g = g e
 
-three-low : (code : ℕ) → three code ≡ true → code < 44
+three-low : (code : ℕ) → three code ≡ true → code < 46
 three-low code e =
     either-way (within 16 20 code) _ e (λ a. omega (arith, inside-true 16 20 code a))
     (λ d. either-way (within 24 26 code) _ d (λ a. omega (arith, inside-true 24 26 code a)) (λ a. omega (arith, inside-true 28 37 code a)))
 
--- only code bytes below 44 are known
-low : (code : ℕ) → 0 < lengthOf code → code < 44
+-- only code bytes below 46 are known
+low : (code : ℕ) → 0 < lengthOf code → code < 46
 unfolding lengthOf layoutOf
 low code =
-    let P : Layout → Type 0 = λ (l : Layout). 0 < lengthWith l → code < 44 in
+    let P : Layout → Type 0 = λ (l : Layout). 0 < lengthWith l → code < 46 in
     by-pick P _ _ _ (λ e h. omega (arith, eqb-true code 0 e))
     (λ e. by-pick P _ _ _ (λ e h. omega (arith, eqb-true code 1 e))
     (λ e. by-pick P _ _ _ (λ e h. omega (arith, inside-true 2 3 code e))
@@ -49,31 +49,32 @@ low code =
     (λ e. by-pick P _ _ _ (λ e h. omega (arith, eqb-true code 27 e))
     (λ e. by-pick P _ _ _ (λ e h. omega (arith, inside-true 41 42 code e))
     (λ e. by-pick P _ _ _ (λ e h. omega (arith, eqb-true code 43 e))
-    (λ e h. absurd (let y : ⊥ = omega arith in y)))))))))))))
+    (λ e. by-pick P _ _ _ (λ e h. omega (arith, inside-true 44 45 code e))
+    (λ e h. absurd (let y : ⊥ = omega arith in y))))))))))))))
 
-known-low : (code : ℕ) → known code ≡ true → code < 44
+known-low : (code : ℕ) → known code ≡ true → code < 46
 known-low code e =
     either-way (within 0 9 code) _ e (λ a. omega (arith, inside-true 0 9 code a))
     (λ d. either-way (within 16 20 code) _ d (λ a. omega (arith, inside-true 16 20 code a))
-    (λ g. either-way (within 24 37 code) _ g (λ a. omega (arith, inside-true 24 37 code a)) (λ a. omega (arith, inside-true 41 43 code a))))
+    (λ g. either-way (within 24 37 code) _ g (λ a. omega (arith, inside-true 24 37 code a)) (λ a. omega (arith, inside-true 41 45 code a))))
 
 refuted : (b : Bool) → (b ≡ true → ⊥) → b ≡ false
 refuted true h = absurd (h refl)
 refuted false h = refl
 
-none-known : (code : ℕ) → ltb code 44 ≡ false → ltb 0 (lengthOf code) ≡ known code
+none-known : (code : ℕ) → ltb code 46 ≡ false → ltb 0 (lengthOf code) ≡ known code
 none-known code e =
-    let h : 44 ≤ code = ltb-false _ _ e in
+    let h : 46 ≤ code = ltb-false _ _ e in
     refuted (ltb 0 (lengthOf code)) (λ z. let l = low code (ltb-true _ _ z) in let y : ⊥ = omega arith in y)
     ∙ sym (refuted (known code) (λ z. let l = known-low code z in let y : ⊥ = omega arith in y))
 
 -- the code bytes with a length are those of the table of commands
 pub known-is : (code : ℕ) → ltb 0 (lengthOf code) ≡ known code
 unfolding lengthOf layoutOf pick
-known-is code = go (ltb code 44) refl
+known-is code = go (ltb code 46) refl
   where
-    go : (b : Bool) → ltb code 44 ≡ b → ltb 0 (lengthOf code) ≡ known code
-    go true e = same-is _ _ (below (λ k. same (ltb 0 (lengthOf k)) (known k)) 44 tt code (ltb-true _ _ e))
+    go : (b : Bool) → ltb code 46 ≡ b → ltb 0 (lengthOf code) ≡ known code
+    go true e = same-is _ _ (below (λ k. same (ltb 0 (lengthOf k)) (known k)) 46 tt code (ltb-true _ _ e))
     go false e = none-known code e
 
 -- ---- types
@@ -209,7 +210,7 @@ module _ (c : List ℕ) (p : ℕ) where
   typed-listed : From 16 37 (byte c p) → operandsOk (instructionAt c p) ≡ takes (byte c p) (byte c (p + 1))
   typed-listed h =
       ap operandsOk
-      (typed-left c p (other 0 (inl (omega arith))) (other 1 (inl (omega arith))) (other 2 (inl (omega arith))) (other 3 (inl (omega arith))) (other 4 (inl (omega arith))) (other 5 (inl (omega arith))) (other 6 (inl (omega arith))) (other 7 (inl (omega arith))) (other 8 (inl (omega arith))) (other 9 (inl (omega arith))) (other 41 (inr (omega arith))) (other 42 (inr (omega arith))) (other 43 (inr (omega arith))))
+      (typed-left c p (other 0 (inl (omega arith))) (other 1 (inl (omega arith))) (other 2 (inl (omega arith))) (other 3 (inl (omega arith))) (other 4 (inl (omega arith))) (other 5 (inl (omega arith))) (other 6 (inl (omega arith))) (other 7 (inl (omega arith))) (other 8 (inl (omega arith))) (other 9 (inl (omega arith))) (other 41 (inr (omega arith))) (other 42 (inr (omega arith))) (other 43 (inr (omega arith))) (other 44 (inr (omega arith))) (other 45 (inr (omega arith))))
       ∙ typed-takes c p (omega arith)
     where
       other : (k : ℕ) → (k < 16) ⊎ (37 < k) → byte c p ≡ k → ⊥
@@ -228,6 +229,10 @@ module _ (c : List ℕ) (p : ℕ) where
   unfolding instructionAt typedAt pick
   conversion-listed e = rw e
 
+  packed-listed : From 44 45 (byte c p) → operandsOk (instructionAt c p) ≡ packable (byte c (p + 1))
+  unfolding instructionAt typedAt pick
+  packed-listed h = is _ (byte c p) 44 (λ e. rw e) (λ n. let e : byte c p ≡ 45 = omega arith in rw e)
+
   -- ---- the instruction
 
   pub keeps-instruction : instructionOk c p ≡ true → InstructionRules c p
@@ -240,6 +245,7 @@ module _ (c : List ℕ) (p : ℕ) where
         element-count = λ h. inside-true 1 4096 _ (element h .1);
         from-type = λ e. inside-true 1 10 _ (conversion e .0);
         to-type = λ e. inside-true 1 10 _ (conversion e .1);
+        packed-type = λ h. even-shift (byte c (p + 1)) (sym (packed-listed h) ∙ w .listed);
         uncut = w .inside;
       }
     where
@@ -269,14 +275,16 @@ module _ (c : List ℕ) (p : ℕ) where
   conversion-kept : InstructionRules c p → byte c p ≡ 43 → operandsOk (instructionAt c p) ≡ true
   conversion-kept r e = conversion-listed e ∙ rw (ranged 1 10 (r .from-type e)) (ranged 1 10 (r .to-type e))
 
+  packed-kept : InstructionRules c p → From 44 45 (byte c p) → operandsOk (instructionAt c p) ≡ true
+  packed-kept r h = packed-listed h ∙ shift-even (byte c (p + 1)) (r .packed-type h)
+
   past : (k : ℕ) → k ≤ byte c p → (byte c p ≡ k → ⊥) → k + 1 ≤ byte c p
   past k h n = omega arith
 
-  none-between : within 41 43 (byte c p) ≡ true → (byte c p ≡ 41 → ⊥) → (byte c p ≡ 42 → ⊥) → (byte c p ≡ 43 → ⊥) → ⊥
-  none-between a n m o =
-      let h = inside-true 41 43 (byte c p) a in
-      let y : ⊥ = omega arith in
-      y
+  last-two : within 41 45 (byte c p) ≡ true → (byte c p ≡ 41 → ⊥) → (byte c p ≡ 42 → ⊥) → (byte c p ≡ 43 → ⊥) → From 44 45 (byte c p)
+  last-two a n m o =
+      let h = inside-true 41 45 (byte c p) a in
+      (omega arith, h .1)
 
   operands-kept : InstructionRules c p → operandsOk (instructionAt c p) ≡ true
   unfolding instructionAt typedAt pick
@@ -298,7 +306,7 @@ module _ (c : List ℕ) (p : ℕ) where
       either-way (within 16 20 (byte c p)) _ d (λ a. typed-kept r (inl (inside-true 16 20 (byte c p) a)))
       (λ g.
       either-way (within 24 37 (byte c p)) _ g (λ a. typed-kept r (inr (inside-true 24 37 (byte c p) a)))
-      (λ a. absurd (none-between a n41 n42 n43)))))))))))))))
+      (λ a. packed-kept r (last-two a n41 n42 n43)))))))))))))))
 
   pub accepts-instruction : InstructionRules c p → instructionOk c p ≡ true
   unfolding instructionOk

@@ -1,6 +1,6 @@
 -- Document 01, the code of one core: which instructions are refused (6), where instructions start, which targets and which end are refused (7).
 -- In order: one instruction; instructions laid end to end; targets and the last instruction; the judgement.
-use Prim.Native.Nat.{ℕ, zero, suc, _+_, _≤_, _<_}
+use Prim.Native.Nat.{ℕ, zero, suc, _+_, _%_, _≤_, _<_}
 use mathlib.Core.Path.{_≡_}
 use mathlib.Core.Logic.{_⊎_}
 use mathlib.Core.List.{List}
@@ -14,7 +14,7 @@ use Rattle.code.specs.Commands.{lengthOf}
 use Rattle.code.specs.Instructions.{instructionAt, instructionLength}
 use Rattle.code.specs.Flow.{kind, goesTo, target, after}
 use Rattle.code.specs.declared.Instruction.{Instruction}
-use Rattle.code.specs.declared.Instruction.the-variants.{Return, Jump, JumpZero, JumpNotZero, CallInstance, CallFunction, MoveConstant, CopyMemory, ReadElement, WriteElement, Typed, CycleTime, FlagByte, Convert, Unknown}
+use Rattle.code.specs.declared.Instruction.the-variants.{Return, Jump, JumpZero, JumpNotZero, CallInstance, CallFunction, MoveConstant, CopyMemory, ReadElement, WriteElement, Typed, CycleTime, FlagByte, Convert, Pack, Unpack, Unknown}
 
 -- ---- one instruction
 
@@ -29,6 +29,10 @@ elementOk size count = both (isWidth size) (within 1 4096 count)
 -- the two types of a conversion: types 1 to 10 are numbers
 abbrev pub convertible : ℕ → ℕ → Bool
 convertible from to = both (within 1 10 from) (within 1 10 to)
+
+-- the type of a packed decimal: BYTE, WORD, DWORD or LWORD
+abbrev pub packable : ℕ → Bool
+packable t = both (within 2 8 t) (eqb (t % 2) 0)
 
 -- MCD's length, the element size and count, and the type bytes lie on their lists
 abbrev pub operandsOk : Instruction → Bool
@@ -46,6 +50,8 @@ operandsOk (Typed code type to a b) = takes code type
 operandsOk (CycleTime to) = true
 operandsOk (FlagByte to) = true
 operandsOk (Convert from to destination source) = convertible from to
+operandsOk (Pack type destination source) = packable type
+operandsOk (Unpack type destination source) = packable type
 operandsOk Unknown = false
 
 -- the instruction at p is known, whole, and its operands lie on their lists

@@ -51,7 +51,8 @@ layoutOf code =
     (pick (eqb code 27) (operands (type ∷ address ∷ address ∷ []))  -- NOT: type, to, a
     (pick (within 41 42 code) (operands (address ∷ []))  -- cycle time, flag byte: addr
     (pick (eqb code 43) (operands (type ∷ type ∷ address ∷ address ∷ []))  -- conversion: from-type, to-type, destination, source (document 02, 2.3)
-    unknown)))))))))))
+    (pick (within 44 45 code) (operands (type ∷ address ∷ address ∷ []))  -- whole to packed, packed to whole: type, destination, source (document 02, 2.8)
+    unknown))))))))))))
 
 -- ---- the length of an instruction
 
@@ -69,7 +70,7 @@ lengthOf code = lengthWith (layoutOf code)
 
 -- the code bytes of the table of commands
 abbrev pub known : ℕ → Bool
-known code = either (within 0 9 code) (either (within 16 20 code) (either (within 24 37 code) (within 41 43 code)))
+known code = either (within 0 9 code) (either (within 16 20 code) (either (within 24 37 code) (within 41 45 code)))
 
 -- what the table of 256 lengths has to say: each length fits the operands, and it is 0 exactly for the unknown codes
 pub record Lengths (table : List ℕ) : Type 0 where

@@ -4,7 +4,7 @@ use mathlib.Core.Bool.{Bool, true, false}
 use mathlib.Core.List.{List}
 use Rattle.code.specs.Instructions.{instructionAt, instructionLength}
 use Rattle.code.specs.declared.Instruction.{Instruction}
-use Rattle.code.specs.declared.Instruction.the-variants.{Return, Jump, JumpZero, JumpNotZero, CallInstance, CallFunction, MoveConstant, CopyMemory, ReadElement, WriteElement, Typed, CycleTime, FlagByte, Convert, Unknown}
+use Rattle.code.specs.declared.Instruction.the-variants.{Return, Jump, JumpZero, JumpNotZero, CallInstance, CallFunction, MoveConstant, CopyMemory, ReadElement, WriteElement, Typed, CycleTime, FlagByte, Convert, Pack, Unpack, Unknown}
 
 -- RETURN; JMP; JZ, JNZ; CALB, CALF; all others
 pub data Kind : Type 0 where
@@ -29,6 +29,8 @@ kindOf (Typed code type to a b) = Passes
 kindOf (CycleTime to) = Passes
 kindOf (FlagByte to) = Passes
 kindOf (Convert from to destination source) = Passes
+kindOf (Pack type destination source) = Passes
+kindOf (Unpack type destination source) = Passes
 kindOf Unknown = Passes
 
 -- its T; 0 where it has none
@@ -47,6 +49,8 @@ targetOf (Typed code type to a b) = 0
 targetOf (CycleTime to) = 0
 targetOf (FlagByte to) = 0
 targetOf (Convert from to destination source) = 0
+targetOf (Pack type destination source) = 0
+targetOf (Unpack type destination source) = 0
 targetOf Unknown = 0
 
 -- control may go on to the next instruction

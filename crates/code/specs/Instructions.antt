@@ -6,7 +6,7 @@ use Rattle.verdict.specs.Verdict.{pick}
 use Rattle.memory.specs.Memory.{byte, word}
 use Rattle.code.specs.Commands.{three, lengthOf}
 use Rattle.code.specs.declared.Instruction.{Instruction}
-use Rattle.code.specs.declared.Instruction.the-variants.{Return, Jump, JumpZero, JumpNotZero, CallInstance, CallFunction, MoveConstant, CopyMemory, ReadElement, WriteElement, Typed, CycleTime, FlagByte, Convert, Unknown}
+use Rattle.code.specs.declared.Instruction.the-variants.{Return, Jump, JumpZero, JumpNotZero, CallInstance, CallFunction, MoveConstant, CopyMemory, ReadElement, WriteElement, Typed, CycleTime, FlagByte, Convert, Pack, Unpack, Unknown}
 
 -- a typed command, or else the other one
 unfoldable pub typedAt : List ℕ → ℕ → Instruction → Instruction
@@ -30,7 +30,9 @@ instructionAt c p =
     (pick (eqb (byte c p) 41) (CycleTime (word c (p + 1)))
     (pick (eqb (byte c p) 42) (FlagByte (word c (p + 1)))
     (pick (eqb (byte c p) 43) (Convert (byte c (p + 1)) (byte c (p + 2)) (word c (p + 3)) (word c (p + 5)))
-    Unknown)))))))))))))
+    (pick (eqb (byte c p) 44) (Pack (byte c (p + 1)) (word c (p + 2)) (word c (p + 4)))
+    (pick (eqb (byte c p) 45) (Unpack (byte c (p + 1)) (word c (p + 2)) (word c (p + 4)))
+    Unknown)))))))))))))))
 
 -- its length: the table's, to which MCD adds n
 unfoldable pub instructionLength : List ℕ → ℕ → ℕ

@@ -34,6 +34,8 @@ pub record InstructionRules (c : List ℕ) (p : ℕ) : Type 0 where
   -- "A type outside 1 to 10 gives 6." (document 02, 2.3)
   pub from-type : byte c p ≡ 43 → From 1 10 (byte c (p + 1))
   pub to-type : byte c p ≡ 43 → From 1 10 (byte c (p + 2))
+  -- "each with a type byte (2, 4, 6 or 8)", "Another type byte gives 6." (document 02, 2.8)
+  pub packed-type : From 44 45 (byte c p) → OneOf (2 ∷ 4 ∷ 6 ∷ 8 ∷ []) (byte c (p + 1))
   pub uncut : after c p ≤ length c
 
 -- "JMP T; JZ addr T; JNZ addr T", "CALB instance T; CALF T": the T of the instruction at p

@@ -9,7 +9,7 @@ ghost use Rattle.memory.specs.Memory.{byte, readLE};
 ghost use Rattle.values.specs.Types.{takes};
 ghost use Rattle.code.specs.Commands.{three, lengthOf, Lengths};
 ghost use Rattle.code.specs.Instructions.{instructionAt, instructionLength, typedAt};
-ghost use Rattle.code.specs.Code.{isWidth, elementOk, convertible, operandsOk, acceptedLength, Sized, isStart, judgeCode, Marked, Asked, TargetAsked, Pass, AllMet};
+ghost use Rattle.code.specs.Code.{isWidth, elementOk, convertible, packable, operandsOk, acceptedLength, Sized, isStart, judgeCode, Marked, Asked, TargetAsked, Pass, AllMet};
 
 // "Each of the 256 code bytes has its instruction length in one table, 0 where unknown; MCD adds n."
 pub const LENGTHS: [u8; 256] = [
@@ -57,9 +57,9 @@ pub const LENGTHS: [u8; 256] = [
     3, // 41 cycle time
     3, // 42 flag byte
     7, // 43 conversion
-    0, // 44 to 255: unknown
-    0,
-    0,
+    6, // 44 whole to packed
+    6, // 45 packed to whole
+    0, // 46 to 255: unknown
     0,
     0,
     0,
@@ -301,6 +301,8 @@ const FLAG_BYTE: usize = LENGTHS[42] as usize;
 
 const CONVERT: usize = LENGTHS[43] as usize;
 
+const PACKED: usize = LENGTHS[44] as usize;
+
 // The table as a value: a `const` is rebuilt at each use, so a walk that looks for a place makes it once and lends it.
 fn lengths() -> [u8; 256]
     ensures { λ r. ⌜ Lengths r ⌝ }
@@ -345,6 +347,9 @@ pub enum Instruction {
     FlagByte(u16),
     // from-type, to-type, destination, source
     Convert(u8, u8, u16, u16),
+    // type, destination, source: whole to packed, packed to whole
+    Pack(u8, u16, u16),
+    Unpack(u8, u16, u16),
     Unknown,
 }
 
@@ -431,6 +436,8 @@ pub fn decode(file: &[u8], p: usize) -> Instruction
             word(file, p + 3),
             word(file, p + 5),
         ),
+        44 => Instruction::Pack(file[p + 1], word(file, p + 2), word(file, p + 4)),
+        45 => Instruction::Unpack(file[p + 1], word(file, p + 2), word(file, p + 4)),
         _ => typed(file, p),
     }
 }
@@ -588,8 +595,32 @@ fn conversion_length(code: &[u8], p: usize) -> usize
     CONVERT
 }
 
+// BYTE, WORD, DWORD or LWORD.
+fn is_packable(t: u8) -> bool
+    ensures { λ r. ⌜ r ≡ packable t ⌝ }
+{
+    if !inside(2, 8, t) {
+        return false;
+    }
+    t % 2 == 0
+}
+
+// 44 and 45.
+fn packed_length(code: &[u8], p: usize) -> usize
+    requires { ⌜ (p < length (now code)) × Sized (now code) p 6 × (operandsOk (instructionAt (now code) p) ≡ packable (byte (now code) (p + 1))) ⌝ }
+    ensures { λ r. ⌜ r ≡ acceptedLength (now (code .entry)) p ⌝ }
+{
+    if code.len() - p < PACKED {
+        return 0;
+    }
+    if is_packable(code[p + 1]) {
+        return PACKED;
+    }
+    0
+}
+
 // By the code byte; what is none of the others is a typed command with three addresses, or unknown.
-fn accepted_length(code: &[u8], p: usize) -> usize
+pub fn accepted_length(code: &[u8], p: usize) -> usize
     requires { ⌜ p < length (now code) ⌝ }
     ensures { λ r. ⌜ r ≡ acceptedLength (now (code .entry)) p ⌝ }
 {
@@ -609,6 +640,8 @@ fn accepted_length(code: &[u8], p: usize) -> usize
         41 => plain_length(code, p, CYCLE_TIME),
         42 => plain_length(code, p, FLAG_BYTE),
         43 => conversion_length(code, p),
+        44 => packed_length(code, p),
+        45 => packed_length(code, p),
         _ => typed_length(code, p, TYPED),
     }
 }

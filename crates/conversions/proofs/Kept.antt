@@ -116,7 +116,7 @@ module _ (t w : ℕ) (wide : widthOf t ≡ w) (W : 0 < w) where
 
 -- ---- every type
 
-each-whole : (P : ℕ → Type 0) → P 1 → P 2 → P 3 → P 4 → P 5 → P 6 → P 7 → P 8 → (t : ℕ) → Whole t → P t
+pub each-whole : (P : ℕ → Type 0) → P 1 → P 2 → P 3 → P 4 → P 5 → P 6 → P 7 → P 8 → (t : ℕ) → Whole t → P t
 each-whole P a b c d e f g h t m =
     each-type (λ (t : ℕ). Whole t → P t) absurd-bool (λ _. a) (λ _. b) (λ _. c) (λ _. d) (λ _. e) (λ _. f) (λ _. g) (λ _. h) absurd-bool absurd-bool absurd-bool t
     (below t (inside-true 1 8 t m .1)) m

@@ -30,7 +30,7 @@ pub enum Conversion {
 }
 
 // 2^k
-fn power(k: u64) -> u64
+pub fn power(k: u64) -> u64
     requires { ⌜ k < 64 ⌝ }
     ensures { λ r. ⌜ r ≡ 2 ^ k ⌝ }
 {
@@ -326,7 +326,7 @@ pub fn convert(t: u8, v: Value) -> Converted
 }
 
 // From memory to memory. Whether one of two operands is beyond the data: n bytes at p, m bytes at q.
-fn beyond(size: usize, p: usize, n: usize, q: usize, m: usize) -> bool
+pub fn beyond(size: usize, p: usize, n: usize, q: usize, m: usize) -> bool
     requires { ⌜ (p + n < 2 ^ 64) × (q + m < 2 ^ 64) ⌝ }
     ensures { λ r. ⌜ r ≡ anyBeyond size p n q m ⌝ }
 {
@@ -337,7 +337,7 @@ fn beyond(size: usize, p: usize, n: usize, q: usize, m: usize) -> bool
 }
 
 // Stores a result of type t, if it is held.
-fn settle(d: &mut [u8], t: u8, to: usize, c: Converted) -> Conversion
+pub fn settle(d: &mut [u8], t: u8, to: usize, c: Converted) -> Conversion
     requires { ⌜ (t < 12) × (to + widthOf t ≤ length (now d)) ⌝ }
     ensures { λ r. ⌜ ended r (now (d .exit)) ≡ settled t (now (d .entry)) to (resultAs t c) ⌝ }
 {

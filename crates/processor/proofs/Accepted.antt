@@ -20,7 +20,7 @@ use Rattle.code.specs.Commands.{three, layoutOf, lengthOf}
 use Rattle.code.specs.Instructions.{typedAt, instructionAt, instructionLength}
 use Rattle.code.proofs.Laws.{three-length, typed-left}
 use Rattle.values.specs.Types.{takes}
-use Rattle.code.specs.Code.{isWidth, convertible, operandsOk}
+use Rattle.code.specs.Code.{isWidth, convertible, packable, operandsOk}
 use Rattle.code.proofs.Sound.{Sound, sound}
 use Rattle.values.specs.Width.{Width}
 use Rattle.values.proofs.Commands.{last-code}
@@ -48,10 +48,10 @@ three-range op e = go (either-cases (within 16 20 op) _ e)
     go (inr f) = rest (either-cases (within 24 26 op) _ f)
 
 -- a code byte of no other command is of a typed one
-typed-instruction : (c : List ℕ) (p : ℕ) → 10 ≤ byte c p → (byte c p ≡ 41 → ⊥) → (byte c p ≡ 42 → ⊥) → (byte c p ≡ 43 → ⊥) → instructionAt c p ≡ typedAt c p Unknown
-typed-instruction c p l n m o =
+typed-instruction : (c : List ℕ) (p : ℕ) → 10 ≤ byte c p → (byte c p ≡ 41 → ⊥) → (byte c p ≡ 42 → ⊥) → (byte c p ≡ 43 → ⊥) → (byte c p ≡ 44 → ⊥) → (byte c p ≡ 45 → ⊥) → instructionAt c p ≡ typedAt c p Unknown
+typed-instruction c p l n m o i j =
     typed-left c p (off 0 (omega arith)) (off 1 (omega arith)) (off 2 (omega arith)) (off 3 (omega arith)) (off 4 (omega arith))
-    (off 5 (omega arith)) (off 6 (omega arith)) (off 7 (omega arith)) (off 8 (omega arith)) (off 9 (omega arith)) n m o
+    (off 5 (omega arith)) (off 6 (omega arith)) (off 7 (omega arith)) (off 8 (omega arith)) (off 9 (omega arith)) n m o i j
   where
     off : (k : ℕ) → k < 10 → byte c p ≡ k → ⊥
     off k i e = omega arith
@@ -67,7 +67,7 @@ three-here c p op e f =
     let h = three-range op f in
     let six : eqb op 6 ≡ false = ne-eqb op 6 (λ z. let y : ⊥ = omega (arith, h .0) in y) in
     record {
-      is = typed-instruction c p (omega (arith, h .0)) (λ z. omega (arith, h .1)) (λ z. omega (arith, h .1)) (λ z. omega (arith, h .1)) ∙ rw (e, f);
+      is = typed-instruction c p (omega (arith, h .0)) (λ z. omega (arith, h .1)) (λ z. omega (arith, h .1)) (λ z. omega (arith, h .1)) (λ z. omega (arith, h .1)) (λ z. omega (arith, h .1)) ∙ rw (e, f);
       long = rw (e, six, three-length op (omega (arith, h .1)) f);
     }
 
@@ -169,6 +169,18 @@ module _ (c : List ℕ) (r : Registers) (d : List ℕ) (x : Executable c r d) wh
       below : (t : ℕ) → within 1 10 t ≡ true → t < 12
       below t f = omega (arith, inside-true 1 10 t f .1)
 
+  -- packed decimal
+  packed-type : {t : ℕ} → packable t ≡ true → t < 12
+  packed-type {t} f = omega (arith, inside-true 2 8 t (both-true (within 2 8 t) _ f .0) .1)
+
+  pub stands-packing : byte c (r .counter) ≡ 44 → Stands 44 6 c r × (byte c (r .counter + 1) < 12)
+  unfolding instructionAt typedAt lengthOf layoutOf pick
+  stands-packing e = let l : packable (byte c (r .counter + 1)) ≡ true = rw e at (here .here .listed) in (stands 44 e, packed-type l)
+
+  pub stands-unpacking : byte c (r .counter) ≡ 45 → Stands 45 6 c r × (byte c (r .counter + 1) < 12)
+  unfolding instructionAt typedAt lengthOf layoutOf pick
+  stands-unpacking e = let l : packable (byte c (r .counter + 1)) ≡ true = rw e at (here .here .listed) in (stands 45 e, packed-type l)
+
   -- what a typed command's functions ask
   pub typed-inside : (op n : ℕ) → TypedAt c (r .counter) op n → (r .counter + (n + 2) ≤ length c) × (length c ≤ 8192)
   typed-inside op n t = (rw (t .long) at (here .here .inside), x .short)
@@ -191,12 +203,12 @@ module _ (c : List ℕ) (r : Registers) (d : List ℕ) (x : Executable c r d) wh
 
   -- a code byte of no other command is NOT's
   pub last-here : 10 ≤ byte c (r .counter) → (byte c (r .counter) ≡ 41 → ⊥) → (byte c (r .counter) ≡ 42 → ⊥) → (byte c (r .counter) ≡ 43 → ⊥)
-      → (byte c (r .counter) ≡ 16 → ⊥) → (byte c (r .counter) ≡ 17 → ⊥) → (byte c (r .counter) ≡ 18 → ⊥) → (byte c (r .counter) ≡ 19 → ⊥)
+      → (byte c (r .counter) ≡ 44 → ⊥) → (byte c (r .counter) ≡ 45 → ⊥) → (byte c (r .counter) ≡ 16 → ⊥) → (byte c (r .counter) ≡ 17 → ⊥) → (byte c (r .counter) ≡ 18 → ⊥) → (byte c (r .counter) ≡ 19 → ⊥)
       → (byte c (r .counter) ≡ 20 → ⊥) → (byte c (r .counter) ≡ 24 → ⊥) → (byte c (r .counter) ≡ 25 → ⊥) → (byte c (r .counter) ≡ 26 → ⊥)
       → (byte c (r .counter) ≡ 28 → ⊥) → (byte c (r .counter) ≡ 29 → ⊥) → (byte c (r .counter) ≡ 30 → ⊥) → (byte c (r .counter) ≡ 31 → ⊥)
       → (byte c (r .counter) ≡ 32 → ⊥) → (byte c (r .counter) ≡ 33 → ⊥) → (byte c (r .counter) ≡ 34 → ⊥) → (byte c (r .counter) ≡ 35 → ⊥)
       → (byte c (r .counter) ≡ 36 → ⊥) → (byte c (r .counter) ≡ 37 → ⊥) → TypedAt c (r .counter) 27 4
-  last-here l n41 n42 n43 n16 n17 n18 n19 n20 n24 n25 n26 n28 n29 n30 n31 n32 n33 n34 n35 n36 n37 =
+  last-here l n41 n42 n43 n44 n45 n16 n17 n18 n19 n20 n24 n25 n26 n28 n29 n30 n31 n32 n33 n34 n35 n36 n37 =
       let none : (three (byte c (r .counter)) ≡ true → ⊥) = λ t.
       n37 (last-code _ _ (typed-taken _ 6 (three-here c (r .counter) _ refl t)) n16 n17 n18 n19 n20 n24 n25 n26 (λ z. absurd-bool (rw z at t)) n28 n29 n30 n31 n32 n33 n34 n35 n36) in
-      not-here c (r .counter) (not-listed c (r .counter) none (ap operandsOk (sym (typed-instruction c (r .counter) l n41 n42 n43)) ∙ here .here .listed))
+      not-here c (r .counter) (not-listed c (r .counter) none (ap operandsOk (sym (typed-instruction c (r .counter) l n41 n42 n43 n44 n45)) ∙ here .here .listed))

@@ -28,6 +28,8 @@ use Rattle.conversions.specs.declared.Conversion.{Conversion}
 use Rattle.conversions.specs.declared.Conversion.the-variants.{Beyond as Outside}
 use Rattle.conversions.specs.Conversions.{Result, stores, not-held, converted as convertedTo}
 use Rattle.conversions.specs.Data.{Ended, ended, settled, tried, converting}
+use Rattle.packed.specs.Packed.{packed, unpacked}
+use Rattle.packed.specs.Data.{packing, unpacking}
 use Rattle.processor.specs.Executable.{Reports}
 use Rattle.processor.specs.Processor.{placeOf, answer, branched, called, passed, decided, faultIf, changed, elementAt, ofElement, ofConversion, dataPart, meaning, executed}
 use Rattle.processor.specs.Typed.{operandsAt, outcomeOf, conversionOutcome}
@@ -113,6 +115,14 @@ module _ (c : List ℕ) (r : Registers) (d : List ℕ) where
       → executed c r d ≡ passed (r .counter + 7) d (ofConversion r (converting (byteAt 1) (byteAt 2) d (operandAt 3) (operandAt 5)))
   unfolding executed meaning dataPart typedAt instructionAt instructionLength lengthOf layoutOf pick
   conversion-at e = rw e
+
+  packing-at : byte c (r .counter) ≡ 44 → executed c r d ≡ passed (r .counter + 6) d (ofConversion r (packing (byteAt 1) d (operandAt 2) (operandAt 4)))
+  unfolding executed meaning dataPart typedAt instructionAt instructionLength lengthOf layoutOf pick
+  packing-at e = rw e
+
+  unpacking-at : byte c (r .counter) ≡ 45 → executed c r d ≡ passed (r .counter + 6) d (ofConversion r (unpacking (byteAt 1) d (operandAt 2) (operandAt 4)))
+  unfolding executed meaning dataPart typedAt instructionAt instructionLength lengthOf layoutOf pick
+  unpacking-at e = rw e
 
   -- AURD and AUWD: they differ in what is copied where
   element-at : (op : ℕ) → (op ≡ 8) ⊎ (op ≡ 9) → byte c (r .counter) ≡ op
@@ -275,12 +285,30 @@ module _ (c : List ℕ) (r : Registers) (d : List ℕ) where
       go false (stores p) = refl
       go false not-held = refl
 
+  converted-done : (n t u to source : ℕ) (y : Result) (x : Conversion) (o : Outcome) (m : List ℕ)
+      → executed c r d ≡ passed (r .counter + n) d (ofConversion r (tried t u d to source y)) → ended x m ≡ tried t u d to source y
+      → o ≡ conversionOutcome (r .counter + n) x → answer o m ≡ executed c r d
+  converted-done n t u to source y x o m e l w =
+      rw w (ap (converted (r .counter + n)) l ∙ converted-tests (r .counter + n) t u to source y ∙ sym e)
+
   pub conversion-done : (from to destination source : ℕ) (x : Conversion) (o : Outcome) (m : List ℕ) → byte c (r .counter) ≡ 43
       → from ≡ byteAt 1 → to ≡ byteAt 2 → destination ≡ operandAt 3 → source ≡ operandAt 5 → ended x m ≡ converting from to d destination source
       → o ≡ conversionOutcome (r .counter + 7) x → answer o m ≡ executed c r d
   unfolding converting
-  conversion-done from to destination source x o m e f g h k l w =
-      rw w (ap (converted (r .counter + 7)) l ∙ rw (f, g, h, k) (converted-tests (r .counter + 7) (byteAt 2) (byteAt 1) (operandAt 3) (operandAt 5) (convertedTo (byteAt 1) (byteAt 2) (readLE d (operandAt 5) (widthOf (byteAt 1))))) ∙ sym (conversion-at e))
+  conversion-done from to destination source x o m e f g h k l =
+      converted-done 7 to from destination source (convertedTo from to (readLE d source (widthOf from))) x o m (conversion-at e ∙ rw (f, g, h, k)) l
+
+  pub packing-done : (p : Operands) (x : Conversion) (o : Outcome) (m : List ℕ) → byte c (r .counter) ≡ 44 → p ≡ operandsAt 4 c r
+      → ended x m ≡ packing (p .kind) d (p .to) (p .first) → o ≡ conversionOutcome (r .counter + 6) x → answer o m ≡ executed c r d
+  unfolding packing
+  packing-done p x o m e f l =
+      converted-done 6 (p .kind) (p .kind) (p .to) (p .first) (packed (p .kind) (readLE d (p .first) (widthOf (p .kind)))) x o m (packing-at e ∙ rw f) l
+
+  pub unpacking-done : (p : Operands) (x : Conversion) (o : Outcome) (m : List ℕ) → byte c (r .counter) ≡ 45 → p ≡ operandsAt 4 c r
+      → ended x m ≡ unpacking (p .kind) d (p .to) (p .first) → o ≡ conversionOutcome (r .counter + 6) x → answer o m ≡ executed c r d
+  unfolding unpacking
+  unpacking-done p x o m e f l =
+      converted-done 6 (p .kind) (p .kind) (p .to) (p .first) (unpacked (p .kind) (readLE d (p .first) (widthOf (p .kind)))) x o m (unpacking-at e ∙ rw f) l
 
 pub ruleset branches = (branch-beyond, branch-made, branch-not)
 

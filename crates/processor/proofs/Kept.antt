@@ -20,6 +20,8 @@ use Rattle.conversions.specs.declared.Conversion.the-variants.{Done, Beyond, No
 use Rattle.conversions.specs.Conversions.{Result, converted}
 use Rattle.conversions.specs.Data.{tried, converting}
 use Rattle.conversions.proofs.Data.{tried-length}
+use Rattle.packed.specs.Packed.{packed, unpacked}
+use Rattle.packed.specs.Data.{packing, unpacking}
 use Rattle.protocol.specs.declared.Registers.{Registers}
 use Rattle.protocol.specs.declared.Stack.{Stack}
 use Rattle.protocol.specs.declared.Outcome.{Outcome}
@@ -30,7 +32,7 @@ use Rattle.protocol.specs.Instruction.{Executed, backFrom, appliedBy, applied, 
 use Rattle.protocol.specs.Laws.{Laws}
 use Rattle.protocol.proofs.Instance.{obeys}
 use Rattle.code.specs.declared.Instruction.{Instruction}
-use Rattle.code.specs.declared.Instruction.the-variants.{Return, Jump, JumpZero, JumpNotZero, CallInstance, CallFunction, MoveConstant, CopyMemory, ReadElement, WriteElement, Typed, CycleTime, FlagByte, Convert, Unknown}
+use Rattle.code.specs.declared.Instruction.the-variants.{Return, Jump, JumpZero, JumpNotZero, CallInstance, CallFunction, MoveConstant, CopyMemory, ReadElement, WriteElement, Typed, CycleTime, FlagByte, Convert, Pack, Unpack, Unknown}
 use Rattle.code.specs.Flow.{Kind, Returns, Jumps, Branches, Calls, Passes, goesOn, goesTo, kind, target, after}
 use Rattle.code.specs.Code.{judgeCode, isStart}
 use Rattle.code.specs.Instructions.{instructionAt}
@@ -98,7 +100,7 @@ module _ (r : Registers) (d : List ℕ) where
       tested _ _ (by-pick (Answers r d) _ _ _ (λ e. index-answers) (λ e. tested _ _ a))
 
   data-answers : (i : Instruction) (c : List ℕ) → Answers r d (dataPart i c r d)
-  unfolding dataPart performed converting
+  unfolding dataPart performed converting packing unpacking
   data-answers Return c = same-answers false
   data-answers (Jump t) c = same-answers false
   data-answers (JumpZero a t) c = tested _ _ (same-answers _)
@@ -116,6 +118,8 @@ module _ (r : Registers) (d : List ℕ) where
   data-answers (CycleTime to) c = tested _ _ (splice-answers _ _)
   data-answers (FlagByte to) c = tested _ _ (splice-answers _ _)
   data-answers (Convert from to destination source) c = conversion-answers to from (at r destination) (at r source) (converted from to (readLE d (at r source) (widthOf from)))
+  data-answers (Pack type destination source) c = conversion-answers type type (at r destination) (at r source) (packed type (readLE d (at r source) (widthOf type)))
+  data-answers (Unpack type destination source) c = conversion-answers type type (at r destination) (at r source) (unpacked type (readLE d (at r source) (widthOf type)))
   data-answers Unknown c = same-answers false
 
   pub data-faults : (i : Instruction) (c : List ℕ) (b : ℕ) → dataPart i c r d ≡ refused b → DataFault b

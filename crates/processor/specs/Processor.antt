@@ -11,13 +11,14 @@ use Rattle.memory.specs.Memory.{byte, splice, part, bytesLE, readLE, word}
 use Rattle.conversions.specs.declared.Conversion.{Conversion}
 use Rattle.conversions.specs.declared.Conversion.the-variants.{Done, Beyond, NotHeld}
 use Rattle.conversions.specs.Data.{Ended, converting}
+use Rattle.packed.specs.Data.{packing, unpacking}
 use Rattle.values.specs.Commands.{beyond, anyBeyond, typedBeyond, secondWidth, zeroDivisor, performed}
 use Rattle.protocol.specs.declared.Registers.{Registers}
 use Rattle.protocol.specs.declared.Outcome.{Outcome}
 use Rattle.protocol.specs.declared.Outcome.the-variants.{Fault, Next, Call, Return as Returned}
 use Rattle.protocol.specs.Instruction.{Executed, halted}
 use Rattle.code.specs.declared.Instruction.{Instruction}
-use Rattle.code.specs.declared.Instruction.the-variants.{Return, Jump, JumpZero, JumpNotZero, CallInstance, CallFunction, MoveConstant, CopyMemory, ReadElement, WriteElement, Typed, CycleTime, FlagByte, Convert, Unknown}
+use Rattle.code.specs.declared.Instruction.the-variants.{Return, Jump, JumpZero, JumpNotZero, CallInstance, CallFunction, MoveConstant, CopyMemory, ReadElement, WriteElement, Typed, CycleTime, FlagByte, Convert, Pack, Unpack, Unknown}
 use Rattle.code.specs.Instructions.{instructionAt}
 use Rattle.code.specs.Flow.{Kind, Returns, Jumps, Branches, Calls, Passes, kindOf, targetOf, after}
 
@@ -93,6 +94,8 @@ dataPart (Typed code t to a b) c r d =
 dataPart (CycleTime to) c r d = faultIf (beyond (length d) (at r to) 4) 4 (changed r (splice d (at r to) (bytesLE 4 (r .time))))
 dataPart (FlagByte to) c r d = faultIf (beyond (length d) (at r to) 1) 4 (changed r (splice d (at r to) (bytesLE 1 (r .flags))))
 dataPart (Convert from to destination source) c r d = ofConversion r (converting from to d (at r destination) (at r source))
+dataPart (Pack type destination source) c r d = ofConversion r (packing type d (at r destination) (at r source))
+dataPart (Unpack type destination source) c r d = ofConversion r (unpacking type d (at r destination) (at r source))
 dataPart Unknown c r d = changed r d
 
 -- ---- control

@@ -38,6 +38,8 @@ const REPORT: u16 = code::LENGTHS[41] as u16;
 
 const CONVERT: u16 = code::LENGTHS[43] as u16;
 
+const PACKED: u16 = code::LENGTHS[44] as u16;
+
 // ---- addresses
 
 // From here on an address is absolute.
@@ -243,7 +245,7 @@ fn operands(r: Registers, code: &[u8]) -> Operands
     }
 }
 
-// Those of NOT, which has two: its one source stands for both.
+// Those of NOT, which has two, and of 44 and 45: the one source stands for both.
 fn single(r: Registers, code: &[u8]) -> Operands
     requires { ⌜ (r .counter + 6 ≤ length (now code)) × (length (now code) ≤ 8192) ⌝ }
     ensures { λ o. ⌜ (o ≡ operandsAt 4 (now (code .entry)) r) × Low o ⌝ }
@@ -321,6 +323,30 @@ fn convert(r: Registers, code: &[u8], d: &mut [u8]) -> Outcome
     )
 }
 
+// 44
+fn pack(r: Registers, code: &[u8], d: &mut [u8]) -> Outcome
+    requires { ⌜ Stands 44 6 (now code) r × (byte (now code) (r .counter + 1) < 12) ⌝ }
+    ensures { λ o. ⌜ answer o (now (d .exit)) ≡ executed (now (code .entry)) r (now (d .entry)) ⌝ }
+{
+    let o = single(r, code);
+    conversion_outcome(
+        packed::pack_at(d, o.kind, o.to, o.first),
+        r.counter + PACKED,
+    )
+}
+
+// 45
+fn unpack(r: Registers, code: &[u8], d: &mut [u8]) -> Outcome
+    requires { ⌜ Stands 45 6 (now code) r × (byte (now code) (r .counter + 1) < 12) ⌝ }
+    ensures { λ o. ⌜ answer o (now (d .exit)) ≡ executed (now (code .entry)) r (now (d .entry)) ⌝ }
+{
+    let o = single(r, code);
+    conversion_outcome(
+        packed::unpack_at(d, o.kind, o.to, o.first),
+        r.counter + PACKED,
+    )
+}
+
 // ---- one instruction
 
 // The instruction at the program counter, by its code byte: what it answers, and the data after it in place.
@@ -360,6 +386,8 @@ pub fn execute(r: Registers, code: &[u8], d: &mut [u8]) -> Outcome
         36 => outcome(commands::lt_at(d, operands(r, code)), r.counter + TYPED),
         37 => outcome(commands::ne_at(d, operands(r, code)), r.counter + TYPED),
         43 => convert(r, code, d),
+        44 => pack(r, code, d),
+        45 => unpack(r, code, d),
         _ => outcome(commands::not_at(d, single(r, code)), r.counter + NOT),
     }
 }

@@ -1,5 +1,5 @@
 // Small programs with known results: latches, a counter, nested calls, instances in instances, arrays, overlapping copies, every fault and
-// the order in which two at once are tried, the last place of each operand, and conversions. Each line has the program's name, the mode, program counter,
+// the order in which two at once are tried, the last place of each operand, conversions and packed decimal. Each line has the program's name, the mode, program counter,
 // data offset, depth, instruction count and flag byte after its cycle, and the data. In the comments @n is the absolute address n.
 use protocol::Outcome;
 use protocol::Registers;
@@ -854,6 +854,68 @@ fn conversions() {
     run(b"convert", b"\x2B\x01\x01\x00\x00\x00", b"\x00", 100);
 }
 
+// 44 and 45, by document 02's own numbers (2.8), and where the digits don't fit
+fn digits() {
+    // BYTE 98 becomes 152
+    run(b"pack", b"\x2C\x02\x00\x00\x01\x00\x00", b"\xEE\x62", 100);
+    // 152 becomes BYTE 98
+    run(b"unpack", b"\x2D\x02\x00\x00\x01\x00\x00", b"\xEE\x98", 100);
+    // LWORD 9999999999999999, in the place of its source
+    run(
+        b"pack",
+        b"\x2C\x08\x00\x00\x00\x00\x00",
+        b"\xFF\xFF\xC0\x6F\xF2\x86\x23\x00",
+        100,
+    );
+    // the WORD with the digits 4, 6, 6, 0
+    run(
+        b"unpack",
+        b"\x2D\x04\x00\x00\x02\x00\x00",
+        b"\xEE\xEE\x60\x46",
+        100,
+    );
+    // BYTE 100 has too many digits: bit 6
+    run(b"pack", b"\x2C\x02\x00\x00\x01\x00\x00", b"\xEE\x64", 100);
+    // DWORD 100000000 has too many digits: bit 6
+    run(
+        b"pack",
+        b"\x2C\x06\x00\x00\x04\x00\x00",
+        b"\xEE\xEE\xEE\xEE\x00\xE1\xF5\x05",
+        100,
+    );
+    // a digit above 9: bit 6
+    run(b"unpack", b"\x2D\x02\x00\x00\x01\x00\x00", b"\xEE\x9A", 100);
+    // a first digit above 9: bit 6
+    run(
+        b"unpack",
+        b"\x2D\x04\x00\x00\x02\x00\x00",
+        b"\xEE\xEE\x00\xA0",
+        100,
+    );
+    // the destination one byte past the data, of too many digits: bit 4
+    run(
+        b"pack",
+        b"\x2C\x04\x03\x00\x00\x00\x00",
+        b"\xFF\xFF\xEE\xEE",
+        100,
+    );
+    // the source one byte past the data: bit 4
+    run(
+        b"unpack",
+        b"\x2D\x04\x00\x00\x03\x00\x00",
+        b"\xEE\xEE\xFF\xFF",
+        100,
+    );
+    run(b"pack", b"\x2C\x00\x00\x00\x00\x00\x00", b"\x00", 100);
+    run(b"pack", b"\x2C\x01\x00\x00\x00\x00\x00", b"\x00", 100);
+    run(b"pack", b"\x2C\x03\x00\x00\x00\x00\x00", b"\x00", 100);
+    run(b"unpack", b"\x2D\x09\x00\x00\x00\x00\x00", b"\x00", 100);
+    run(b"unpack", b"\x2D\x0A\x00\x00\x00\x00\x00", b"\x00", 100);
+    run(b"unpack", b"\x2D\x0B\x00\x00\x00\x00\x00", b"\x00", 100);
+    // cut inside its last operand
+    run(b"pack", b"\x2C\x02\x00\x00\x00", b"\x00", 100);
+}
+
 fn main() {
     latches();
     counting();
@@ -866,4 +928,5 @@ fn main() {
     typed_ends();
     negations();
     conversions();
+    digits();
 }

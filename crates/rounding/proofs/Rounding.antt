@@ -1,5 +1,5 @@
--- The claim of `specs/Rounding`: the laws of crate conversions, put together sentence by sentence. In order: whole types one by one; a conversion by
--- the number that it is of; float destinations; what is not held; all of it. Assumes nothing.
+-- The claim of `specs/Rounding`: the laws of crate conversions, put together sentence by sentence. In order: a conversion by the number that
+-- it is of; float destinations; what is not held; all of it. Assumes nothing.
 use mathlib.Core.Path.{_≡_, refl, sym, ap, _∙_, subst}
 use mathlib.Core.Bool.{Bool, true, false}
 use mathlib.Core.Logic.{_⊎_, inl, inr, ⊎-elim}
@@ -16,7 +16,6 @@ use Rattle.values.specs.Types.{widthOf}
 use Rattle.values.specs.Values.{typed, stored, patternOf}
 use Rattle.values.specs.declared.Value.{Value}
 use Rattle.values.specs.declared.Value.the-variants.{Bool as VBool, Signed, Real, Lreal}
-use Rattle.values.proofs.Types.{each-type}
 use Rattle.conversions.specs.declared.Converted.the-variants.{NotHeld}
 use Rattle.conversions.specs.Conversions.{Result, stores, not-held, withSign, held, nearestWhole, toWhole, narrow, toReal, toLreal, toType, resultAs, converted}
 use Rattle.conversions.specs.Kept.{Whole, number}
@@ -24,11 +23,9 @@ use Rattle.conversions.specs.Rounding.{Nearest, Rounded}
 use Rattle.conversions.proofs.Types.{isStored}
 use Rattle.conversions.proofs.Rounding.{nearest-unique}
 use Rattle.conversions.proofs.Ieee.{whole-rounded, narrow-rounded}
-use Rattle.conversions.proofs.Kept.{kept, nearest-stored, same-whole}
+use Rattle.conversions.proofs.Kept.{each-whole, kept, nearest-stored, same-whole}
 use Rattle.conversions.proofs.Floats.{real-stored, lreal-stored}
 use Rattle.rounding.specs.Rounding.{Stands, Conversions}
-
--- ---- whole types one by one
 
 whole-type : (t : ℕ) → Whole t → t < 12
 whole-type t w = below t (inside-true 1 8 t w .1)
@@ -36,17 +33,13 @@ whole-type t w = below t (inside-true 1 8 t w .1)
     below : (t : ℕ) → t ≤ 8 → t < 12
     below t h = omega arith
 
-eight : (P : ℕ → Type 0) → P 1 → P 2 → P 3 → P 4 → P 5 → P 6 → P 7 → P 8 → (t : ℕ) → Whole t → P t
-eight P a b c d e f g h t w =
-    each-type (λ (t : ℕ). Whole t → P t) absurd-bool (λ _. a) (λ _. b) (λ _. c) (λ _. d) (λ _. e) (λ _. f) (λ _. g) (λ _. h) absurd-bool absurd-bool absurd-bool t (whole-type t w) w
-
 -- ---- a conversion by the number that it is of
 
 -- two operands that every whole width takes alike
 same-destination : (v u : Value) → ((b : Bool) (w : ℕ) → toWhole b w v ≡ toWhole b w u) → (t : ℕ) → Whole t → resultAs t (toType t v) ≡ resultAs t (toType t u)
 unfolding toType
 same-destination v u e =
-    eight (λ (t : ℕ). resultAs t (toType t v) ≡ resultAs t (toType t u))
+    each-whole (λ (t : ℕ). resultAs t (toType t v) ≡ resultAs t (toType t u))
     (ap (resultAs 1) (e true 1)) (ap (resultAs 2) (e false 1)) (ap (resultAs 3) (e true 2)) (ap (resultAs 4) (e false 2))
     (ap (resultAs 5) (e true 4)) (ap (resultAs 6) (e false 4)) (ap (resultAs 7) (e true 8)) (ap (resultAs 8) (e false 8))
 
@@ -56,7 +49,7 @@ holds t z = resultAs t (toType t (Signed z))
 
 whole-alike : (b : Bool) (w p t : ℕ) → Whole t → toWhole b w (typed t p) ≡ toWhole b w (Signed (number t p))
 unfolding toWhole typed number
-whole-alike b w p = eight (λ (t : ℕ). toWhole b w (typed t p) ≡ toWhole b w (Signed (number t p))) refl refl refl refl refl refl refl refl
+whole-alike b w p = each-whole (λ (t : ℕ). toWhole b w (typed t p) ≡ toWhole b w (Signed (number t p))) refl refl refl refl refl refl refl refl
 
 by-number : (from to p : ℕ) → Whole from → Whole to → converted from to p ≡ holds to (number from p)
 unfolding converted
@@ -72,11 +65,11 @@ by-nearest from to p s m e x =
 
 real-alike : (p t : ℕ) → Whole t → Ieee.ofInt binary32 (number t p) ≡ toReal (typed t p)
 unfolding toReal typed number
-real-alike p = eight (λ (t : ℕ). Ieee.ofInt binary32 (number t p) ≡ toReal (typed t p)) refl refl refl refl refl refl refl refl
+real-alike p = each-whole (λ (t : ℕ). Ieee.ofInt binary32 (number t p) ≡ toReal (typed t p)) refl refl refl refl refl refl refl refl
 
 lreal-alike : (p t : ℕ) → Whole t → Ieee.ofInt binary64 (number t p) ≡ toLreal (typed t p)
 unfolding toLreal typed number
-lreal-alike p = eight (λ (t : ℕ). Ieee.ofInt binary64 (number t p) ≡ toLreal (typed t p)) refl refl refl refl refl refl refl refl
+lreal-alike p = each-whole (λ (t : ℕ). Ieee.ofInt binary64 (number t p) ≡ toLreal (typed t p)) refl refl refl refl refl refl refl refl
 
 -- what is stored for a float type
 to-real : (from p : ℕ) → converted from 9 p ≡ stores (stored 9 (Real (toReal (typed from p))))
@@ -105,7 +98,7 @@ lost : (from to p : ℕ) (x : Float) → ((b : Bool) (w : ℕ) → nearestWhole 
 unfolding converted toWhole toType
 lost from to p x n s w =
     same-destination (typed from p) (VBool false) (λ b k. ⊎-elim (λ y. ap (toWhole b k) y ∙ n b k) (λ y. ap (toWhole b k) y ∙ n b k) s) to w
-    ∙ eight (λ (t : ℕ). resultAs t (toType t (VBool false)) ≡ not-held) refl refl refl refl refl refl refl refl to w
+    ∙ each-whole (λ (t : ℕ). resultAs t (toType t (VBool false)) ≡ not-held) refl refl refl refl refl refl refl refl to w
 
 nan-not : (b : Bool) (w : ℕ) → nearestWhole b w nan ≡ NotHeld
 unfolding nearestWhole

@@ -1,5 +1,5 @@
 // Runs every vector of the files in data/ through the typed commands and conversions: the published float vectors, comparisons of special floats,
-// whole numbers at their limits, and conversions between every two number types. For each file and command it prints how many vectors were compared and how many differed.
+// whole numbers at their limits, conversions between every two number types, and packed decimal. For each file and command it prints how many vectors were compared and how many differed.
 ghost use Prim.Native.Nat.{_<_};
 use commands::Operands;
 use commands::Performed;
@@ -109,6 +109,8 @@ fn code_of(op: u64) -> u8 {
         0x6c_74 => 36, // lt
         0x6e_65 => 37, // ne
         0x63_6f_6e_76_65_72_74 => 43, // convert
+        0x70_61_63_6b => 44, // pack
+        0x75_6e_70_61_63_6b => 45, // unpack
         _ => 0,
     }
 }
@@ -159,6 +161,15 @@ fn run(code: u8, t: u8, a: u64, b: u64) -> Outcome {
     }
 }
 
+// How a conversion on memory ended, whose result stands at 16.
+fn ended(conversion: Conversion, d: &[u8; 24]) -> Outcome {
+    match conversion {
+        Conversion::Done => Outcome::Stored(memory::load(d, 16, 8)),
+        Conversion::NotHeld => Outcome::Fault,
+        Conversion::Beyond => Outcome::Unknown,
+    }
+}
+
 // A conversion on memory: a at 0, the result at 16.
 fn converted(from: u8, to: u64, a: u64) -> Outcome {
     if 11 < from {
@@ -169,17 +180,37 @@ fn converted(from: u8, to: u64, a: u64) -> Outcome {
     }
     let mut d = [0u8; 24];
     memory::store(&mut d, 0, 8, a);
-    match conversions::convert_at(&mut d, from, to as u8, 16, 0) {
-        Conversion::Done => Outcome::Stored(memory::load(&d, 16, 8)),
-        Conversion::NotHeld => Outcome::Fault,
-        Conversion::Beyond => Outcome::Unknown,
+    let c = conversions::convert_at(&mut d, from, to as u8, 16, 0);
+    ended(c, &d)
+}
+
+// The same of whole to packed, and of packed to whole.
+fn to_packed(t: u8, a: u64) -> Outcome {
+    if 11 < t {
+        return Outcome::Unknown;
     }
+    let mut d = [0u8; 24];
+    memory::store(&mut d, 0, 8, a);
+    let c = packed::pack_at(&mut d, t, 16, 0);
+    ended(c, &d)
+}
+
+fn from_packed(t: u8, a: u64) -> Outcome {
+    if 11 < t {
+        return Outcome::Unknown;
+    }
+    let mut d = [0u8; 24];
+    memory::store(&mut d, 0, 8, a);
+    let c = packed::unpack_at(&mut d, t, 16, 0);
+    ended(c, &d)
 }
 
 fn outcome_of(l: Line, code: u8) -> Outcome {
     let t = type_of(l.kind);
     match code {
         43 => converted(t, l.b, l.a),
+        44 => to_packed(t, l.a),
+        45 => from_packed(t, l.a),
         _ => run(code, t, l.a, l.b),
     }
 }
@@ -245,6 +276,8 @@ fn print_name(code: u64) {
         36 => io::write_all(STDOUT_FILENO, b"lt"),
         37 => io::write_all(STDOUT_FILENO, b"ne"),
         43 => io::write_all(STDOUT_FILENO, b"convert"),
+        44 => io::write_all(STDOUT_FILENO, b"pack"),
+        45 => io::write_all(STDOUT_FILENO, b"unpack"),
         _ => io::write_all(STDOUT_FILENO, b"unknown"),
     }
     ;
@@ -307,4 +340,5 @@ fn main() {
     examine(b"comparisons.txt");
     examine(b"whole-numbers.txt");
     examine(b"conversions.txt");
+    examine(b"packed.txt");
 }

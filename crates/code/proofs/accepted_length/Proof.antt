@@ -71,8 +71,16 @@ conversion-length-requires : tie.Need-conversion-length-requires
 unfolding instructionLength instructionAt typedAt lengthOf layoutOf pick
 conversion-length-requires c κs = (c .before .before .before .pre, record { own = λ _. rw (c .match .keys14); all = λ _. rw (c .match .keys14) }, rw (c .match .keys14))
 
+packed-length-requires : tie.Need-packed-length-requires
+unfolding instructionLength instructionAt typedAt lengthOf layoutOf pick
+packed-length-requires c κs = (c .before .before .before .pre, record { own = λ _. rw (c .match .keys15); all = λ _. rw (c .match .keys15) }, rw (c .match .keys15))
+
+packed-length-requires-2 : tie.Need-packed-length-requires-2
+unfolding instructionLength instructionAt typedAt lengthOf layoutOf pick
+packed-length-requires-2 c κs = (c .before .before .before .pre, record { own = λ _. rw (c .match .keys16); all = λ _. rw (c .match .keys16) }, rw (c .match .keys16))
+
 typed-length-requires-2 : tie.Need-typed-length-requires-2
-typed-length-requires-2 c κs = let n = c .match .rest in let b = c .before .before .shared-slice-known .given (c .before .before .before .args .p) .fits in let o : operandsOk (instructionAt (c .before .before .before .args .code .now) (c .before .before .before .args .p)) ≡ takes (byte (c .before .before .before .args .code .now) (c .before .before .before .args .p)) (byte (c .before .before .before .args .code .now) (c .before .before .before .args .p + 1)) = ap operandsOk (typed-left _ _ (n .0 .0 .0 .0 .0 .0 .0 .0 .0 .0 .0 .0 .0 .1) (n .0 .0 .0 .0 .0 .0 .0 .0 .0 .0 .0 .0 .1) (n .0 .0 .0 .0 .0 .0 .0 .0 .0 .0 .0 .1) (n .0 .0 .0 .0 .0 .0 .0 .0 .0 .0 .1) (n .0 .0 .0 .0 .0 .0 .0 .0 .0 .1) (n .0 .0 .0 .0 .0 .0 .0 .0 .1) (n .0 .0 .0 .0 .0 .0 .0 .1) (n .0 .0 .0 .0 .0 .0 .1) (n .0 .0 .0 .0 .0 .1) (n .0 .0 .0 .0 .1) (n .0 .0 .1) (n .0 .1) (n .1)) ∙ typed-takes _ _ b in (c .before .before .before .pre, omega arith, typed-sized _ _ b (n .0 .0 .0 .0 .0 .0 .0 .1) (n .0 .0 .0 .1) o, o)
+typed-length-requires-2 c κs = let n = c .match .rest in let b = c .before .before .shared-slice-known .given (c .before .before .before .args .p) .fits in let o : operandsOk (instructionAt (c .before .before .before .args .code .now) (c .before .before .before .args .p)) ≡ takes (byte (c .before .before .before .args .code .now) (c .before .before .before .args .p)) (byte (c .before .before .before .args .code .now) (c .before .before .before .args .p + 1)) = ap operandsOk (typed-left _ _ (n .0 .0 .0 .0 .0 .0 .0 .0 .0 .0 .0 .0 .0 .0 .0 .1) (n .0 .0 .0 .0 .0 .0 .0 .0 .0 .0 .0 .0 .0 .0 .1) (n .0 .0 .0 .0 .0 .0 .0 .0 .0 .0 .0 .0 .0 .1) (n .0 .0 .0 .0 .0 .0 .0 .0 .0 .0 .0 .0 .1) (n .0 .0 .0 .0 .0 .0 .0 .0 .0 .0 .0 .1) (n .0 .0 .0 .0 .0 .0 .0 .0 .0 .0 .1) (n .0 .0 .0 .0 .0 .0 .0 .0 .0 .1) (n .0 .0 .0 .0 .0 .0 .0 .0 .1) (n .0 .0 .0 .0 .0 .0 .0 .1) (n .0 .0 .0 .0 .0 .0 .1) (n .0 .0 .0 .0 .1) (n .0 .0 .0 .1) (n .0 .0 .1) (n .0 .1) (n .1)) ∙ typed-takes _ _ b in (c .before .before .before .pre, omega arith, typed-sized _ _ b (n .0 .0 .0 .0 .0 .0 .0 .0 .0 .1) (n .0 .0 .0 .0 .0 .1) o, o)
 
 returns : tie.Need-returns
 returns c = search needs
@@ -119,6 +127,12 @@ returns-14 c = search needs
 returns-15 : tie.Need-returns-15
 returns-15 c = search needs
 
+returns-16 : tie.Need-returns-16
+returns-16 c = search needs
+
+returns-17 : tie.Need-returns-17
+returns-17 c = search needs
+
 pub accepted-length-spec : {M : Type 1} → statement M
 accepted-length-spec =
     tie.close
@@ -138,6 +152,8 @@ accepted-length-spec =
     plain-length-requires-8
     plain-length-requires-9
     conversion-length-requires
+    packed-length-requires
+    packed-length-requires-2
     typed-length-requires-2
     returns
     returns-2
@@ -153,4 +169,6 @@ accepted-length-spec =
     returns-12
     returns-13
     returns-14
-    returns-15)
+    returns-15
+    returns-16
+    returns-17)

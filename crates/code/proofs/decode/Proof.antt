@@ -215,6 +215,48 @@ word-requires-24 : tie.Need-word-requires-24
 unfolding lengthOf layoutOf pick
 word-requires-24 c κs = omega (arith, length-at _ (c .before .before .before .match .keys13))
 
+add-t70 : tie.Need-add-t70
+add-t70 c = search needs
+
+shared-slice-read-t72 : tie.Need-shared-slice-read-t72
+unfolding lengthOf layoutOf pick
+shared-slice-read-t72 c = omega (arith, length-at _ (c .before .match .keys14))
+
+add-word-25 : tie.Need-add-word-25
+add-word-25 c = search needs
+
+word-requires-25 : tie.Need-word-requires-25
+unfolding lengthOf layoutOf pick
+word-requires-25 c κs = omega (arith, length-at _ (c .before .match .keys14))
+
+add-word-26 : tie.Need-add-word-26
+add-word-26 c = search needs
+
+word-requires-26 : tie.Need-word-requires-26
+unfolding lengthOf layoutOf pick
+word-requires-26 c κs = omega (arith, length-at _ (c .before .before .match .keys14))
+
+add-t77 : tie.Need-add-t77
+add-t77 c = search needs
+
+shared-slice-read-t79 : tie.Need-shared-slice-read-t79
+unfolding lengthOf layoutOf pick
+shared-slice-read-t79 c = omega (arith, length-at _ (c .before .match .keys15))
+
+add-word-27 : tie.Need-add-word-27
+add-word-27 c = search needs
+
+word-requires-27 : tie.Need-word-requires-27
+unfolding lengthOf layoutOf pick
+word-requires-27 c κs = omega (arith, length-at _ (c .before .match .keys15))
+
+add-word-28 : tie.Need-add-word-28
+add-word-28 c = search needs
+
+word-requires-28 : tie.Need-word-requires-28
+unfolding lengthOf layoutOf pick
+word-requires-28 c κs = omega (arith, length-at _ (c .before .before .match .keys15))
+
 typed-requires : tie.Need-typed-requires
 typed-requires c κs = search needs
 
@@ -271,7 +313,15 @@ unfolding instructionAt typedAt pick
 returns-13 c = rw (c .before .before .before .before .match .keys13, c .word24 .ensures, c .before .word23 .ensures)
 
 returns-14 : tie.Need-returns-14
-returns-14 c = let n = c .before .match .rest in c .typed .ensures ∙ sym (typed-left _ _ (n .0 .0 .0 .0 .0 .0 .0 .0 .0 .0 .0 .0 .1) (n .0 .0 .0 .0 .0 .0 .0 .0 .0 .0 .0 .1) (n .0 .0 .0 .0 .0 .0 .0 .0 .0 .0 .1) (n .0 .0 .0 .0 .0 .0 .0 .0 .0 .1) (n .0 .0 .0 .0 .0 .0 .0 .0 .1) (n .0 .0 .0 .0 .0 .0 .0 .1) (n .0 .0 .0 .0 .0 .0 .1) (n .0 .0 .0 .0 .0 .1) (n .0 .0 .0 .0 .1) (n .0 .0 .0 .1) (n .0 .0 .1) (n .0 .1) (n .1))
+unfolding instructionAt typedAt pick
+returns-14 c = rw (c .before .before .before .match .keys14, c .word26 .ensures, c .before .word25 .ensures)
+
+returns-15 : tie.Need-returns-15
+unfolding instructionAt typedAt pick
+returns-15 c = rw (c .before .before .before .match .keys15, c .word28 .ensures, c .before .word27 .ensures)
+
+returns-16 : tie.Need-returns-16
+returns-16 c = let n = c .before .match .rest in c .typed .ensures ∙ sym (typed-left _ _ (n .0 .0 .0 .0 .0 .0 .0 .0 .0 .0 .0 .0 .0 .0 .1) (n .0 .0 .0 .0 .0 .0 .0 .0 .0 .0 .0 .0 .0 .1) (n .0 .0 .0 .0 .0 .0 .0 .0 .0 .0 .0 .0 .1) (n .0 .0 .0 .0 .0 .0 .0 .0 .0 .0 .0 .1) (n .0 .0 .0 .0 .0 .0 .0 .0 .0 .0 .1) (n .0 .0 .0 .0 .0 .0 .0 .0 .0 .1) (n .0 .0 .0 .0 .0 .0 .0 .0 .1) (n .0 .0 .0 .0 .0 .0 .0 .1) (n .0 .0 .0 .0 .0 .0 .1) (n .0 .0 .0 .0 .0 .1) (n .0 .0 .0 .0 .1) (n .0 .0 .0 .1) (n .0 .0 .1) (n .0 .1) (n .1))
 
 pub decode-spec : {M : Type 1} → statement M
 decode-spec =
@@ -336,6 +386,18 @@ decode-spec =
     word-requires-23
     add-word-24
     word-requires-24
+    add-t70
+    shared-slice-read-t72
+    add-word-25
+    word-requires-25
+    add-word-26
+    word-requires-26
+    add-t77
+    shared-slice-read-t79
+    add-word-27
+    word-requires-27
+    add-word-28
+    word-requires-28
     typed-requires
     returns
     returns-2
@@ -350,4 +412,6 @@ decode-spec =
     returns-11
     returns-12
     returns-13
-    returns-14)
+    returns-14
+    returns-15
+    returns-16)

@@ -5,7 +5,7 @@ use native.Mathlib.Omega.{arith}
 use borrow.Author.Needs.{needs}
 use Rattle.verdict.specs.Verdict.{pick}
 use Rattle.code.specs.Commands.{lengthOf, layoutOf}
-use Rattle.processor.proofs.Accepted.{inside-code, stands, stands-report, stands-constant, stands-branch, stands-element, three-inside, last-here, typed-inside, typed-given, stands-conversion}
+use Rattle.processor.proofs.Accepted.{inside-code, stands, stands-report, stands-constant, stands-branch, stands-element, three-inside, last-here, typed-inside, typed-given, stands-conversion, stands-packing, stands-unpacking}
 use Rattle.processor.proofs.Commands.{return-at, jump-at, typed-done, typed}
 use Rattle.processor.proofs.execute.Tie as tie
 use Rattle.processor.proofs.execute.Statement.{statement}
@@ -43,11 +43,17 @@ store-number-requires-2 c κs = (inr (c .before .before .match .keys8, refl, ref
 convert-requires : tie.Need-convert-requires
 convert-requires c κs = stands-conversion _ _ _ (c .before .before .before .before .before .before .pre) (c .before .match .keys27)
 
+pack-requires : tie.Need-pack-requires
+pack-requires c κs = stands-packing _ _ _ (c .before .before .before .before .before .before .pre) (c .before .match .keys28)
+
+unpack-requires : tie.Need-unpack-requires
+unpack-requires c κs = stands-unpacking _ _ _ (c .before .before .before .before .before .before .pre) (c .before .match .keys29)
+
 branch-requires : tie.Need-branch-requires
-branch-requires c κs = let n = c .before .before .match .rest .0 .0 .0 .0 .0 .0 .0 .0 .0 .0 .0 .0 .0 .0 .0 .0 .0 .0 .0 .0 .0 .0 .0 .0 .0 in stands-branch _ _ _ (c .before .before .before .before .before .before .before .pre) _ refl (c .before .if1 .taken) (n .0 .1) (n .1)
+branch-requires c κs = let n = c .before .before .match .rest .0 .0 .0 .0 .0 .0 .0 .0 .0 .0 .0 .0 .0 .0 .0 .0 .0 .0 .0 .0 .0 .0 .0 .0 .0 .0 .0 in stands-branch _ _ _ (c .before .before .before .before .before .before .before .pre) _ refl (c .before .if1 .taken) (n .0 .1) (n .1)
 
 access-element-requires : tie.Need-access-element-requires
-access-element-requires c κs = let n = c .before .before .before .match .rest .0 .0 .0 .0 .0 .0 .0 .0 .0 .0 .0 .0 .0 .0 .0 .0 .0 .0 .0 .0 .0 in stands-element _ _ _ (c .before .before .before .before .before .before .before .before .pre) _ refl (c .before .before .if1 .left) (c .before .if2 .taken) (n .0 .0 .0 .1) (n .0 .0 .1) (n .0 .1) (n .1)
+access-element-requires c κs = let n = c .before .before .before .match .rest .0 .0 .0 .0 .0 .0 .0 .0 .0 .0 .0 .0 .0 .0 .0 .0 .0 .0 .0 .0 .0 .0 .0 in stands-element _ _ _ (c .before .before .before .before .before .before .before .before .pre) _ refl (c .before .before .if1 .left) (c .before .if2 .taken) (n .0 .0 .0 .1) (n .0 .0 .1) (n .0 .1) (n .1)
 
 single-requires : tie.Need-single-requires
 single-requires c κs = typed-inside _ _ _ (c .before .before .before .before .before .before .before .before .pre) 27 4 (search last-here)
@@ -64,8 +70,8 @@ returns c = sym (return-at _ _ _ (c .match .keys1))
 returns-2 : tie.Need-returns-2
 returns-2 c = rw (c .word .ensures) (sym (jump-at _ _ _ (c .before .match .keys2)))
 
-returns-30 : tie.Need-returns-30
-returns-30 c = let n = c .before .before .before .before .before .before .before .before .before .match .rest in typed-done _ _ _ 27 4 _ _ _ _ (last-here _ _ _ (c .before .before .before .before .before .before .before .before .before .before .before .before .before .before .pre) (c .before .before .before .before .before .before .before .if2 .left) (n .0 .0 .0 .0 .0 .0 .0 .0 .0 .0 .0 .0 .0 .0 .0 .0 .0 .0 .0 .0 .1) (n .0 .0 .0 .0 .0 .0 .0 .0 .0 .0 .0 .0 .0 .0 .0 .0 .0 .0 .0 .1) (n .1) (n .0 .0 .0 .0 .0 .0 .0 .0 .0 .0 .0 .0 .0 .0 .0 .0 .0 .0 .1) (n .0 .0 .0 .0 .0 .0 .0 .0 .0 .0 .0 .0 .0 .0 .0 .0 .0 .1) (n .0 .0 .0 .0 .0 .0 .0 .0 .0 .0 .0 .0 .0 .0 .0 .0 .1) (n .0 .0 .0 .0 .0 .0 .0 .0 .0 .0 .0 .0 .0 .0 .0 .1) (n .0 .0 .0 .0 .0 .0 .0 .0 .0 .0 .0 .0 .0 .0 .1) (n .0 .0 .0 .0 .0 .0 .0 .0 .0 .0 .0 .0 .0 .1) (n .0 .0 .0 .0 .0 .0 .0 .0 .0 .0 .0 .0 .1) (n .0 .0 .0 .0 .0 .0 .0 .0 .0 .0 .0 .1) (n .0 .0 .0 .0 .0 .0 .0 .0 .0 .0 .1) (n .0 .0 .0 .0 .0 .0 .0 .0 .0 .1) (n .0 .0 .0 .0 .0 .0 .0 .0 .1) (n .0 .0 .0 .0 .0 .0 .0 .1) (n .0 .0 .0 .0 .0 .0 .1) (n .0 .0 .0 .0 .0 .1) (n .0 .0 .0 .0 .1) (n .0 .0 .0 .1) (n .0 .0 .1) (n .0 .1)) (c .before .before .before .before .before .single .ensures .0) (c .before .before .before .before .not-at .ensures) (c .outcome19 .ensures)
+returns-32 : tie.Need-returns-32
+returns-32 c = let n = c .before .before .before .before .before .before .before .before .before .match .rest in typed-done _ _ _ 27 4 _ _ _ _ (last-here _ _ _ (c .before .before .before .before .before .before .before .before .before .before .before .before .before .before .pre) (c .before .before .before .before .before .before .before .if2 .left) (n .0 .0 .0 .0 .0 .0 .0 .0 .0 .0 .0 .0 .0 .0 .0 .0 .0 .0 .0 .0 .0 .0 .1) (n .0 .0 .0 .0 .0 .0 .0 .0 .0 .0 .0 .0 .0 .0 .0 .0 .0 .0 .0 .0 .0 .1) (n .0 .0 .1) (n .0 .1) (n .1) (n .0 .0 .0 .0 .0 .0 .0 .0 .0 .0 .0 .0 .0 .0 .0 .0 .0 .0 .0 .0 .1) (n .0 .0 .0 .0 .0 .0 .0 .0 .0 .0 .0 .0 .0 .0 .0 .0 .0 .0 .0 .1) (n .0 .0 .0 .0 .0 .0 .0 .0 .0 .0 .0 .0 .0 .0 .0 .0 .0 .0 .1) (n .0 .0 .0 .0 .0 .0 .0 .0 .0 .0 .0 .0 .0 .0 .0 .0 .0 .1) (n .0 .0 .0 .0 .0 .0 .0 .0 .0 .0 .0 .0 .0 .0 .0 .0 .1) (n .0 .0 .0 .0 .0 .0 .0 .0 .0 .0 .0 .0 .0 .0 .0 .1) (n .0 .0 .0 .0 .0 .0 .0 .0 .0 .0 .0 .0 .0 .0 .1) (n .0 .0 .0 .0 .0 .0 .0 .0 .0 .0 .0 .0 .0 .1) (n .0 .0 .0 .0 .0 .0 .0 .0 .0 .0 .0 .0 .1) (n .0 .0 .0 .0 .0 .0 .0 .0 .0 .0 .0 .1) (n .0 .0 .0 .0 .0 .0 .0 .0 .0 .0 .1) (n .0 .0 .0 .0 .0 .0 .0 .0 .0 .1) (n .0 .0 .0 .0 .0 .0 .0 .0 .1) (n .0 .0 .0 .0 .0 .0 .0 .1) (n .0 .0 .0 .0 .0 .0 .1) (n .0 .0 .0 .0 .0 .1) (n .0 .0 .0 .0 .1) (n .0 .0 .0 .1)) (c .before .before .before .before .before .single .ensures .0) (c .before .before .before .before .not-at .ensures) (c .outcome19 .ensures)
 
 pub execute-spec : {M : Type 1} → statement M
 execute-spec =
@@ -156,6 +162,8 @@ execute-spec =
     (λ c. search typed)
     (λ c κs. search needs)
     convert-requires
+    pack-requires
+    unpack-requires
     branch-requires
     access-element-requires
     single-requires
@@ -219,4 +227,8 @@ execute-spec =
     (λ c. search needs)
     (λ c. search needs)
     (λ c. search needs)
-    returns-30)
+    (λ c. search needs)
+    (λ c. search needs)
+    (λ c. search needs)
+    (λ c. search needs)
+    returns-32)

@@ -1,0 +1,4 @@
+pub mod Packed
+pub mod Data
+pub mod ThereAndBack
+pub mod Examples
