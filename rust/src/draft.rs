@@ -171,6 +171,12 @@ impl Program {
         self.raw(&[&[CONVERT, from, to], &words[..]].concat())
     }
 
+    /// PACK or UNPACK.
+    pub fn digits(self, code: u8, kind: u8, destination: u16, source: u16) -> Program {
+        let words = [destination, source].map(u16::to_le_bytes).concat();
+        self.raw(&[&[code, kind], &words[..]].concat())
+    }
+
     /// Where each instruction that was written starts.
     pub fn starts(&self) -> &[u16] {
         &self.starts

@@ -147,6 +147,27 @@ fn any_conversion(random: &mut Random) -> (u8, u8) {
     (random.pick(&kinds), random.pick(&kinds))
 }
 
+fn any_packing(random: &mut Random) -> (u8, u8) {
+    (random.pick(&[PACK, UNPACK]), random.pick(&[BYTE, WORD, DWORD, LWORD]))
+}
+
+/// A number that mostly can be packed or unpacked, at times by one too much or with one digit above 9.
+fn near_digits(random: &mut Random, code: u8, width: usize) -> [u8; 8] {
+    let digits = 2 * width;
+    if code == PACK {
+        let most = 10u64.pow(digits as u32);
+        let numbers = [most - 1, most, most + 1, random.draw() % most, random.draw() % most, random.draw() % 100];
+        let number = random.pick(&numbers);
+        return number.to_le_bytes();
+    }
+    let mut packed = (0..digits).fold(0, |packed, _| packed << 4 | random.draw() % 10);
+    if random.once_in(3) {
+        let at = 4 * random.below(digits);
+        packed = packed & !(15 << at) | (9 + random.draw() % 7) << at;
+    }
+    packed.to_le_bytes()
+}
+
 /// An address that mostly lies within the data, often at its end, sometimes anywhere.
 fn address(random: &mut Random, data_size: usize, width: usize) -> u16 {
     let last = data_size.saturating_sub(width);
@@ -187,7 +208,7 @@ fn code(random: &mut Random, data_size: usize) -> Code {
 /// One instruction, at times with another before it that gives an index or a divisor. Places of targets are noted for later.
 fn any_instruction(random: &mut Random, program: Program, data_size: usize, targets: &mut Vec<u16>) -> Program {
     let at = |random: &mut Random, width| address(random, data_size, width);
-    match random.below(26) {
+    match random.below(27) {
         0 => program.returns(),
         1 => {
             targets.push(program.here() + 1);
@@ -226,6 +247,14 @@ fn any_instruction(random: &mut Random, program: Program, data_size: usize, targ
             program.element(random.pick(&[AURD, AUWD]), at(random, size), at(random, 3 * size), index, size as u8, count)
         }
         13 => program.register(random.pick(&[CYCLE_TIME, FLAG_BYTE]), at(random, 4)),
+        16 => {
+            let (code, kind) = any_packing(random);
+            let width = WIDTHS[kind as usize] as usize;
+            let source = at(random, width);
+            let number = near_digits(random, code, width);
+            let program = if random.once_in(3) { program } else { program.constant(source, &number[..width]) };
+            program.digits(code, kind, at(random, width), source)
+        }
         14..=15 => {
             let (from, to) = any_conversion(random);
             let [width, wide] = [from, to].map(|kind| WIDTHS[kind as usize] as usize);
@@ -435,6 +464,8 @@ pub fn command(random: &mut Random) -> Case {
         Program::new().constant(index, &last.to_le_bytes()).element(random.pick(&[AURD, AUWD]), 0, ABSOLUTE - 1, index, 8, MOST_ELEMENTS)
     } else if random.once_in(3) {
         conversion(random, &mut buffer)
+    } else if random.once_in(6) {
+        packing(random, &mut buffer)
     } else {
         let (code, kind) = any_typed(random);
         let width = WIDTHS[kind as usize] as usize;
@@ -480,6 +511,18 @@ fn conversion(random: &mut Random, buffer: &mut [u8]) -> Program {
     let last = buffer.len() - wide;
     let destination = if random.once_in(20) { last + 1 } else { random.between(0, last) };
     Program::new().convert(from, to, destination as u16 + ABSOLUTE, source as u16 + ABSOLUTE)
+}
+
+/// The same of packed decimal.
+fn packing(random: &mut Random, buffer: &mut [u8]) -> Program {
+    let (code, kind) = any_packing(random);
+    let width = WIDTHS[kind as usize] as usize;
+    let last = buffer.len() - width;
+    let source = random.between(0, last);
+    let number = near_digits(random, code, width);
+    buffer[source..source + width].copy_from_slice(&number[..width]);
+    let destination = if random.once_in(20) { last + 1 } else { random.between(0, last) };
+    Program::new().digits(code, kind, destination as u16 + ABSOLUTE, source as u16 + ABSOLUTE)
 }
 
 /// A number of the first type near a power of two, or halfway between two numbers of the second.
@@ -726,6 +769,10 @@ pub const FILE_DAMAGES: &[FileDamage] = &[
     ("type of a conversion", refusal::CODE, |random, draft| {
         let (at, kind) = (random.between(1, 2), random.pick(&[BOOL, TIME, 12, 255]));
         set_operand(random, draft, &[CONVERT], at, kind)
+    }),
+    ("type of a packed decimal", refusal::CODE, |random, draft| {
+        let kind = random.pick(&[BOOL, SINT, INT, LINT, REAL, LREAL, TIME, 12, 255]);
+        set_operand(random, draft, &[PACK, UNPACK], 1, kind)
     }),
     ("MCD length", refusal::CODE, |random, draft| {
         let count = random.pick(&[0, 9, 255]);

@@ -64,6 +64,8 @@ pub mod command {
     pub const CYCLE_TIME: u8 = 41;
     pub const FLAG_BYTE: u8 = 42;
     pub const CONVERT: u8 = 43;
+    pub const PACK: u8 = 44;
+    pub const UNPACK: u8 = 45;
 }
 
 /// The types by type byte.
@@ -141,7 +143,7 @@ const fn lengths() -> [u8; 256] {
             MCD => 4,
             MEMCP | CONVERT => 7,
             AURD | AUWD => 10,
-            NOT => 6,
+            NOT | PACK | UNPACK => 6,
             ADD..=MOD | AND..=XOR | SHL..=ROR | GT..=NE => 8,
             _ => 0,
         };
@@ -456,6 +458,7 @@ fn judge_code(code: &[u8], starts: &mut CodePlaces) -> Judged<()> {
                 demand((1..=MOST_ELEMENTS).contains(&word(instruction, 8)), refusal::CODE)?;
             }
             ADD..=NE => demand(takes_type(last, instruction[1]), refusal::CODE)?,
+            PACK | UNPACK => demand(matches!(instruction[1], BYTE | WORD | DWORD | LWORD), refusal::CODE)?,
             CONVERT => demand(instruction[1..3].iter().all(|kind| (SINT..=LREAL).contains(kind)), refusal::CODE)?,
             _ => {}
         }
@@ -781,6 +784,31 @@ fn convert(from: u8, to: u8, data: &mut [u8], destination: usize, source: usize)
     }
 }
 
+/// Codes 44 and 45 (document 02, 2.8): digits are read in one base and written in the other, the last one first.
+#[inline(always)]
+fn digits(pack: bool, kind: u8, data: &mut [u8], destination: usize, source: usize) -> Result<(), Fault> {
+    let width = WIDTHS[kind as usize] as usize;
+    let mut own = [0; 8];
+    own[..width].copy_from_slice(stretch(data, source, width)?);
+    let place = stretch_mut(data, destination, width)?;
+    let (base, other) = if pack { (10, 16) } else { (16, 10) };
+    let (mut rest, mut weight, mut number) = (u64::from_le_bytes(own), 1, 0);
+    for _ in 0..2 * width {
+        let digit = rest % base;
+        if digit > 9 {
+            return Err(flag::NOT_HELD);
+        }
+        rest /= base;
+        number += digit as u128 * weight;
+        weight *= other;
+    }
+    if rest != 0 {
+        return Err(flag::NOT_HELD);
+    }
+    place.copy_from_slice(&(number as u64).to_le_bytes()[..width]);
+    Ok(())
+}
+
 /// AURD and AUWD: variable and index, then the index's range, then the chosen element.
 #[inline(always)]
 fn element(reads: bool, instruction: &[u8; 10], offset: u16, data: &mut [u8]) -> Result<(), Fault> {
@@ -878,6 +906,11 @@ fn execute(code: &[u8], core: &mut Core, data: &mut [u8]) -> Result<u16, Fault> 
             let i = instruction::<7>(code, counter);
             convert(i[1], i[2], data, resolve(offset, word(i, 3)), resolve(offset, word(i, 5)))?;
             Ok(counter + 7)
+        }
+        way @ (PACK | UNPACK) => {
+            let i = instruction::<6>(code, counter);
+            digits(way == PACK, i[1], data, resolve(offset, word(i, 2)), resolve(offset, word(i, 4)))?;
+            Ok(counter + 6)
         }
         _ => unreachable!("the loader admits no other code"),
     }

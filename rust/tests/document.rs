@@ -291,6 +291,11 @@ fn edges_of_code() {
         (&[CONVERT, SINT, TIME, 0, 0, 0, 0, RETURN], 6),
         (&[CONVERT, TIME, SINT, 0, 0, 0, 0, RETURN], 6),
         (&[CONVERT, SINT, LREAL, 0, 0, 0], 6),
+        (&[PACK, LWORD, 0, 0, 0, 0, RETURN], 0),
+        (&[PACK, INT, 0, 0, 0, 0, RETURN], 6),
+        (&[UNPACK, BYTE, 0, 0, 0, 0, RETURN], 0),
+        (&[UNPACK, BOOL, 0, 0, 0, 0, RETURN], 6),
+        (&[UNPACK, REAL, 0, 0, 0, 0, RETURN], 6),
         (&[SHL, BOOL, 0, 0, 0, 0, 0, 0, RETURN], 6),
         (&[GT, 12, 0, 0, 0, 0, 0, 0, RETURN], 6),
         (&[GT, TIME, 0, 0, 0, 0, 0, 0], 7),
@@ -315,7 +320,7 @@ fn length_table() {
         6 => 4,
         7 | 43 => 7,
         8 | 9 => 10,
-        27 => 6,
+        27 | 44 | 45 => 6,
         16..=20 | 24..=26 | 28..=37 => 8,
         _ => 0,
     };
@@ -559,6 +564,42 @@ fn conversions() {
         let beyond = Program::new().convert(SINT, BYTE, 16, 0);
         assert_eq!(outcome(&*machine, [0xFF; 16], beyond), (flag::BEYOND_DATA, vec![0xFF; 16]));
         let beyond = Program::new().convert(LREAL, BYTE, 0, 9);
+        assert_eq!(outcome(&*machine, [0xFF; 16], beyond), (flag::BEYOND_DATA, vec![0xFF; 16]));
+    }
+}
+
+/// Document 02, 2.8: its own numbers, there and back, and what has too many digits or one above 9.
+#[test]
+fn packed_decimal() {
+    for machine in machines() {
+        let after = |code, kind, number: u64| {
+            let mut data = [0xEE; 16];
+            data[8..].copy_from_slice(&number.to_le_bytes());
+            let (flags, data) = outcome(&*machine, data, Program::new().digits(code, kind, 0, 8));
+            (flags, u64::from_le_bytes(data[..8].try_into().unwrap()) & (u64::MAX >> (64 - 8 * WIDTHS[kind as usize] as usize)))
+        };
+        assert_eq!((after(PACK, BYTE, 98), after(UNPACK, BYTE, 152)), ((0, 152), (0, 98)));
+        for (code, kind, number) in [
+            (PACK, BYTE, 100),
+            (PACK, WORD, 10_000),
+            (PACK, DWORD, 100_000_000),
+            (PACK, LWORD, 10_000_000_000_000_000),
+            (UNPACK, BYTE, 0x9A),
+            (UNPACK, WORD, 0xA000),
+            (UNPACK, LWORD, 0xA000_0000_0000_0000),
+        ] {
+            let kept = u64::from_le_bytes([0xEE; 8]) & (u64::MAX >> (64 - 8 * WIDTHS[kind as usize] as usize));
+            assert_eq!(after(code, kind, number), (flag::NOT_HELD, kept), "{code} {kind} {number:x}");
+        }
+        for kind in [BYTE, WORD, DWORD, LWORD] {
+            let most = 10u64.pow(2 * WIDTHS[kind as usize] as u32) - 1;
+            for number in [0, 1, 9, 10, 42, 99, most / 2, most] {
+                let (flags, packed) = after(PACK, kind, number);
+                assert_eq!((flags, format!("{packed:x}")), (0, number.to_string()));
+                assert_eq!(after(UNPACK, kind, packed), (0, number));
+            }
+        }
+        let beyond = Program::new().digits(PACK, WORD, 15, 0);
         assert_eq!(outcome(&*machine, [0xFF; 16], beyond), (flag::BEYOND_DATA, vec![0xFF; 16]));
     }
 }
