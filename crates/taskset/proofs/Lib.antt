@@ -7,3 +7,4 @@ pub mod Traced
 pub mod Transit
 pub mod Sizes
 pub mod Loading
+pub mod Blank

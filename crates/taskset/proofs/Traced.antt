@@ -1,20 +1,23 @@
--- `trace-exactly`: a trace is refused (22) exactly if it is not, for each core, a count and that many records, and nothing after.
+-- `trace-exactly`: a trace is refused (22) exactly if it has bytes and is not, for each core, a count and that many records, and nothing after.
 -- In order: records by their bytes; from acceptance to the parts; from the parts to acceptance. Assumes nothing.
 use mathlib.Core.Path.{_≡_, refl, sym, ap, ap₂, _∙_, subst}
 use mathlib.Core.Bool.{Bool, true, false}
+use mathlib.Core.Logic.{inl, inr}
 use mathlib.Core.List.{List, [], _∷_, _++_}
 use Prim.Native.Nat.{ℕ, zero, suc, _+_, _-_, _*_, _≤_}
 use native.Mathlib.Nat.{suc-mul, zero-mul}
 use native.Mathlib.Omega.{arith}
-use borrow.Author.Tests.{eq-eqb}
+use borrow.Author.Tests.{eq-eqb, eqb-true}
 use lib.Dec.{eqb}
 use lib.ListN.{length, take, drop, getD, length-append, length-drop, take-append-drop, drop-of-length-le}
 use lib.Seq.{drop-cons, drop-drop, drop-at, getD-drop, length-take-le}
-use Rattle.verdict.proofs.Verdict.{yes, no}
+use Rattle.verdict.specs.Verdict.{either}
+use Rattle.verdict.proofs.Truth.{either-stop}
+use Rattle.verdict.proofs.Verdict.{yes, no, either-true}
 use Rattle.memory.specs.Memory.{word}
 use Rattle.memory.proofs.Number.{read-word}
 use Rattle.records.specs.File.{cores, inputSize}
-use Rattle.taskset.specs.Trace.{recordSize, tracePlace, traceRefusal}
+use Rattle.taskset.specs.Trace.{blank, recordSize, tracePlace, traceRefusal}
 use Rattle.taskset.specs.Rules.{Records, none, one, Parts, end, core, Traced}
 use Rattle.taskset.proofs.Records.{trace-ends, part-inside}
 
@@ -60,18 +63,18 @@ cut t p s h =
 
 module _ (f t : List ℕ) where
   -- the parts of n cores, core k first, stand where core k's count does
-  parts : traceRefusal f t ≡ 0 → (n k : ℕ) → k + n ≡ cores f → Parts f k n (drop (tracePlace f t k) t)
+  parts : blank t ≡ false → traceRefusal f t ≡ 0 → (n k : ℕ) → k + n ≡ cores f → Parts f k n (drop (tracePlace f t k) t)
   unfolding tracePlace
-  parts z zero k e =
+  parts b z zero k e =
       let i : k ≡ cores f = omega arith in
-      let p : tracePlace f t k ≡ length t = ap (tracePlace f t) i ∙ trace-ends f t z in
+      let p : tracePlace f t k ≡ length t = ap (tracePlace f t) i ∙ trace-ends f t b z in
       subst (Parts f k 0) (sym (drop-of-length-le t {i = tracePlace f t k} (omega arith))) end
-  parts z (suc n) k e =
+  parts b z (suc n) k e =
       subst (Parts f k (suc n)) (sym (cut t (tracePlace f t k) (word t (tracePlace f t k) * recordSize f k) inside))
-      (core (getD t (tracePlace f t k) 0) (getD t (tracePlace f t k + 1) 0) _ records (parts z n (suc k) (omega arith)))
+      (core (getD t (tracePlace f t k) 0) (getD t (tracePlace f t k + 1) 0) _ records (parts b z n (suc k) (omega arith)))
     where
       inside : tracePlace f t k + 2 + word t (tracePlace f t k) * recordSize f k ≤ length t
-      inside = part-inside f t k z (omega arith)
+      inside = part-inside f t k b z (omega arith)
 
       counted : length (take (word t (tracePlace f t k) * recordSize f k) (drop (tracePlace f t k + 2) t)) ≡ word t (tracePlace f t k) * (4 + inputSize f k)
       counted = length-take-le _ (drop (tracePlace f t k + 2) t) (omega (arith, inside, length-drop (tracePlace f t k + 2) t))
@@ -127,18 +130,26 @@ module _ (f t : List ℕ) where
 
   accepts : Traced f t → traceRefusal f t ≡ 0
   unfolding tracePlace traceRefusal
-  accepts p =
+  accepts (inl e) = yes _ 22 (sym (either-stop _ (eq-eqb _ _ e)))
+  accepts (inr p) =
       let i : 0 + cores f ≡ cores f = omega arith in
-      yes _ 22 (eq-eqb _ _ (ap (tracePlace f t) (sym i) ∙ ends p refl (omega arith)))
+      yes _ 22 (ap (either (blank t)) (eq-eqb _ _ (ap (tracePlace f t) (sym i) ∙ ends p refl (omega arith))) ∙ either-true (blank t))
+
+  traced : traceRefusal f t ≡ 0 → Traced f t
+  unfolding tracePlace
+  traced z = go (blank t) refl
+    where
+      go : (b : Bool) → blank t ≡ b → Traced f t
+      go true b = inl (eqb-true _ _ b)
+      go false b = inr (parts b z (cores f) 0 (omega arith))
 
   refuses : (Traced f t → ⊥) → traceRefusal f t ≡ 22
-  unfolding traceRefusal tracePlace
-  refuses n = go (eqb (tracePlace f t (cores f)) (length t)) refl
+  unfolding traceRefusal
+  refuses n = go (either (blank t) (eqb (tracePlace f t (cores f)) (length t))) refl
     where
-      go : (b : Bool) → eqb (tracePlace f t (cores f)) (length t) ≡ b → traceRefusal f t ≡ 22
-      go true e = absurd (n (parts (yes _ 22 e) (cores f) 0 (omega arith)))
+      go : (b : Bool) → either (blank t) (eqb (tracePlace f t (cores f)) (length t)) ≡ b → traceRefusal f t ≡ 22
+      go true e = absurd (n (traced (yes _ 22 e)))
       go false e = no _ 22 e
 
   pub trace-exactly : TraceExactly
-  unfolding tracePlace
-  trace-exactly = record { parts = λ z. parts z (cores f) 0 (omega arith); accepted = accepts; refused = refuses }
+  trace-exactly = record { parts = traced; accepted = accepts; refused = refuses }

@@ -5,3 +5,4 @@ pub mod Rules
 pub mod Items
 pub mod Task
 pub mod Transit
+pub mod Blank

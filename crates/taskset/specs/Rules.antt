@@ -2,6 +2,7 @@
 -- Not here: the rules of a core's, a variable's record and of two variables (crate `records`), of a core's code (crate `code`); the numbers.
 use Prim.Native.Nat.{ℕ, suc, _+_, _*_, _≤_, _<_}
 use mathlib.Core.Path.{_≡_}
+use mathlib.Core.Logic.{_⊎_}
 use mathlib.Core.List.{List, [], _∷_, _++_}
 use lib.ListN.{length, take}
 use Rattle.memory.specs.Memory.{word}
@@ -47,5 +48,6 @@ pub data Parts (f : List ℕ) : ℕ → ℕ → List ℕ → Type 0 where
   core : {k n : ℕ} (low high : ℕ) (records : List ℕ) {rest : List ℕ} → Records (inputSize f k) (low + 256 * high) records → Parts f (suc k) n rest
       → Parts f k (suc n) (low ∷ high ∷ (records ++ rest))
 
+-- no bytes at all, or the parts of all cores
 abbrev pub Traced : List ℕ → List ℕ → Type 0
-Traced f t = Parts f 0 (cores f) t
+Traced f t = (length t ≡ 0) ⊎ Parts f 0 (cores f) t

@@ -1,10 +1,12 @@
 -- Document 01: "The trace holds for each core a 16-bit count, then records of 4 time bytes and the input bytes." Core 0 comes first.
--- In order: places; the refusal; what loading a trace answers.
+-- Document 02, 2.6: "A trace of zero length shall mean one record for every core, with time 0 and all input bytes 0."
+-- In order: places; records; the refusal; what loading a trace answers. Not here: what a record holds (specs/Task).
 use Prim.Native.Nat.{ℕ, zero, suc, _+_, _*_}
+use mathlib.Core.Bool.{Bool}
 use mathlib.Core.List.{List, [], _∷_}
 use lib.Dec.{ltb, eqb}
 use lib.ListN.{length}
-use Rattle.verdict.specs.Verdict.{pick, unless}
+use Rattle.verdict.specs.Verdict.{pick, either, unless}
 use Rattle.memory.specs.Memory.{word}
 use Rattle.records.specs.File.{cores, inputSize}
 use Rattle.taskset.specs.declared.TraceLayout.{TraceLayout}
@@ -20,17 +22,24 @@ unfoldable pub tracePlace : List ℕ → List ℕ → ℕ → ℕ
 tracePlace f t zero = 0
 tracePlace f t (suc k) = tracePlace f t k + 2 + word t (tracePlace f t k) * recordSize f k
 
+-- ---- records
+
+-- the trace has no bytes
+abbrev pub blank : List ℕ → Bool
+blank t = eqb (length t) 0
+
+-- how many core k has: one, where the trace has no bytes
 abbrev pub recordCount : List ℕ → List ℕ → ℕ → ℕ
-recordCount f t k = word t (tracePlace f t k)
+recordCount f t k = pick (blank t) 1 (word t (tracePlace f t k))
 
 -- where record i of core k stands
 abbrev pub samplePlace : List ℕ → List ℕ → ℕ → ℕ → ℕ
 samplePlace f t k i = tracePlace f t k + 2 + i * recordSize f k
 
--- ---- cut or too long: what a cut trace lacks reads as 0, so its parts end past its own end
+-- ---- cut or too long, unless it has no bytes: what a cut trace lacks reads as 0, so its parts end past its own end
 
 unfoldable pub traceRefusal : List ℕ → List ℕ → ℕ
-traceRefusal f t = unless (eqb (tracePlace f t (cores f)) (length t)) 22
+traceRefusal f t = unless (either (blank t) (eqb (tracePlace f t (cores f)) (length t))) 22
 
 -- ---- what loading answers: the refusal with zeros, or 0 with each core's count and the place of its first record
 

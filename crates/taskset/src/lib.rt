@@ -298,10 +298,13 @@ fn trace_place(f: &[u8], t: &[u8], k: usize) -> usize
     p
 }
 
-// The refusal number of the trace t of the task set file f, 0 where it is sound.
+// The refusal number of the trace t of the task set file f, 0 where it is sound. A trace of no bytes is: it means one record for every core.
 pub fn judge_trace(f: &[u8], t: &[u8]) -> u8
     ensures { λ r. ⌜ r ≡ traceRefusal (now (f .entry)) (now (t .entry)) ⌝ }
 {
+    if t.len() == 0 {
+        return 0;
+    }
     if trace_place(f, t, memory::byte_at(f, 4) as usize) == t.len() {
         return 0;
     }
@@ -314,6 +317,9 @@ fn count_of(f: &[u8], t: &[u8], k: usize) -> u16
 {
     if memory::byte_at(f, 4) as usize <= k {
         return 0;
+    }
+    if t.len() == 0 {
+        return 1;
     }
     memory::word_at(t, trace_place(f, t, k)) as u16
 }

@@ -1,8 +1,9 @@
--- Zero past the last core, else the count.
+-- Zero past the last core; one where the trace has no bytes, else the count.
 use mathlib.Core.Path.{sym}
-use borrow.Author.Tests.{lt-ltb, le-ltb}
+use borrow.Author.Tests.{le-ltb}
 use Rattle.verdict.specs.Verdict.{pick}
 use Rattle.taskset.specs.Trace.{countOf}
+use Rattle.taskset.proofs.Records.{counted-blank, counted-stored}
 use borrow.Author.Needs.{needs}
 use Rattle.taskset.proofs.count_of.Statement.{statement}
 use Rattle.taskset.proofs.count_of.Tie as tie
@@ -17,6 +18,9 @@ returns : tie.Need-returns
 unfolding countOf pick
 returns c = rw (sym (c .before .byte-at .ensures), le-ltb _ _ (c .if1 .taken))
 
+returns-2 : tie.Need-returns-2
+returns-2 c = counted-blank _ _ _ _ (c .before .before .byte-at .ensures) (c .before .if1 .left) (c .if2 .taken)
+
 trace-place-requires : tie.Need-trace-place-requires
 trace-place-requires c κs = search needs
 
@@ -26,9 +30,8 @@ word-at-requires c κs = search needs
 cast-result : tie.Need-cast-result
 cast-result c = search needs
 
-returns-2 : tie.Need-returns-2
-unfolding countOf pick
-returns-2 c = rw (sym (c .before .before .before .byte-at .ensures), lt-ltb _ _ (c .before .before .if1 .left), sym (c .before .trace-place .ensures .0)) (c .word-at .ensures .0)
+returns-3 : tie.Need-returns-3
+returns-3 c = counted-stored _ _ _ _ _ _ (c .before .before .before .before .byte-at .ensures) (c .before .before .before .if1 .left) (c .before .before .if2 .left) (c .before .trace-place .ensures .0) (c .word-at .ensures .0)
 
 pub count-of-spec : {M : Type 1} → statement M
 count-of-spec =
@@ -37,7 +40,8 @@ count-of-spec =
     byte-at-requires
     cast-if1
     returns
+    returns-2
     trace-place-requires
     word-at-requires
     cast-result
-    returns-2)
+    returns-3)

@@ -1,11 +1,17 @@
--- The parts end where the trace ends, or they do not.
-use mathlib.Core.Path.{sym, ap, _∙_}
-use borrow.Author.Tests.{eq-eqb, ne-eqb}
-use Rattle.verdict.proofs.Verdict.{yes, no}
-use Rattle.taskset.specs.Trace.{tracePlace, traceRefusal}
+-- The trace has no bytes; or its parts end where it ends, or they do not.
+use mathlib.Core.Path.{sym}
+use borrow.Author.Tests.{eq-eqb}
+use Rattle.verdict.proofs.Truth.{either-stop}
+use Rattle.verdict.proofs.Verdict.{yes}
+use Rattle.taskset.specs.Trace.{traceRefusal}
+use Rattle.taskset.proofs.Records.{judged-end, judged-elsewhere}
 use borrow.Author.Needs.{needs}
 use Rattle.taskset.proofs.judge_trace.Statement.{statement}
 use Rattle.taskset.proofs.judge_trace.Tie as tie
+
+returns : tie.Need-returns
+unfolding traceRefusal
+returns c = sym (yes _ 22 (sym (either-stop _ (eq-eqb _ _ (c .if1 .taken)))))
 
 byte-at-requires : tie.Need-byte-at-requires
 byte-at-requires c κs = search needs
@@ -16,14 +22,11 @@ cast-trace-place c = search needs
 trace-place-requires : tie.Need-trace-place-requires
 trace-place-requires c κs = search needs
 
-returns : tie.Need-returns
-unfolding traceRefusal
-returns c = sym (yes _ _ (eq-eqb _ _ (sym (c .before .trace-place .ensures .0 ∙ ap (tracePlace (c .before .before .before .before .before .args .f .now) (c .before .before .before .before .before .args .t .now)) (c .before .before .byte-at .ensures)) ∙ c .if1 .taken)))
-
 returns-2 : tie.Need-returns-2
-unfolding traceRefusal
-returns-2 c = sym (no _ _ (ne-eqb _ _ (λ z. c .if1 .left (c .before .trace-place .ensures .0 ∙ ap (tracePlace (c .before .before .before .before .before .args .f .now) (c .before .before .before .before .before .args .t .now)) (c .before .before .byte-at .ensures) ∙ z))))
+returns-2 c = judged-end _ _ _ _ (c .before .before .before .if1 .left) (c .before .trace-place .ensures .0) (c .before .before .byte-at .ensures) (c .if2 .taken)
+
+returns-3 : tie.Need-returns-3
+returns-3 c = judged-elsewhere _ _ _ _ (c .before .before .before .if1 .left) (c .before .trace-place .ensures .0) (c .before .before .byte-at .ensures) (c .if2 .left)
 
 pub judge-trace-spec : {M : Type 1} → statement M
-judge-trace-spec =
-    tie.close (tie.spec byte-at-requires cast-trace-place trace-place-requires returns returns-2)
+judge-trace-spec = tie.close (tie.spec returns byte-at-requires cast-trace-place trace-place-requires returns-2 returns-3)
