@@ -1,6 +1,6 @@
 -- What the acceptance of a file and of a trace says of them, as far as states and steps need it.
 use mathlib.Core.Path.{_≡_}
-use mathlib.Core.Bool.{true}
+use mathlib.Core.Bool.{true, false}
 use mathlib.Core.List.{List}
 use Prim.Native.Nat.{ℕ, _+_, _≤_, _<_}
 use lib.ListN.{length}
@@ -8,7 +8,7 @@ use Rattle.memory.specs.Memory.{word}
 use Rattle.code.specs.Code.{judgeCode, isStart}
 use Rattle.records.specs.File.{cores, dataSize, inputSize, limit}
 use Rattle.taskset.specs.Judge.{codePlace, codeOf, judge}
-use Rattle.taskset.specs.Trace.{recordSize, recordCount, samplePlace, traceRefusal}
+use Rattle.taskset.specs.Trace.{blank, recordSize, recordCount, samplePlace, traceRefusal}
 use Rattle.exchange.specs.Laid.{Laid}
 
 pub record Set (f t : List ℕ) : Type 0 where
@@ -28,4 +28,4 @@ pub record Set (f t : List ℕ) : Type 0 where
   pub start : (k : ℕ) → k < cores f → isStart (codeOf f k) 0 ≡ true
   -- the trace
   pub counts : (k : ℕ) → recordCount f t k ≤ 65535
-  pub records : (k : ℕ) → k < cores f → (i : ℕ) → i < recordCount f t k → samplePlace f t k i + recordSize f k ≤ length t
+  pub records : blank t ≡ false → (k : ℕ) → k < cores f → (i : ℕ) → i < recordCount f t k → samplePlace f t k i + recordSize f k ≤ length t

@@ -9,7 +9,7 @@ use Prim.Native.Nat.{ℕ, zero, suc, _+_, _-_, _*_, _≤_, _<_}
 use native.Mathlib.Omega.{arith}
 use borrow.Author.Tests.{eq-eqb, ne-eqb}
 use lib.Dec.{eqb}
-use lib.ListN.{length, getD, set, take, drop, drop-of-length-le}
+use lib.ListN.{length, getD, set, take, drop, replicate, drop-of-length-le}
 use lib.Seq.{drop-cons, drop-drop, map-set-same}
 use Rattle.verdict.proofs.Verdict.{pick-true, pick-false, by-pick}
 use Rattle.memory.specs.Memory.{splice, part, readLE, start, total, split}
@@ -104,8 +104,8 @@ module _ {f t : List ℕ} {k : ℕ} {c : CoreTask} {r : Registers} {d : List ℕ
   unfolding coreTask
   record-is = ap (λ (x : CoreTask). x .records + r .cycles * (4 + x .inputs)) (w .task)
 
-  pub record-inside : r .cycles < c .count → c .records + r .cycles * (4 + c .inputs) + (4 + c .inputs) ≤ length t
-  record-inside h = omega (arith, record-is, inputs-are, w .accepted .records k (w .known) (r .cycles) (omega (arith, count-is)))
+  pub record-inside : (length t ≡ 0 → ⊥) → r .cycles < c .count → c .records + r .cycles * (4 + c .inputs) + (4 + c .inputs) ≤ length t
+  record-inside b h = omega (arith, record-is, inputs-are, w .accepted .records (ne-eqb _ _ b) k (w .known) (r .cycles) (omega (arith, count-is)))
 
   pub inputs-inside : c .inputs ≤ length d
   inputs-inside = omega (arith, inputs-are, w .accepted .inputs k (w .known), w .fit .size)
@@ -120,14 +120,33 @@ module _ {f t : List ℕ} {k : ℕ} {c : CoreTask} {r : Registers} {d : List ℕ
   joined h m l u sh =
       does-joined-0 (taskOf f t) k r d sh h (sampleAt f t k (r .cycles)) (drop (suc (r .cycles)) (samplesOf f t k)) m (samples-left f t k (r .cycles) (omega (arith, count-is))) u
 
-  pub read-acquired : (h : Semaphore) (time place : ℕ) (d′ : List ℕ) → r .mode ≡ 0 → r .cycles < c .count → place ≡ c .records + r .cycles * (4 + c .inputs)
-      → time ≡ readLE t place 4 → d′ ≡ splice d 0 (part t (place + 4) (c .inputs)) → turn h k ≡ true → Alone f t k r d h (ReadAcquired time) d′
-  unfolding taskOf sampleAt
-  read-acquired h time place d′ m l p e g u sh =
+  -- what the record holds: as it stands in the trace, or as a trace of no bytes means it
+  pub stored-time : (length t ≡ 0 → ⊥) → (x place : ℕ) → place ≡ c .records + r .cycles * (4 + c .inputs) → x ≡ readLE t place 4 → x ≡ sampleAt f t k (r .cycles) .time
+  unfolding sampleAt
+  stored-time b x place p e = e ∙ ap (λ (q : ℕ). readLE t q 4) (p ∙ record-is) ∙ sym (ap (λ (y : Sample). y .time) (pick-false _ _ _ (ne-eqb _ _ b)))
+
+  pub stored-input : (length t ≡ 0 → ⊥) → (d′ : List ℕ) (place : ℕ) → place ≡ c .records + r .cycles * (4 + c .inputs) → d′ ≡ splice d 0 (part t (place + 4) (c .inputs))
+      → d′ ≡ splice d 0 (sampleAt f t k (r .cycles) .input)
+  unfolding sampleAt
+  stored-input b d′ place p g =
+      g ∙ ap₂ (λ (q n : ℕ). splice d 0 (part t (q + 4) n)) (p ∙ record-is) inputs-are
+      ∙ sym (ap (λ (y : Sample). splice d 0 (y .input)) (pick-false _ _ _ (ne-eqb _ _ b)))
+
+  pub blank-time : length t ≡ 0 → 0 ≡ sampleAt f t k (r .cycles) .time
+  unfolding sampleAt
+  blank-time b = sym (ap (λ (y : Sample). y .time) (pick-true _ _ _ (eq-eqb _ _ b)))
+
+  pub blank-input : length t ≡ 0 → (d′ : List ℕ) → d′ ≡ splice d 0 (replicate (c .inputs) 0) → d′ ≡ splice d 0 (sampleAt f t k (r .cycles) .input)
+  unfolding sampleAt
+  blank-input b d′ g =
+      g ∙ ap (λ (n : ℕ). splice d 0 (replicate n 0)) inputs-are ∙ sym (ap (λ (y : Sample). splice d 0 (y .input)) (pick-true _ _ _ (eq-eqb _ _ b)))
+
+  pub read-acquired : (h : Semaphore) (time : ℕ) (d′ : List ℕ) → r .mode ≡ 0 → r .cycles < c .count → time ≡ sampleAt f t k (r .cycles) .time
+      → d′ ≡ splice d 0 (sampleAt f t k (r .cycles) .input) → turn h k ≡ true → Alone f t k r d h (ReadAcquired time) d′
+  unfolding taskOf
+  read-acquired h time d′ m l e g u sh =
       does-read-acquired (taskOf f t) k r d sh h (sampleAt f t k (r .cycles)) (drop (suc (r .cycles)) (samplesOf f t k)) time d′ m
-      (samples-left f t k (r .cycles) (omega (arith, count-is)))
-      (e ∙ ap (λ (q : ℕ). readLE t q 4) (p ∙ record-is))
-      (g ∙ ap₂ (λ (q n : ℕ). splice d 0 (part t (q + 4) n)) (p ∙ record-is) inputs-are) u
+      (samples-left f t k (r .cycles) (omega (arith, count-is))) e g u
 
   -- ---- modes 1 and 4: the bytes of an exchange
 

@@ -8,12 +8,12 @@ use states::CoreTask;
 ghost use mathlib.Core.Path.{_≡_};
 ghost use mathlib.Core.List.{[]};
 ghost use mathlib.Core.Logic.{_≢_};
-ghost use Prim.Native.Nat.{_+_};
-ghost use lib.ListN.{length, getD};
-ghost use Rattle.memory.specs.Memory.{total, split};
+ghost use Prim.Native.Nat.{_+_, _<_, _≤_};
+ghost use lib.ListN.{length, getD, replicate};
+ghost use Rattle.memory.specs.Memory.{splice, total, split};
 ghost use Rattle.exchange.specs.Exchange.{At};
 ghost use Rattle.records.specs.File.{variables, recordPlace};
-ghost use Rattle.taskset.specs.Task.{sizesOf};
+ghost use Rattle.taskset.specs.Task.{sizesOf, sampleAt};
 ghost use Rattle.steps.specs.Effects.{Instructs, Exchanges, ExchangesAlone, ExchangesOn, InstructsIn, ExchangesIn};
 ghost use Rattle.steps.specs.declared.Exchange.the-variants.{Joins, WriteBegun};
 ghost use Rattle.verdict.specs.Verdict.{pick};
@@ -37,6 +37,32 @@ pub enum Exchange {
 
 // ---- one step of core k, by its mode: c is its task, r its registers, d its data
 
+// Zeros for the first n bytes.
+fn clear(d: &mut [u8], n: usize)
+    requires { ⌜ n ≤ length (now d) ⌝ }
+    ensures { λ _. ⌜ now (d .exit) ≡ splice (now (d .entry)) 0 (replicate n 0) ⌝ }
+{
+    let mut i = 0;
+    while i < n {
+        d[i] = 0;
+        i += 1;
+    }
+}
+
+// The input bytes of the record of this cycle go to the first data bytes; its time is the answer. A trace of no bytes means time 0 and zeros.
+fn take_record(r: Registers, k: usize, c: CoreTask, file: &[u8], trace: &[u8], d: &mut [u8]) -> u32
+    requires { ⌜ Ready (now file) (now trace) k c r (now d) × (r .cycles < c .count) ⌝ }
+    ensures { λ x. ⌜ (x ≡ sampleAt (now (file .entry)) (now (trace .entry)) k (r .cycles) .time) × (now (d .exit) ≡ splice (now (d .entry)) 0 (sampleAt (now (file .entry)) (now (trace .entry)) k (r .cycles) .input)) ⌝ }
+{
+    if trace.len() == 0 {
+        clear(d, c.inputs);
+        return 0;
+    }
+    let place = c.records + r.cycles as usize * (4 + c.inputs);
+    memory::copy(d, 0, trace, place + 4, c.inputs);
+    memory::load(trace, place, 4) as u32
+}
+
 // Mode 0: nothing, if the input records are spent; else, in the core's turn, time and inputs of the record of this cycle, and out of it a place in line.
 fn begin_reading(
     r: Registers,
@@ -57,9 +83,7 @@ fn begin_reading(
     if !turn {
         return Exchange::Joins;
     }
-    let place = c.records + cycles * (4 + c.inputs);
-    memory::copy(d, 0, trace, place + 4, c.inputs);
-    Exchange::ReadBegun(memory::load(trace, place, 4) as u32)
+    Exchange::ReadBegun(take_record(r, k, c, file, trace, d))
 }
 
 // Mode 1: the next byte of the read variables, if any is left; if then none is left, release.

@@ -1,0 +1,64 @@
+-- The record of this cycle lies within a trace that has bytes, its inputs within the data. Assumes nothing.
+use mathlib.Core.Path.{refl}
+use native.Mathlib.Omega.{arith}
+use Rattle.steps.proofs.Given.{record-inside, inputs-inside, stored-time, stored-input, blank-time, blank-input}
+use borrow.Author.Needs.{needs}
+use Rattle.steps.proofs.take_record.Statement.{statement}
+use Rattle.steps.proofs.take_record.Tie as tie
+
+clear-requires : tie.Need-clear-requires
+clear-requires c κs = omega (arith, inputs-inside (c .before .before .before .before .before .pre .0))
+
+same-length : tie.Need-same-length
+same-length c = search needs
+
+returns : tie.Need-returns
+returns c = (blank-time (c .before .before .before .before .before .before .before .before .pre .0) (c .before .before .before .before .if1 .taken), blank-input (c .before .before .before .before .before .before .before .before .pre .0) (c .before .before .before .before .if1 .taken) _ (c .before .before .clear .ensures))
+
+cast-place : tie.Need-cast-place
+cast-place c = search needs
+
+add-place : tie.Need-add-place
+add-place c = record { fits = omega (arith, record-inside (c .before .before .before .before .before .before .pre .0) (c .before .before .if1 .left) (c .before .before .before .before .before .before .pre .1)) }
+
+mul-place : tie.Need-mul-place
+mul-place c = record { fits = omega (arith, record-inside (c .before .before .before .before .before .before .pre .0) (c .before .before .if1 .left) (c .before .before .before .before .before .before .pre .1)) }
+
+add-place-2 : tie.Need-add-place-2
+add-place-2 c = record { fits = omega (arith, record-inside (c .before .before .before .before .before .before .before .pre .0) (c .before .before .before .if1 .left) (c .before .before .before .before .before .before .before .pre .1)) }
+
+add-copy : tie.Need-add-copy
+add-copy c = record { fits = omega (arith, record-inside (c .before .before .before .before .before .before .before .before .pre .0) (c .before .before .before .before .if1 .left) (c .before .before .before .before .before .before .before .before .pre .1)) }
+
+copy-requires : tie.Need-copy-requires
+copy-requires c κs = (omega (arith, inputs-inside (c .before .before .before .before .before .before .before .before .pre .0)), omega (arith, record-inside (c .before .before .before .before .before .before .before .before .pre .0) (c .before .before .before .before .if1 .left) (c .before .before .before .before .before .before .before .before .pre .1)))
+
+load-requires : tie.Need-load-requires
+load-requires c κs = (omega (arith, record-inside (c .before .before .before .before .before .before .before .before .before .before .before .pre .0) (c .before .before .before .before .before .before .before .if1 .left) (c .before .before .before .before .before .before .before .before .before .before .before .pre .1)), omega arith)
+
+cast-result : tie.Need-cast-result
+cast-result c = search needs
+
+same-length-2 : tie.Need-same-length-2
+same-length-2 c = search needs
+
+returns-2 : tie.Need-returns-2
+returns-2 c = (stored-time (c .before .before .before .before .before .before .before .before .before .before .before .before .pre .0) (c .before .before .before .before .before .before .before .before .if1 .left) _ _ refl (c .load .ensures .0), stored-input (c .before .before .before .before .before .before .before .before .before .before .before .before .pre .0) (c .before .before .before .before .before .before .before .before .if1 .left) _ _ refl (c .before .before .before .copy .ensures))
+
+pub take-record-spec : {M : Type 1} → statement M
+take-record-spec =
+    tie.close
+    (tie.spec
+    clear-requires
+    same-length
+    returns
+    cast-place
+    add-place
+    mul-place
+    add-place-2
+    add-copy
+    copy-requires
+    load-requires
+    cast-result
+    same-length-2
+    returns-2)
