@@ -95,6 +95,8 @@ fn refusals() {
         b"\x01",
     );
     one_core(b"missing trace", b"", b"");
+    one_core(b"a first cycle with no trace", b"", b"\x00\x00\x00\x00\x00");
+    one_core(b"and no second one", b"", b"\x00\x00\x00\x00\x00\x00\x00");
     one_core(b"trace before order", b"\x01", b"\x01");
     one_record(b"order names core 1", b"\x00\x01");
 }

@@ -724,7 +724,6 @@ fn bad_orders(f: &[u8], t: &[u8], s: State) {
 
 fn bad_traces(f: &[u8], s: State) {
     bad_order(b"trace of one byte", f, b"\x02", s, b"\x00", 22);
-    bad_order(b"no trace", f, b"", s, b"\x00", 22);
     bad_order(
         b"trace cut in its last record",
         f,
@@ -746,8 +745,8 @@ fn bad_traces(f: &[u8], s: State) {
 // More than one thing is wrong: 21, 22, 23, 20 are judged in this order.
 fn precedence(f: &[u8], t: &[u8], s: State) {
     let unfit = with_holder(s, 9);
-    bad_order(b"21 before 22", f, b"", unfit, b"\x02\x02\x02\x02", 21);
-    bad_order(b"22 before 23", f, b"", unfit, b"\x02", 22);
+    bad_order(b"21 before 22", f, b"\x02", unfit, b"\x02\x02\x02\x02", 21);
+    bad_order(b"22 before 23", f, b"\x02", unfit, b"\x02", 22);
     bad_order(b"23 before 20", f, t, unfit, b"\x02", 23);
 }
 

@@ -1,6 +1,6 @@
 -- The records of a sound trace lie in it, where the loaded trace says. Assumes nothing.
 use mathlib.Core.Path.{_≡_, sym, ap, _∙_}
-use mathlib.Core.Bool.{false}
+use mathlib.Core.Bool.{true, false}
 use mathlib.Core.List.{List}
 use Prim.Native.Nat.{ℕ, zero, suc, _+_, _-_, _*_, _≤_, _<_}
 use native.Mathlib.Nat.{mul-le-mul-right, add-mul, zero-mul}
@@ -9,6 +9,7 @@ use borrow.Author.Tests.{eqb-true, eq-eqb, ne-eqb, lt-ltb}
 use lib.Dec.{eqb}
 use lib.ListN.{length}
 use Rattle.verdict.specs.Verdict.{pick, unless}
+use Rattle.verdict.proofs.Truth.{either-stop}
 use Rattle.verdict.proofs.Verdict.{yes, no, unless-zero, pick-true, pick-false}
 use Rattle.memory.specs.Memory.{word}
 use Rattle.records.specs.File.{cores}
@@ -35,20 +36,23 @@ trace-ends f t b z = eqb-true _ _ (unless-zero _ 21 (sym (bytes-judged f t b) �
 
 -- ---- what judging finds, in the code's terms: p is where the parts of m cores end, w the number at p
 
-pub judged-end : (f t : List ℕ) (m p : ℕ) → (length t ≡ 0 → ⊥) → p ≡ tracePlace f t m → m ≡ cores f → p ≡ length t → 0 ≡ traceRefusal f t
-judged-end f t m p b e n q = sym (bytes-judged f t (ne-eqb _ _ b) ∙ yes _ 22 (eq-eqb _ _ (ap (tracePlace f t) (sym n) ∙ sym e ∙ q)))
+pub judged-end : (f t : List ℕ) (m p : ℕ) → blank t ≡ false → p ≡ tracePlace f t m → m ≡ cores f → p ≡ length t → 0 ≡ traceRefusal f t
+judged-end f t m p b e n q = sym (bytes-judged f t b ∙ yes _ 22 (eq-eqb _ _ (ap (tracePlace f t) (sym n) ∙ sym e ∙ q)))
 
-pub judged-elsewhere : (f t : List ℕ) (m p : ℕ) → (length t ≡ 0 → ⊥) → p ≡ tracePlace f t m → m ≡ cores f → (p ≡ length t → ⊥) → 22 ≡ traceRefusal f t
-judged-elsewhere f t m p b e n q = sym (bytes-judged f t (ne-eqb _ _ b) ∙ no _ 22 (ne-eqb _ _ (λ z. q (e ∙ ap (tracePlace f t) n ∙ z))))
+pub judged-elsewhere : (f t : List ℕ) (m p : ℕ) → blank t ≡ false → p ≡ tracePlace f t m → m ≡ cores f → (p ≡ length t → ⊥) → 22 ≡ traceRefusal f t
+judged-elsewhere f t m p b e n q = sym (bytes-judged f t b ∙ no _ 22 (ne-eqb _ _ (λ z. q (e ∙ ap (tracePlace f t) n ∙ z))))
 
-pub counted-blank : (f t : List ℕ) (m k : ℕ) → m ≡ cores f → k < m → length t ≡ 0 → 1 ≡ countOf f t k
+pub judged-blank : (f t : List ℕ) → blank t ≡ true → 0 ≡ traceRefusal f t
+unfolding traceRefusal
+judged-blank f t b = sym (yes _ 22 (sym (either-stop _ b)))
+
+pub counted-blank : (f t : List ℕ) (m k : ℕ) → m ≡ cores f → k < m → blank t ≡ true → 1 ≡ countOf f t k
 unfolding countOf
-counted-blank f t m k n h e = sym (pick-true _ _ _ (lt-ltb k (cores f) (omega arith)) ∙ pick-true _ _ _ (eq-eqb _ _ e))
+counted-blank f t m k n h b = sym (pick-true _ _ _ (lt-ltb k (cores f) (omega arith)) ∙ pick-true _ _ _ b)
 
-pub counted-stored : (f t : List ℕ) (m k p w : ℕ) → m ≡ cores f → k < m → (length t ≡ 0 → ⊥) → p ≡ tracePlace f t k → w ≡ word t p → w ≡ countOf f t k
+pub counted-stored : (f t : List ℕ) (m k p w : ℕ) → m ≡ cores f → k < m → blank t ≡ false → p ≡ tracePlace f t k → w ≡ word t p → w ≡ countOf f t k
 unfolding countOf
-counted-stored f t m k p w n h b e q =
-    q ∙ ap (word t) e ∙ sym (pick-true _ _ _ (lt-ltb k (cores f) (omega arith)) ∙ bytes-count f t k (ne-eqb _ _ b))
+counted-stored f t m k p w n h b e q = q ∙ ap (word t) e ∙ sym (pick-true _ _ _ (lt-ltb k (cores f) (omega arith)) ∙ bytes-count f t k b)
 
 -- ---- where records lie, in a trace that has bytes
 

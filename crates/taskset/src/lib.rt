@@ -7,7 +7,7 @@ ghost use Rattle.taskset.specs.Judge.{isMark, headRefusal, variablesRefu
 ghost use Rattle.taskset.specs.Layout.{basePlace, noCore, coreLayout, layoutOf, noLayout, loadOf};
 ghost use Rattle.memory.specs.Memory.{total};
 ghost use Rattle.taskset.specs.Task.{sizesOf};
-ghost use Rattle.taskset.specs.Trace.{tracePlace, traceRefusal, countOf, firstOf, loadTraceOf};
+ghost use Rattle.taskset.specs.Trace.{blank, tracePlace, traceRefusal, countOf, firstOf, loadTraceOf};
 
 // ---- the refusal of a task set file
 
@@ -298,11 +298,18 @@ fn trace_place(f: &[u8], t: &[u8], k: usize) -> usize
     p
 }
 
+// Whether a trace has no bytes.
+fn is_blank(t: &[u8]) -> bool
+    ensures { λ r. ⌜ r ≡ blank (now (t .entry)) ⌝ }
+{
+    t.len() == 0
+}
+
 // The refusal number of the trace t of the task set file f, 0 where it is sound. A trace of no bytes is: it means one record for every core.
 pub fn judge_trace(f: &[u8], t: &[u8]) -> u8
     ensures { λ r. ⌜ r ≡ traceRefusal (now (f .entry)) (now (t .entry)) ⌝ }
 {
-    if t.len() == 0 {
+    if is_blank(t) {
         return 0;
     }
     if trace_place(f, t, memory::byte_at(f, 4) as usize) == t.len() {
@@ -318,8 +325,8 @@ fn count_of(f: &[u8], t: &[u8], k: usize) -> u16
     if memory::byte_at(f, 4) as usize <= k {
         return 0;
     }
-    if t.len() == 0 {
-        return 1;
+    if is_blank(t) {
+        return 1; // one record for every core
     }
     memory::word_at(t, trace_place(f, t, k)) as u16
 }

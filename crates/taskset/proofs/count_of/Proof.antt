@@ -1,5 +1,5 @@
 -- Zero past the last core; one where the trace has no bytes, else the count.
-use mathlib.Core.Path.{sym}
+use mathlib.Core.Path.{sym, _∙_}
 use borrow.Author.Tests.{le-ltb}
 use Rattle.verdict.specs.Verdict.{pick}
 use Rattle.taskset.specs.Trace.{countOf}
@@ -18,8 +18,11 @@ returns : tie.Need-returns
 unfolding countOf pick
 returns c = rw (sym (c .before .byte-at .ensures), le-ltb _ _ (c .if1 .taken))
 
+is-blank-requires : tie.Need-is-blank-requires
+is-blank-requires c κs = search needs
+
 returns-2 : tie.Need-returns-2
-returns-2 c = counted-blank _ _ _ _ (c .before .before .byte-at .ensures) (c .before .if1 .left) (c .if2 .taken)
+returns-2 c = counted-blank _ _ _ _ (c .before .before .before .byte-at .ensures) (c .before .before .if1 .left) (sym (c .before .is-blank .ensures) ∙ c .if2 .taken)
 
 trace-place-requires : tie.Need-trace-place-requires
 trace-place-requires c κs = search needs
@@ -31,7 +34,7 @@ cast-result : tie.Need-cast-result
 cast-result c = search needs
 
 returns-3 : tie.Need-returns-3
-returns-3 c = counted-stored _ _ _ _ _ _ (c .before .before .before .before .byte-at .ensures) (c .before .before .before .if1 .left) (c .before .before .if2 .left) (c .before .trace-place .ensures .0) (c .word-at .ensures .0)
+returns-3 c = counted-stored _ _ _ _ _ _ (c .before .before .before .before .before .byte-at .ensures) (c .before .before .before .before .if1 .left) (sym (c .before .before .before .is-blank .ensures) ∙ c .before .before .if2 .left) (c .before .trace-place .ensures .0) (c .word-at .ensures .0)
 
 pub count-of-spec : {M : Type 1} → statement M
 count-of-spec =
@@ -40,6 +43,7 @@ count-of-spec =
     byte-at-requires
     cast-if1
     returns
+    is-blank-requires
     returns-2
     trace-place-requires
     word-at-requires

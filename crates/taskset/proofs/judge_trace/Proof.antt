@@ -1,17 +1,15 @@
 -- The trace has no bytes; or its parts end where it ends, or they do not.
-use mathlib.Core.Path.{sym}
-use borrow.Author.Tests.{eq-eqb}
-use Rattle.verdict.proofs.Truth.{either-stop}
-use Rattle.verdict.proofs.Verdict.{yes}
-use Rattle.taskset.specs.Trace.{traceRefusal}
-use Rattle.taskset.proofs.Records.{judged-end, judged-elsewhere}
+use mathlib.Core.Path.{sym, _∙_}
+use Rattle.taskset.proofs.Records.{judged-blank, judged-end, judged-elsewhere}
 use borrow.Author.Needs.{needs}
 use Rattle.taskset.proofs.judge_trace.Statement.{statement}
 use Rattle.taskset.proofs.judge_trace.Tie as tie
 
+is-blank-requires : tie.Need-is-blank-requires
+is-blank-requires c κs = search needs
+
 returns : tie.Need-returns
-unfolding traceRefusal
-returns c = sym (yes _ 22 (sym (either-stop _ (eq-eqb _ _ (c .if1 .taken)))))
+returns c = judged-blank _ _ (sym (c .before .is-blank .ensures) ∙ c .if1 .taken)
 
 byte-at-requires : tie.Need-byte-at-requires
 byte-at-requires c κs = search needs
@@ -23,10 +21,10 @@ trace-place-requires : tie.Need-trace-place-requires
 trace-place-requires c κs = search needs
 
 returns-2 : tie.Need-returns-2
-returns-2 c = judged-end _ _ _ _ (c .before .before .before .if1 .left) (c .before .trace-place .ensures .0) (c .before .before .byte-at .ensures) (c .if2 .taken)
+returns-2 c = judged-end _ _ _ _ (sym (c .before .before .before .before .is-blank .ensures) ∙ c .before .before .before .if1 .left) (c .before .trace-place .ensures .0) (c .before .before .byte-at .ensures) (c .if2 .taken)
 
 returns-3 : tie.Need-returns-3
-returns-3 c = judged-elsewhere _ _ _ _ (c .before .before .before .if1 .left) (c .before .trace-place .ensures .0) (c .before .before .byte-at .ensures) (c .if2 .left)
+returns-3 c = judged-elsewhere _ _ _ _ (sym (c .before .before .before .before .is-blank .ensures) ∙ c .before .before .before .if1 .left) (c .before .trace-place .ensures .0) (c .before .before .byte-at .ensures) (c .if2 .left)
 
 pub judge-trace-spec : {M : Type 1} → statement M
-judge-trace-spec = tie.close (tie.spec returns byte-at-requires cast-trace-place trace-place-requires returns-2 returns-3)
+judge-trace-spec = tie.close (tie.spec is-blank-requires returns byte-at-requires cast-trace-place trace-place-requires returns-2 returns-3)
