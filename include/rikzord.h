@@ -9,7 +9,7 @@
  * - Nothing else reads or writes that memory during the call.
  *
  * Each call answers the refusal number of document 01 or 02, 0 for none: 1 to 7 and 24 for the task set file (1: it is cut; 24: bytes follow its last
- * section), 21 lent memory, 22 the trace, 23 the state, 20 a core number; they are tried in this order. A refused call changes nothing. Any bytes may be lent: nothing is required of their values. The
+ * section), 21 lent memory, 22 the trace (one of no bytes means one record of zeros for every core), 23 the state, 20 a core number; they are tried in this order. A refused call changes nothing. Any bytes may be lent: nothing is required of their values. The
  * definitions are in crates/lent/specs/Lent.antt. */
 #ifndef RIKZORD_H
 #define RIKZORD_H

@@ -294,9 +294,12 @@ fn operand(random: &mut Random, kind: u8) -> [u8; 8] {
 
 // ---- traces, memories, states
 
-/// A sound trace and its counts.
+/// A sound trace and its counts; once in eight one of no bytes, which means one record for every core.
 pub fn trace(random: &mut Random, draft: &Draft) -> (Vec<u8>, Vec<u16>) {
     let mut trace = Vec::new();
+    if random.once_in(8) {
+        return (trace, vec![1; draft.cores.len()]);
+    }
     let counts: Vec<u16> = draft.cores.iter().map(|_| random.below(7) as u16).collect();
     for (core, &count) in draft.cores.iter().zip(&counts) {
         trace.extend(count.to_le_bytes());
@@ -1041,7 +1044,10 @@ pub const LENT_DAMAGES: &[LentDamage] = &[
         short.is_some()
     }),
     ("trace cut", refusal::TRACE, |random, case| {
-        let length = random.below(case.trace.len());
+        if case.trace.is_empty() {
+            return false;
+        }
+        let length = random.between(1, case.trace.len() - 1);
         case.trace.truncate(length);
         true
     }),

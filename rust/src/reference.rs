@@ -481,9 +481,19 @@ struct Inputs<'t> {
 
 const TIME_SIZE: usize = 4;
 
+/// The record that a trace of no bytes means, for a core with as many inputs as data.
+static BLANK_RECORD: [u8; TIME_SIZE + MOST_DATA] = [0; TIME_SIZE + MOST_DATA];
+
 fn load_trace<'t>(set: &TaskSet, trace: &'t [u8]) -> Judged<[Inputs<'t>; MOST_CORES]> {
     let mut reader = Reader(trace);
     let mut inputs = [Inputs::default(); MOST_CORES];
+    if trace.is_empty() {
+        for (task, input) in set.tasks[..set.count].iter().zip(&mut inputs) {
+            let record_size = TIME_SIZE + task.input_size;
+            *input = Inputs { count: 1, record_size, records: &BLANK_RECORD[..record_size] };
+        }
+        return Ok(inputs);
+    }
     for (task, input) in set.tasks[..set.count].iter().zip(&mut inputs) {
         input.count = word(reader.bytes(2).map_err(|_| refusal::TRACE)?, 0);
         input.record_size = TIME_SIZE + task.input_size;

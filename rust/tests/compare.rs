@@ -67,10 +67,17 @@ enum Mistake {
     NotHeldGoesOn,
     /// Tells it as an address beyond the data.
     NotHeldIsBeyond,
+    /// Refuses a trace of no bytes.
+    NoTraceRefused,
+    /// Leaves the input bytes as they were where the trace has no bytes.
+    BlankInputsKept,
 }
 
 /// The records of core `core` that are left, where the trace is sound.
 fn records_left(file: &[u8], trace: &[u8], table: &[Core], core: usize) -> bool {
+    if trace.is_empty() {
+        return table[core].registers.cycles < 1;
+    }
     let mut at = 0;
     for k in 0..core {
         at += 2 + u16::from_le_bytes([trace[at], trace[at + 1]]) as usize
@@ -210,6 +217,12 @@ impl Machine for Wrong {
                 _ => {}
             }
         }
+        let began = number == refusal::NONE
+            && before[core as usize].registers.mode == mode::AWAITS_READING
+            && table[core as usize].registers.mode == mode::READING;
+        if self.0 == Mistake::BlankInputsKept && trace.is_empty() && began {
+            buffer.copy_from_slice(&data);
+        }
         if self.0 == Mistake::StackEntryKept {
             table.iter_mut().zip(before).for_each(|(core, before)| core.places = before.places);
         }
@@ -228,6 +241,9 @@ impl Machine for Wrong {
         list: &mut [u8],
         taken: &mut usize,
     ) -> u8 {
+        if self.0 == Mistake::NoTraceRefused && trace.is_empty() && reference::check_file(file) == refusal::NONE {
+            return refusal::TRACE;
+        }
         let number = reference::run(file, trace, table, semaphore, buffer, shared, order, list, taken);
         match (self.0, number) {
             (Mistake::OutputOfRefused, 1..) => *taken = 0,
@@ -283,6 +299,8 @@ fn wrong_machines_are_seen() {
         BitSixUnfit,
         NotHeldGoesOn,
         NotHeldIsBeyond,
+        NoTraceRefused,
+        BlankInputsKept,
     ] {
         let compared = catch_unwind(AssertUnwindSafe(|| compare(&Reference, &Wrong(mistake), 4, 2000)));
         assert!(compared.is_err(), "{mistake:?} went unseen");

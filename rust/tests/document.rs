@@ -114,10 +114,33 @@ fn listing_of_cores() {
     assert_eq!(cores(&program.bytes(), &LISTED_TRACE, &[0; 9]), "core mode cycles flags count\n0 5 0 6 1\norder 0r\n");
 }
 
+/// Document 02, 2.6: a fitter's first cycle with no trace, and no second one; the input bytes of every core become 0, whatever stood there.
+#[test]
+fn a_trace_of_no_bytes() {
+    assert_eq!(cores(&LISTED, &[], &[0; 9]), "core mode cycles flags count\n0 0 1 0 1\norder 0r 0w\n");
+    for machine in machines() {
+        let machine = &*machine;
+        let mut draft = Draft::single(4, 3, 1, Program::new().returns());
+        draft.core_count = 2;
+        draft.cores.push(draft.cores[0].clone());
+        draft.code.push(draft.code[0].clone());
+        let mut plant = Plant { trace: Vec::new(), ..Plant::fresh(machine, &draft, 0) };
+        plant.buffer.fill(7);
+        plant.table[0].registers.time = 9;
+        assert_eq!(plant.run(machine, &[0, 0, 1]), refusal::NONE);
+        assert_eq!((plant.buffer.clone(), plant.table[0].registers.time), (vec![0, 0, 0, 7, 0, 0, 0, 7], 0));
+        assert_eq!(plant.run(machine, &[0, 1].repeat(9)), refusal::NONE);
+        assert_eq!((plant.table[0].registers.cycles, plant.table[1].registers.cycles), (1, 1));
+        plant.table[1].registers.cycles = 2;
+        assert_eq!(plant.run(machine, &[]), refusal::UNFIT);
+    }
+}
+
 #[test]
 fn refusals_of_cores() {
     assert_eq!(cores(&[], &LISTED_TRACE, &[]), "refused 1\n");
-    assert_eq!(cores(&LISTED, &[], &[1]), "refused 22\n");
+    assert_eq!(cores(&LISTED, &[0], &[1]), "refused 22\n");
+    assert_eq!(cores(&LISTED, &[], &[1]), "refused 20\n");
     assert_eq!(cores(&LISTED, &LISTED_TRACE, &[0, 1]), "refused 20\n");
     assert_eq!(cores(&[0; LONGEST_TASK + 1], &[], &[]), "long\n");
     assert_eq!(cores(&[0; LONGEST_TASK], &[], &[]), "refused 2\n");

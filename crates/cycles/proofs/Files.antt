@@ -29,8 +29,9 @@ use Rattle.taskset.specs.Judge.{isMark, headRefusal, variablesRefusal, codePlac
 use Rattle.taskset.specs.Trace.{tracePlace, traceRefusal}
 use Rattle.taskset.specs.Task.{listed, sizesOf, variablesOf, sampleAt, samplesOf}
 use Rattle.states.specs.Task.{taskOf}
+use Rattle.taskset.proofs.Blank.{blank-trace}
 use Rattle.cycles.specs.Files.{listingFile, listingTrace, listingSteps, ringFile, openFile, ringTrace, ringSteps, openSteps}
-use Rattle.cycles.specs.Shown.{stateAfter, Listing}
+use Rattle.cycles.specs.Shown.{stateAfter, Listing, FirstCycle}
 
 -- ---- what computes, on an `unfolding` line
 
@@ -77,6 +78,16 @@ listing-between (suc k) = inr refl
 pub listing-shown : Listing
 unfolding steps-compute
 listing-shown = record { accepted = listing-accepted; sound = listing-sound; between = listing-between; cycles-done = refl; flags = refl; counted = refl; taken = refl }
+
+-- with no trace
+blank-between : Between (stateAfter listingFile [] listingSteps)
+unfolding steps-compute
+blank-between zero = inl refl
+blank-between (suc k) = inr refl
+
+pub first-cycle-shown : FirstCycle
+unfolding steps-compute
+first-cycle-shown = record { sound = blank-trace listingFile .sound; between = blank-between; cycles-done = refl; taken = refl; no-second = refl }
 
 -- ---- the ring
 

@@ -14,7 +14,7 @@ use Rattle.cycles.specs.Serial.{Ringless}
 use Rattle.cycles.specs.Files.{ringFile, openFile, ringTrace, ringSteps}
 use Rattle.cycles.specs.Shown.{stateAfter, InRing, Open, Shown}
 use Rattle.cycles.proofs.Serial.{serial-machine, by-tests}
-use Rattle.cycles.proofs.Files.{steps-compute, listing-shown, ring-accepted, ring-sound, ring-one-way, open-accepted, open-sound, open-one-way, open-ringless, open-between, open-one-by-one}
+use Rattle.cycles.proofs.Files.{steps-compute, listing-shown, first-cycle-shown, ring-accepted, ring-sound, ring-one-way, open-accepted, open-sound, open-one-way, open-ringless, open-between, open-one-by-one}
 use Rattle.cycles.proofs.Ring.{nothing, wrote1, plant, no-order}
 
 -- ---- the ring
@@ -66,4 +66,4 @@ open-shown = record {
 }
 
 pub shown : Shown
-shown = record { listing = listing-shown; in-ring = ring-shown; opened = open-shown }
+shown = record { listing = listing-shown; first-cycle = first-cycle-shown; in-ring = ring-shown; opened = open-shown }

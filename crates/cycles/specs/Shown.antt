@@ -6,7 +6,7 @@ use mathlib.Core.Logic.{_≢_}
 use mathlib.Core.List.{List, [], _∷_, map}
 use Prim.Native.Nat.{ℕ}
 use Rattle.protocol.specs.State.{State, core, mode}
-use Rattle.protocol.specs.Step.{run, takings, reading, writing}
+use Rattle.protocol.specs.Step.{step, run, takings, reading, writing}
 use Rattle.protocol.specs.Laws.{Between}
 use Rattle.protocol.specs.Fresh.{fresh}
 use Rattle.protocol.specs.Variables.{value}
@@ -31,6 +31,14 @@ pub record Listing : Type 0 where
   pub flags : core (stateAfter listingFile listingTrace listingSteps .plant) 0 .registers .flags ≡ 0
   pub counted : core (stateAfter listingFile listingTrace listingSteps .plant) 0 .registers .count ≡ 1
   pub taken : takings (taskOf listingFile listingTrace) listingSteps (fresh (sizesOf listingFile)) ≡ reading 0 ∷ writing 0 ∷ []
+
+-- The same with no trace (document 02, 2.6): the first cycle runs through, on one record, and no step begins a second one
+pub record FirstCycle : Type 0 where
+  pub sound : traceRefusal listingFile [] ≡ 0
+  pub between : Between (stateAfter listingFile [] listingSteps)
+  pub cycles-done : core (stateAfter listingFile [] listingSteps .plant) 0 .registers .cycles ≡ 1
+  pub taken : takings (taskOf listingFile []) listingSteps (fresh (sizesOf listingFile)) ≡ reading 0 ∷ writing 0 ∷ []
+  pub no-second : step (taskOf listingFile []) 0 (stateAfter listingFile [] listingSteps) ≡ stateAfter listingFile [] listingSteps
 
 -- Three cores in a ring, no two of which read each other, and a run that no order of whole cycles matches
 pub record InRing : Type 0 where
@@ -57,5 +65,6 @@ pub record Open : Type 0 where
 
 pub record Shown : Type 0 where
   pub listing : Listing
+  pub first-cycle : FirstCycle
   pub in-ring : InRing
   pub opened : Open

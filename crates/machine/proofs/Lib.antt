@@ -7,3 +7,4 @@ pub mod Nexts
 pub mod Back
 pub mod Calling
 pub mod Fair
+pub mod Blank

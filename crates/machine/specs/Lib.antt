@@ -2,3 +2,4 @@ pub mod Interleaving
 pub mod Calls
 pub mod Calling
 pub mod Fair
+pub mod Blank
