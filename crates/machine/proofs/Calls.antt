@@ -103,32 +103,40 @@ module _ (f t : List ℕ) (h : State) (buffer shared : ℕ) (room named : Bool) 
   unfolding callRefusal
   refuse-file e n = stop _ e n
 
-  module _ (z : judge f ≡ 0) where
-    pub refuse-lent : lentFits f buffer shared ≡ false → 21 ≡ callRefusal f t h buffer shared room named
-    unfolding callRefusal
-    refuse-lent e = skip z (halt 20 _ (no _ 21 (rw e)))
+  -- of an accepted file, as the code finds them: whether memory fits, what trace and state have, whether the cores are there
+  pub refuse-after : judge f ≡ 0 → {fits n : Bool} {held r : ℕ} → fits ≡ lentFits f buffer shared → held ≡ heldRefusal f t h → n ≡ named
+      → r ≡ next (unless (both fits room) 21) (next held (unless n 20)) → r ≡ callRefusal f t h buffer shared room named
+  unfolding callRefusal
+  refuse-after z {fits} {n} {held} {r} a b q e =
+      let s : next (unless (both fits room) 21) (next held (unless n 20)) ≡ next (unless (both (lentFits f buffer shared) room) 21) (next (heldRefusal f t h) (unless named 20)) = rw (a, b, q) in
+      skip z (e ∙ s)
 
-    module _ (a : lentFits f buffer shared ≡ true) where
-      pub refuse-room : room ≡ false → 21 ≡ callRefusal f t h buffer shared room named
-      unfolding callRefusal
-      refuse-room e = skip z (halt 20 _ (no _ 21 (rw (a, e))))
+  pub refuse-none : judge f ≡ 0 → lentFits f buffer shared ≡ true → room ≡ true → heldRefusal f t h ≡ 0 → named ≡ true → callRefusal f t h buffer shared room named ≡ 0
+  unfolding callRefusal
+  refuse-none z a b y e = next-none _ _ z (next-none _ _ (yes _ 21 (rw (a, b))) (next-none _ _ y (yes _ 20 e)))
 
-      module _ (b : room ≡ true) where
-        fits : unless (both (lentFits f buffer shared) room) 21 ≡ 0
-        fits = yes _ 21 (rw (a, b))
+  -- what trace and state have is no refusal where the call has none
+  pub held-of-call : callRefusal f t h buffer shared room named ≡ 0 → heldRefusal f t h ≡ 0
+  unfolding callRefusal
+  held-of-call e = next-zero _ _ (next-zero _ _ (next-zero _ _ e .1) .1) .0
 
-        pub refuse-held : {r : ℕ} → r ≡ heldRefusal f t h → r ≢ 0 → r ≡ callRefusal f t h buffer shared room named
-        unfolding callRefusal
-        refuse-held e n = skip z (skip fits (stop _ e n))
+-- the four tests after the file, in their order
+module _ (fits room named : Bool) (held : ℕ) where
+  pub unfit-memory : fits ≡ false → 21 ≡ next (unless (both fits room) 21) (next held (unless named 20))
+  unfit-memory a = halt 20 _ (no _ 21 (rw a))
 
-        module _ (y : heldRefusal f t h ≡ 0) where
-          pub refuse-named : named ≡ false → 20 ≡ callRefusal f t h buffer shared room named
-          unfolding callRefusal
-          refuse-named e = skip z (skip fits (skip y (sym (no _ 20 e))))
+  pub no-room : fits ≡ true → room ≡ false → 21 ≡ next (unless (both fits room) 21) (next held (unless named 20))
+  no-room a b = halt 20 _ (no _ 21 (rw (a, b)))
 
-          pub refuse-none : named ≡ true → callRefusal f t h buffer shared room named ≡ 0
-          unfolding callRefusal
-          refuse-none e = next-none _ _ z (next-none _ _ fits (next-none _ _ y (yes _ 20 e)))
+  module _ (a : fits ≡ true) (b : room ≡ true) where
+    pub held-refused : held ≢ 0 → held ≡ next (unless (both fits room) 21) (next held (unless named 20))
+    held-refused n = skip (yes _ 21 (rw (a, b))) (stop _ refl n)
+
+    pub not-named : held ≡ 0 → named ≡ false → 20 ≡ next (unless (both fits room) 21) (next held (unless named 20))
+    not-named z e = skip (yes _ 21 (rw (a, b))) (skip z (sym (no _ 20 e)))
+
+    pub none-refused : held ≡ 0 → named ≡ true → 0 ≡ next (unless (both fits room) 21) (next held (unless named 20))
+    none-refused z e = skip (yes _ 21 (rw (a, b))) (skip z (sym (yes _ 20 e)))
 
 -- what a call knows that is not refused
 pub record Granted (f t : List ℕ) (h : State) (buffer shared : ℕ) (room named : Bool) : Type 0 where

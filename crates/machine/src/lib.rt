@@ -13,6 +13,7 @@ ghost use mathlib.Core.Bool.{true};
 ghost use Prim.Native.Nat.{ℕ, suc, _≤_, _<_};
 ghost use mathlib.Core.List.{[]};
 ghost use lib.ListN.{length, getD};
+ghost use Rattle.verdict.specs.Verdict.{both, next, unless};
 ghost use Rattle.memory.specs.Memory.{total};
 ghost use Rattle.protocol.specs.State.{cleared as clearedTo};
 ghost use Rattle.records.specs.File.{cores, recordPlace, variables};
@@ -199,6 +200,26 @@ fn answer(number: u8, s: State) -> Ran
     }
 }
 
+// The first refusal of a call on an accepted file: lent memory and room in the order list (21), then what trace and state have (22, 23), then the
+// cores that are named (20).
+fn first_refusal(fits: bool, room: bool, held: u8, named: bool) -> u8
+    ensures { λ r. ⌜ r ≡ next (unless (both fits room) 21) (next held (unless named 20)) ⌝ }
+{
+    if !fits {
+        return 21; // lent memory
+    }
+    if !room {
+        return 21; // the order list
+    }
+    if held != 0 {
+        return held;
+    }
+    if !named {
+        return 20;
+    }
+    0
+}
+
 // The steps of an order where nothing is refused.
 fn run_judged(
     file: &[u8],
@@ -252,18 +273,12 @@ pub fn run(
         return answer(loaded.refusal, s);
     }
     let layout = loaded.layout;
-    if !lent_fits(file, layout, buffer.len(), shared.len()) {
-        return answer(21, s);
-    }
-    if list.len() < order.len() {
-        return answer(21, s);
-    }
+    let fits = lent_fits(file, layout, buffer.len(), shared.len());
     let prepared = states::prepare(file, trace, layout, s);
-    if prepared.refusal != 0 {
-        return answer(prepared.refusal, s);
-    }
-    if !all_below(order, layout.cores) {
-        return answer(20, s);
+    let named = all_below(order, layout.cores);
+    let refusal = first_refusal(fits, order.len() <= list.len(), prepared.refusal, named);
+    if refusal != 0 {
+        return answer(refusal, s);
     }
     let tasks = prepared.tasks;
     run_judged(file, trace, layout, tasks, s, buffer, shared, order, list)
