@@ -83,7 +83,7 @@ fn core_ok(f: &[u8], k: usize) -> bool
     1 <= memory::word_at(f, p + 4)
 }
 
-fn core_refusal(f: &[u8], k: usize) -> u8
+pub fn core_refusal(f: &[u8], k: usize) -> u8
     requires { ⌜ k < 4 ⌝ }
     ensures { λ r. ⌜ r ≡ coreRefusal (now (f .entry)) k ⌝ }
 {

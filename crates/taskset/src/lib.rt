@@ -13,7 +13,7 @@ ghost use Rattle.taskset.specs.Trace.{blank, tracePlace, traceRefusal, c
 
 const MARK: [u8; 4] = *b"MCS1";
 
-fn is_mark(f: &[u8]) -> bool
+pub fn is_mark(f: &[u8]) -> bool
     requires { ⌜ 4 ≤ length (now f) ⌝ }
     ensures { λ r. ⌜ r ≡ isMark (now (f .entry)) ⌝ }
 {
@@ -53,7 +53,7 @@ fn head_refusal(f: &[u8]) -> u8
 }
 
 // The number of variables, their records and their overlap.
-fn variables_refusal(f: &[u8]) -> u8
+pub fn variables_refusal(f: &[u8]) -> u8
     ensures { λ r. ⌜ r ≡ variablesRefusal (now (f .entry)) ⌝ }
 {
     let at = 5 + 6 * memory::byte_at(f, 4) as usize;
