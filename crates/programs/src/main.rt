@@ -241,6 +241,9 @@ fn nesting() {
         b"\x00\x00\x00\x00\x00\x00\x00\x00",
         100,
     );
+}
+
+fn nesting_2() {
     // CALB 8 sub; RETURN; sub: RETURN
     run(
         b"instance at the end",
@@ -301,6 +304,9 @@ fn elements() {
         b"\x00\x00\xFF\xFF\x11\x12\x21\x22\x31\x32",
         100,
     );
+}
+
+fn elements_2() {
     // AUWD 0 4 2 2 3; RETURN
     run(
         b"write first",
@@ -329,6 +335,9 @@ fn elements() {
         b"\x00\x00\x03\x00\x11\x12\x21\x22\x31\x32",
         100,
     );
+}
+
+fn elements_3() {
     // AUWD 0 5 2 2 3; RETURN
     run(
         b"element cut",
@@ -382,6 +391,9 @@ fn element_sizes() {
         b"\x01\x02\x03\x04\x05\x06\x00\x00",
         100,
     );
+}
+
+fn element_sizes_2() {
     // AURD 3 0 0 2 1; RETURN
     run(
         b"variable beyond",
@@ -435,6 +447,9 @@ fn copies() {
         b"\x01\x02\x03\x04\x05\x06\x07\x08",
         100,
     );
+}
+
+fn copies_2() {
     // MEMCP 0 4 5; RETURN
     run(
         b"from beyond",
@@ -463,6 +478,9 @@ fn copies() {
         b"\x01\x02\x03\x04\x05\x06\x07\x08",
         100,
     );
+}
+
+fn copies_3() {
     // CALB 4 sub; RETURN; sub: MEMCP 0 @0 4; RETURN
     run(
         b"absolute",
@@ -502,6 +520,9 @@ fn constants() {
         b"\x00\x00\x00\x00\x00\x00\x00\x00",
         100,
     );
+}
+
+fn constants_2() {
     // TIME 4; RETURN
     run(
         b"time",
@@ -530,6 +551,9 @@ fn constants() {
         b"\x00\x00\x00\x00\x00\x00\x00\x00",
         100,
     );
+}
+
+fn constants_3() {
     // JZ 7 out; MCD 0 1 01; out: RETURN
     run(
         b"test last",
@@ -590,6 +614,9 @@ fn faults() {
         b"\xFF\xFF\x08\x00\x00\x00",
         100,
     );
+}
+
+fn faults_2() {
     // DIV REAL 8 0 4; RETURN
     run(
         b"float zero divisor",
@@ -618,6 +645,9 @@ fn faults() {
         b"\x00",
         16,
     );
+}
+
+fn faults_3() {
     // again: CALF again; RETURN
     run(b"nested call", b"\x05\x00\x00\x00", b"\x00", 17);
     // again: SUB SINT 0 0 1; JZ 0 last; CALF again; last: CALB 100 again; RETURN
@@ -672,10 +702,16 @@ fn typed_ends() {
     ends(16, 4, 14, 14, 14);
     ends(16, 6, 12, 12, 12);
     ends(16, 8, 8, 8, 8);
+}
+
+fn typed_ends_2() {
     ends(18, 9, 12, 12, 12);
     ends(17, 10, 8, 8, 8);
     ends(16, 11, 12, 12, 12);
     ends(24, 0, 15, 15, 15);
+}
+
+fn typed_ends_3() {
     ends(30, 8, 8, 8, 15);
     ends(32, 7, 15, 8, 8);
     ends(34, 3, 15, 14, 14);
@@ -743,6 +779,9 @@ fn conversions() {
         b"\xEE\xEE\xEE\xEE\x01\x00\x00\x01",
         100,
     );
+}
+
+fn conversions_2() {
     // LREAL 1e300 to REAL gives infinity
     run(
         b"convert",
@@ -771,6 +810,9 @@ fn conversions() {
         b"\x00\x00\x00\x00\x00\x00\xE0\x43",
         100,
     );
+}
+
+fn conversions_3() {
     // REAL 127.5 to SINT: bit 6
     run(
         b"convert",
@@ -799,6 +841,9 @@ fn conversions() {
         b"\xEE\xEE\xEE\xEE\x00\x00\xC0\x7F",
         100,
     );
+}
+
+fn conversions_4() {
     // an infinity to LWORD: bit 6
     run(
         b"convert",
@@ -826,6 +871,9 @@ fn conversions() {
         b"\x00",
         100,
     );
+}
+
+fn conversions_5() {
     run(
         b"convert",
         b"\x2B\x01\x00\x00\x00\x00\x00\x00",
@@ -850,6 +898,9 @@ fn conversions() {
         b"\x00",
         100,
     );
+}
+
+fn conversions_6() {
     // cut inside its last operand
     run(b"convert", b"\x2B\x01\x01\x00\x00\x00", b"\x00", 100);
 }
@@ -874,6 +925,9 @@ fn digits() {
         b"\xEE\xEE\x60\x46",
         100,
     );
+}
+
+fn digits_2() {
     // BYTE 100 has too many digits: bit 6
     run(b"pack", b"\x2C\x02\x00\x00\x01\x00\x00", b"\xEE\x64", 100);
     // DWORD 100000000 has too many digits: bit 6
@@ -892,6 +946,9 @@ fn digits() {
         b"\xEE\xEE\x00\xA0",
         100,
     );
+}
+
+fn digits_3() {
     // the destination one byte past the data, of too many digits: bit 4
     run(
         b"pack",
@@ -908,10 +965,16 @@ fn digits() {
     );
     run(b"pack", b"\x2C\x00\x00\x00\x00\x00\x00", b"\x00", 100);
     run(b"pack", b"\x2C\x01\x00\x00\x00\x00\x00", b"\x00", 100);
+}
+
+fn digits_4() {
     run(b"pack", b"\x2C\x03\x00\x00\x00\x00\x00", b"\x00", 100);
     run(b"unpack", b"\x2D\x09\x00\x00\x00\x00\x00", b"\x00", 100);
     run(b"unpack", b"\x2D\x0A\x00\x00\x00\x00\x00", b"\x00", 100);
     run(b"unpack", b"\x2D\x0B\x00\x00\x00\x00\x00", b"\x00", 100);
+}
+
+fn digits_5() {
     // cut inside its last operand
     run(b"pack", b"\x2C\x02\x00\x00\x00", b"\x00", 100);
 }
@@ -920,13 +983,34 @@ fn main() {
     latches();
     counting();
     nesting();
+    nesting_2();
     elements();
+    elements_2();
+    elements_3();
     element_sizes();
+    element_sizes_2();
     copies();
+    copies_2();
+    copies_3();
     constants();
+    constants_2();
+    constants_3();
     faults();
+    faults_2();
+    faults_3();
     typed_ends();
+    typed_ends_2();
+    typed_ends_3();
     negations();
     conversions();
+    conversions_2();
+    conversions_3();
+    conversions_4();
+    conversions_5();
+    conversions_6();
     digits();
+    digits_2();
+    digits_3();
+    digits_4();
+    digits_5();
 }
