@@ -9,10 +9,9 @@ use Prim.Native.Nat.{ℕ, _/_, _%_, _^_, _≤_}
 use lib.ListN.{getD}
 use Rattle.protocol.specs.State.{State, core}
 use Rattle.protocol.specs.Step.{run}
-use Rattle.protocol.specs.Fresh.{fresh}
 use Rattle.records.specs.File.{limit}
 use Rattle.taskset.specs.Judge.{codeOf}
-use Rattle.taskset.specs.Task.{sizesOf}
+use Rattle.taskset.specs.Fresh.{freshOf}
 use Rattle.states.specs.Task.{taskOf}
 use Rattle.machine.specs.Calls.{freshCall}
 use Rattle.machine.specs.Calling.{Call, calls, stepsOf, wholeOf}
@@ -41,11 +40,11 @@ pub record Spared (f : List ℕ) (k : ℕ) (s : State) : Type 0 where
 
 pub record Promised (f t ks : List ℕ) (k : ℕ) : Type 0 where
   pub greatest : Greatest (codeOf f k) (countIn f k) (depthIn f k)
-  pub steps : Spared f k (run (taskOf f t) ks (fresh (sizesOf f)))
+  pub steps : Spared f k (run (taskOf f t) ks (freshOf f))
 
 -- ---- the calls cs, each a step or a run, refused ones among them, from what the call for the fresh state left that was lent the memories d and sh
 
 pub record CallsPromised (f t d sh : List ℕ) (cs : List Call) (k : ℕ) : Type 0 where
   -- what they leave is what the steps that they count as make of the fresh state
-  pub steps : wholeOf f (calls f t cs (freshCall f d sh)) ≡ run (taskOf f t) (stepsOf f t cs (freshCall f d sh)) (fresh (sizesOf f))
+  pub steps : wholeOf f (calls f t cs (freshCall f d sh)) ≡ run (taskOf f t) (stepsOf f t cs (freshCall f d sh)) (freshOf f)
   pub spared : Spared f k (wholeOf f (calls f t cs (freshCall f d sh)))

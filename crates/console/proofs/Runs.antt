@@ -14,11 +14,11 @@ use Rattle.verdict.proofs.Verdict.{absurd-bool, pick-true, pick-false, by-pick,
 use Rattle.memory.specs.Memory.{part, splice, total}
 use Rattle.memory.proofs.Laws.{part-splice-same}
 use Rattle.protocol.specs.State.{State as Whole, Task, core, mode}
-use Rattle.protocol.specs.Fresh.{fresh}
 use Rattle.protocol.specs.Step.{step, run, Taking, taken, takingOf, takings, encoded, orderList}
 use Rattle.records.specs.File.{cores}
 use Rattle.taskset.specs.Judge.{judge}
 use Rattle.taskset.specs.Task.{sizesOf}
+use Rattle.taskset.specs.Fresh.{freshOf}
 use Rattle.taskset.specs.Trace.{traceRefusal}
 use Rattle.taskset.proofs.Exact.{keeps-rules}
 use Rattle.states.specs.declared.State.{State}
@@ -144,7 +144,7 @@ module _ (f t order d sh list : List ℕ) (lent : length d ≡ bufferSize f) (le
           unfolding runCall
           all-ran = from-fresh (left y e k l) ran ∙ pick-true _ _ _ (eq-eqb _ _ (same-refusal ∙ none-refused))
 
-          started : stateOf f (tableOf (cores f) 4) (zeros (total (sizesOf f))) (zeros 1024) ≡ fresh (sizesOf f)
+          started : stateOf f (tableOf (cores f) 4) (zeros (total (sizesOf f))) (zeros 1024) ≡ freshOf f
           started = fresh-state f (keeps-rules f accepted .most-cores)
 
           state-is : y .state ≡ stateAfter f t order

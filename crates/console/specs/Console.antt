@@ -7,11 +7,10 @@ use mathlib.Core.List.{List}
 use lib.ListN.{length}
 use lib.Dec.{ltb, eqb}
 use Rattle.verdict.specs.Verdict.{pick, either, next, unless}
-use Rattle.protocol.specs.Fresh.{fresh}
 use Rattle.protocol.specs.Step.{run, orderList}
 use Rattle.records.specs.File.{cores}
 use Rattle.taskset.specs.Judge.{judge}
-use Rattle.taskset.specs.Task.{sizesOf}
+use Rattle.taskset.specs.Fresh.{freshOf}
 use Rattle.taskset.specs.Trace.{traceRefusal}
 use Rattle.states.specs.declared.State.{State}
 use Rattle.states.specs.Machine.{heldAfter}
@@ -35,11 +34,11 @@ refusalOf f t order = next (judge f) (next (traceRefusal f t) (unless (allBelow 
 
 -- the state after the steps of the order
 unfoldable pub stateAfter : List ℕ → List ℕ → List ℕ → State
-stateAfter f t order = heldAfter (cores f) (tableOf (cores f) 4) (run (taskOf f t) order (fresh (sizesOf f)))
+stateAfter f t order = heldAfter (cores f) (tableOf (cores f) 4) (run (taskOf f t) order (freshOf f))
 
 -- the order list's bytes
 unfoldable pub takingsOf : List ℕ → List ℕ → List ℕ → List ℕ
-takingsOf f t order = orderList (taskOf f t) order (fresh (sizesOf f))
+takingsOf f t order = orderList (taskOf f t) order (freshOf f)
 
 -- ---- the text
 

@@ -11,17 +11,16 @@ use Rattle.verdict.proofs.Verdict.{next-zero, pick-true, by-pick}
 use Rattle.protocol.specs.State.{Core, State, core, mode, absent}
 use Rattle.protocol.specs.Step.{step, stepIn, run}
 use Rattle.protocol.specs.Laws.{Between}
-use Rattle.protocol.specs.Fresh.{fresh}
 use Rattle.protocol.specs.Cycles.{readsFrom, lineBetween, oneWay, noRing}
-use Rattle.protocol.proofs.Instance.{fresh-is}
 use Rattle.protocol.proofs.Cycles.{whole-cycles}
 use Rattle.protocol.proofs.Tests.{low-reads, low-lines, one-way, no-ring}
 use Rattle.processor.proofs.Kept.{instruction-laws}
 use Rattle.records.specs.File.{cores}
 use Rattle.taskset.specs.Judge.{codeOf, judge}
-use Rattle.taskset.specs.Task.{sizesOf, variablesOf}
+use Rattle.taskset.specs.Task.{variablesOf}
+use Rattle.taskset.specs.Fresh.{freshOf}
 use Rattle.taskset.specs.Trace.{traceRefusal}
-use Rattle.taskset.proofs.Accepted.{variables-accepted}
+use Rattle.taskset.proofs.Accepted.{variables-accepted, fresh-of}
 use Rattle.states.specs.Task.{taskOf}
 use Rattle.states.specs.Set.{Set}
 use Rattle.states.specs.Fit.{Fit}
@@ -33,10 +32,10 @@ use Rattle.machine.proofs.Calling.{Lendable, step-granted, step-counted, fresh-
 use Rattle.cycles.specs.Serial.{Ringless, MachineSerial, inTurn, StepByStep, CallsSerial}
 use Rattle.cycles.proofs.Turns.{turns, turns-end}
 
-pub serial-machine : (f t : List ℕ) → judge f ≡ 0 → Ringless f → (ks : List ℕ) → Between (run (taskOf f t) ks (fresh (sizesOf f))) → MachineSerial f t ks
+pub serial-machine : (f t : List ℕ) → judge f ≡ 0 → Ringless f → (ks : List ℕ) → Between (run (taskOf f t) ks (freshOf f)) → MachineSerial f t ks
 unfolding taskOf
 serial-machine f t accepted lines ks ends =
-    whole-cycles (taskOf f t) (variablesOf f) (fresh (sizesOf f)) refl refl (instruction-laws (taskOf f t) (codeOf f) refl) (fresh-is (sizesOf f))
+    whole-cycles (taskOf f t) (variablesOf f) (freshOf f) refl refl (instruction-laws (taskOf f t) (codeOf f) refl) (fresh-of f)
     (variables-accepted f accepted) (lines .one-way) (lines .no-ring) ks ends
 
 -- the conditions on the lines of at most four cores, by two tests
@@ -51,8 +50,8 @@ by-tests f a b = record {
 pub step-by-step : (f t ks : List ℕ) (x : MachineSerial f t ks) → StepByStep f t ks x
 unfolding taskOf
 step-by-step f t ks x =
-    let y = turns (taskOf f t) (instruction-laws (taskOf f t) (codeOf f) refl) (x .order) (fresh (sizesOf f)) (fresh-is (sizesOf f)) (x .real) in
-    let e = turns-end (taskOf f t) (x .order) (y .0) (fresh (sizesOf f)) refl (y .1) in
+    let y = turns (taskOf f t) (instruction-laws (taskOf f t) (codeOf f) refl) (x .order) (freshOf f) (fresh-of f) (x .real) in
+    let e = turns-end (taskOf f t) (x .order) (y .0) (freshOf f) refl (y .1) in
     record { lengths = y .0; turns = y .1; same = ap (λ (s : State). s .plant) e ∙ sym (x .ends) }
 
 -- ---- of calls

@@ -5,10 +5,10 @@ use mathlib.Core.List.{[], _∷_}
 use Prim.Native.Nat.{zero, suc}
 use native.Mathlib.Omega.{arith}
 use Rattle.protocol.specs.Laws.{Between}
-use Rattle.protocol.specs.Fresh.{fresh}
 use Rattle.protocol.specs.Cycles.{readsFrom, lineBetween, Ring, cycles}
 use Rattle.protocol.proofs.Tests.{low-reads, one-way, ring-of}
-use Rattle.taskset.specs.Task.{sizesOf, variablesOf}
+use Rattle.taskset.specs.Task.{variablesOf}
+use Rattle.taskset.specs.Fresh.{freshOf}
 use Rattle.states.specs.Task.{taskOf}
 use Rattle.cycles.specs.Serial.{Ringless}
 use Rattle.cycles.specs.Files.{ringFile, openFile, ringTrace, ringSteps}
@@ -19,7 +19,7 @@ use Rattle.cycles.proofs.Ring.{nothing, wrote1, plant, no-order}
 
 -- ---- the ring
 
-ring-start : fresh (sizesOf ringFile) .plant ≡ plant nothing nothing nothing
+ring-start : freshOf ringFile .plant ≡ plant nothing nothing nothing
 unfolding steps-compute
 ring-start = refl
 

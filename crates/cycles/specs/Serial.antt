@@ -10,9 +10,9 @@ use lib.ListN.{replicate}
 use Rattle.protocol.specs.State.{Semaphore, State, Task}
 use Rattle.protocol.specs.Step.{run}
 use Rattle.protocol.specs.Laws.{Between}
-use Rattle.protocol.specs.Fresh.{fresh}
 use Rattle.protocol.specs.Cycles.{readsFrom, lineBetween, OneWay, NoRing, cycle, Serial}
-use Rattle.taskset.specs.Task.{sizesOf, variablesOf}
+use Rattle.taskset.specs.Task.{variablesOf}
+use Rattle.taskset.specs.Fresh.{freshOf}
 use Rattle.states.specs.Task.{taskOf}
 use Rattle.machine.specs.Calls.{freshCall}
 use Rattle.machine.specs.Calling.{Call, calls, stepCalls, stepsOf, wholeOf}
@@ -28,7 +28,7 @@ pub record Ringless (f : List ℕ) : Type 0 where
 
 -- The steps ks of the cores of the file f on the trace t
 abbrev pub MachineSerial : List ℕ → List ℕ → List ℕ → Type 0
-MachineSerial f t ks = Serial (taskOf f t) (fresh (sizesOf f)) ks
+MachineSerial f t ks = Serial (taskOf f t) (freshOf f) ks
 
 -- ---- whole cycles as steps
 
@@ -53,15 +53,15 @@ Turns t (k ∷ ks) (n ∷ ns) s = (run t (replicate n k) s ≡ record { plant = 
 -- line, in which a core between cycles may stand (document 02, 2.4); the semaphore is free in both.
 pub record StepByStep (f t ks : List ℕ) (x : MachineSerial f t ks) : Type 0 where
   pub lengths : List ℕ
-  pub turns : Turns (taskOf f t) (x .order) lengths (fresh (sizesOf f))
-  pub same : run (taskOf f t) (inTurn (x .order) lengths) (fresh (sizesOf f)) .plant ≡ run (taskOf f t) ks (fresh (sizesOf f)) .plant
+  pub turns : Turns (taskOf f t) (x .order) lengths (freshOf f)
+  pub same : run (taskOf f t) (inTurn (x .order) lengths) (freshOf f) .plant ≡ run (taskOf f t) ks (freshOf f) .plant
 
 -- ---- of calls
 
 -- The calls cs, each a step or a run, refused ones among them, from what the call for the fresh state left that was lent the memories d and sh
 pub record CallsSerial (f t d sh : List ℕ) (cs : List Call) : Type 0 where
   -- what they leave is what the steps that they count as make of the fresh state
-  pub steps : wholeOf f (calls f t cs (freshCall f d sh)) ≡ run (taskOf f t) (stepsOf f t cs (freshCall f d sh)) (fresh (sizesOf f))
+  pub steps : wholeOf f (calls f t cs (freshCall f d sh)) ≡ run (taskOf f t) (stepsOf f t cs (freshCall f d sh)) (freshOf f)
   -- and where they leave every core between cycles or stopped, those steps end as an order of whole cycles
   pub serial : Between (wholeOf f (calls f t cs (freshCall f d sh))) → MachineSerial f t (stepsOf f t cs (freshCall f d sh))
   -- the step calls of that order, one core at a time, leave the same but for the line

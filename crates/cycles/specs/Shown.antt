@@ -8,19 +8,19 @@ use Prim.Native.Nat.{ℕ}
 use Rattle.protocol.specs.State.{State, core, mode}
 use Rattle.protocol.specs.Step.{step, run, takings, reading, writing}
 use Rattle.protocol.specs.Laws.{Between}
-use Rattle.protocol.specs.Fresh.{fresh}
 use Rattle.protocol.specs.Variables.{value}
 use Rattle.protocol.specs.Cycles.{readsFrom, lineBetween, OneWay, Ring, cycles}
 use Rattle.taskset.specs.Judge.{judge}
 use Rattle.taskset.specs.Trace.{traceRefusal}
-use Rattle.taskset.specs.Task.{sizesOf, variablesOf}
+use Rattle.taskset.specs.Task.{variablesOf}
+use Rattle.taskset.specs.Fresh.{freshOf}
 use Rattle.states.specs.Task.{taskOf}
 use Rattle.cycles.specs.Serial.{Ringless, MachineSerial}
 use Rattle.cycles.specs.Files.{listingFile, listingTrace, listingSteps, ringFile, openFile, ringTrace, ringSteps, openSteps}
 
 -- the state after the steps ks from the fresh state
 abbrev pub stateAfter : List ℕ → List ℕ → List ℕ → State
-stateAfter f t ks = run (taskOf f t) ks (fresh (sizesOf f))
+stateAfter f t ks = run (taskOf f t) ks (freshOf f)
 
 -- document 01's listing prints "0 0 1 0 1" and "order 0r 0w"
 pub record Listing : Type 0 where
@@ -30,14 +30,14 @@ pub record Listing : Type 0 where
   pub cycles-done : core (stateAfter listingFile listingTrace listingSteps .plant) 0 .registers .cycles ≡ 1
   pub flags : core (stateAfter listingFile listingTrace listingSteps .plant) 0 .registers .flags ≡ 0
   pub counted : core (stateAfter listingFile listingTrace listingSteps .plant) 0 .registers .count ≡ 1
-  pub taken : takings (taskOf listingFile listingTrace) listingSteps (fresh (sizesOf listingFile)) ≡ reading 0 ∷ writing 0 ∷ []
+  pub taken : takings (taskOf listingFile listingTrace) listingSteps (freshOf listingFile) ≡ reading 0 ∷ writing 0 ∷ []
 
 -- The same with no trace (document 02, 2.6): the first cycle runs through, on one record, and no step begins a second one
 pub record FirstCycle : Type 0 where
   pub sound : traceRefusal listingFile [] ≡ 0
   pub between : Between (stateAfter listingFile [] listingSteps)
   pub cycles-done : core (stateAfter listingFile [] listingSteps .plant) 0 .registers .cycles ≡ 1
-  pub taken : takings (taskOf listingFile []) listingSteps (fresh (sizesOf listingFile)) ≡ reading 0 ∷ writing 0 ∷ []
+  pub taken : takings (taskOf listingFile []) listingSteps (freshOf listingFile) ≡ reading 0 ∷ writing 0 ∷ []
   pub no-second : step (taskOf listingFile []) 0 (stateAfter listingFile [] listingSteps) ≡ stateAfter listingFile [] listingSteps
 
 -- Three cores in a ring, no two of which read each other, and a run that no order of whole cycles matches
@@ -51,7 +51,7 @@ pub record InRing : Type 0 where
   pub between : Between (stateAfter ringFile ringTrace ringSteps)
   pub wrote : value (stateAfter ringFile ringTrace ringSteps .plant .shared) 0 3 ≡ 1 ∷ 1 ∷ 1 ∷ []
   -- whole cycles in any order, as many as one likes, end differently
-  pub no-order : (order : List ℕ) → cycles (taskOf ringFile ringTrace) order (fresh (sizesOf ringFile) .plant) ≢ stateAfter ringFile ringTrace ringSteps .plant
+  pub no-order : (order : List ℕ) → cycles (taskOf ringFile ringTrace) order (freshOf ringFile .plant) ≢ stateAfter ringFile ringTrace ringSteps .plant
 
 -- The ring with one variable fewer: the same steps end as an order of whole cycles
 pub record Open : Type 0 where

@@ -18,12 +18,12 @@ use Rattle.memory.proofs.Laws.{length-splice, length-part}
 use Rattle.protocol.specs.declared.Registers.{Registers}
 use Rattle.protocol.specs.State.{Core as Place, State as Whole}
 use Rattle.protocol.specs.Step.{run, takings, encoded}
-use Rattle.protocol.specs.Fresh.{fresh}
 use Rattle.protocol.proofs.Steps.{run-append}
 use Rattle.records.specs.File.{cores}
 use Rattle.taskset.specs.Judge.{judge}
 use Rattle.taskset.specs.Trace.{traceRefusal}
 use Rattle.taskset.specs.Task.{sizesOf}
+use Rattle.taskset.specs.Fresh.{freshOf}
 use Rattle.taskset.proofs.Accepted.{length-listed}
 use Rattle.semaphore.specs.declared.Semaphore.{Semaphore}
 use Rattle.semaphore.specs.Line.{semaphoreOf}
@@ -356,7 +356,7 @@ module _ (f : List ℕ) (ys : List Core) (p : Semaphore) (d sh : List ℕ) (e : 
         go true l = omega (arith, leb-true (cores f) (counted (length ys)) fresh-long, pick-true (ltb (length ys) 255) (length ys) 255 l)
         go false l = omega (arith, ok .few, ltb-false (length ys) 255 l)
 
-    value-fresh : stateOf f (tableOf (cores f) 4) (replicate (length d) 0) (replicate (length sh) 0) ≡ fresh (sizesOf f)
+    value-fresh : stateOf f (tableOf (cores f) 4) (replicate (length d) 0) (replicate (length sh) 0) ≡ freshOf f
     value-fresh = ap₂ (λ (m n : ℕ). stateOf f (tableOf (cores f) 4) (replicate m 0) (replicate n 0)) (fresh-fits .0) (fresh-fits .1) ∙ fresh-state f (ok .few)
 
     value-lendable : Lendable f t (left (answerOf 0 (tableOf (cores f) 4)) (replicate (length d) 0) (replicate (length sh) 0) [])
@@ -392,7 +392,7 @@ module _ (f : List ℕ) (ys : List Core) (p : Semaphore) (d sh : List ℕ) (e : 
           value-lendable;
     }
 
-    pub lent-fresh : wholeLent f (freshLent f ys p d sh) ≡ fresh (sizesOf f)
+    pub lent-fresh : wholeLent f (freshLent f ys p d sh) ≡ freshOf f
     unfolding tableOf
     lent-fresh =
         ap (wholeLent f) fresh-left

@@ -14,9 +14,8 @@ use Rattle.memory.specs.Memory.{splice}
 use Rattle.protocol.specs.declared.Registers.{Registers}
 use Rattle.protocol.specs.State.{State as Whole}
 use Rattle.protocol.specs.Step.{run, takings, encoded}
-use Rattle.protocol.specs.Fresh.{fresh}
 use Rattle.records.specs.File.{cores}
-use Rattle.taskset.specs.Task.{sizesOf}
+use Rattle.taskset.specs.Fresh.{freshOf}
 use Rattle.semaphore.specs.declared.Semaphore.{Semaphore}
 use Rattle.states.specs.Task.{taskOf}
 use Rattle.states.specs.Machine.{none, stateOf}
@@ -72,13 +71,13 @@ lentStepsOf f t (c ∷ cs) x = countsLent f t c x ++ lentStepsOf f t cs (leavesL
 
 pub record LentInterleaved (f t : List ℕ) (ys : List Core) (p : Semaphore) (d sh : List ℕ) (cs : List LentCall) : Type 0 where
   -- what they leave in the table and the memories is what the steps that they count as make of the fresh state
-  pub steps : wholeLent f (lentCalls f t cs (freshLent f ys p d sh)) ≡ run (taskOf f t) (lentStepsOf f t cs (freshLent f ys p d sh)) (fresh (sizesOf f))
+  pub steps : wholeLent f (lentCalls f t cs (freshLent f ys p d sh)) ≡ run (taskOf f t) (lentStepsOf f t cs (freshLent f ys p d sh)) (freshOf f)
   -- and of those steps demand 3 holds, both parts
   pub interleaved : MachineInterleaved f t (lentStepsOf f t cs (freshLent f ys p d sh))
 
 -- The same calls, and the fair line (document 02, 2.4): the steps that they count as are fair
 pub record LentFair (f t : List ℕ) (ys : List Core) (p : Semaphore) (d sh : List ℕ) (cs : List LentCall) : Type 0 where
-  pub steps : wholeLent f (lentCalls f t cs (freshLent f ys p d sh)) ≡ run (taskOf f t) (lentStepsOf f t cs (freshLent f ys p d sh)) (fresh (sizesOf f))
+  pub steps : wholeLent f (lentCalls f t cs (freshLent f ys p d sh)) ≡ run (taskOf f t) (lentStepsOf f t cs (freshLent f ys p d sh)) (freshOf f)
   pub fair : MachineFair f t (lentStepsOf f t cs (freshLent f ys p d sh))
 
 -- ---- a step call that is lent the registers of its core, as they stand in the state

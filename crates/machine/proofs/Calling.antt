@@ -18,11 +18,12 @@ use Rattle.protocol.specs.declared.Registers.{Registers}
 use Rattle.protocol.specs.State.{Core, Semaphore, State as Whole, core, absent, cleared}
 use Rattle.protocol.specs.Step.{step, run, takingOf, takings, encoded}
 use Rattle.protocol.proofs.Steps.{run-append, takings-append}
-use Rattle.protocol.specs.Fresh.{freshCore, fresh}
+use Rattle.protocol.specs.Fresh.{freshCore}
 use Rattle.records.specs.File.{cores, dataSize}
 use Rattle.taskset.specs.Judge.{judge}
 use Rattle.taskset.specs.Trace.{traceRefusal}
 use Rattle.taskset.specs.Task.{sizesOf}
+use Rattle.taskset.specs.Fresh.{freshOf}
 use Rattle.states.specs.declared.State.{State}
 use Rattle.states.specs.Task.{taskOf}
 use Rattle.states.specs.Set.{Set}
@@ -294,7 +295,7 @@ stack-zeros (suc (suc (suc zero))) l = refl
 stack-zeros (suc (suc (suc (suc k)))) l = absurd (omega arith)
 
 zero-core : (f : List ℕ) → cores f ≤ 4 → (k : ℕ) → k < cores f
-    → coreIn f (replicate 4 (cleared 0 4)) (replicate 64 0) (replicate 64 0) (replicate (total (sizesOf f)) 0) k ≡ core (fresh (sizesOf f) .plant) k
+    → coreIn f (replicate 4 (cleared 0 4)) (replicate 64 0) (replicate 64 0) (replicate (total (sizesOf f)) 0) k ≡ core (freshOf f .plant) k
 zero-core f few k i =
     same
     (getD-replicate 4 k (cleared 0 4) none (omega arith))
@@ -309,7 +310,7 @@ zero-core f few k i =
         → _≡_ {A = Core} record { registers = r; stack = record { places = p; offsets = p }; memory = m } record { registers = r′; stack = record { places = p′; offsets = p′ }; memory = m′ }
     same a b x = λ z. record { registers = a z; stack = record { places = b z; offsets = b z }; memory = x z }
 
-pub fresh-state : (f : List ℕ) → cores f ≤ 4 → stateOf f (tableOf (cores f) 4) (replicate (total (sizesOf f)) 0) (replicate 1024 0) ≡ fresh (sizesOf f)
+pub fresh-state : (f : List ℕ) → cores f ≤ 4 → stateOf f (tableOf (cores f) 4) (replicate (total (sizesOf f)) 0) (replicate 1024 0) ≡ freshOf f
 unfolding stateIn tableOf
 fresh-state f few =
     ap (λ (l : List Core). record { plant = record { cores = l; shared = replicate 1024 0 }; semaphore = record { holder = 0; line = [] } })
@@ -369,7 +370,7 @@ module _ (f t : List ℕ) (bytes : (i : ℕ) → getD f i 0 < 256) (trace-bytes 
     fresh-zeroed = fresh-left ∙ ap₂ (λ (n m : ℕ). left (answerOf 0 (tableOf (cores f) 4)) (replicate n 0) (replicate m 0) []) (fresh-lent .1) (fresh-lent .2)
 
     -- the call for the fresh state leaves it
-    pub fresh-whole : cores f ≤ 4 → wholeOf f (freshCall f d sh) ≡ fresh (sizesOf f)
+    pub fresh-whole : cores f ≤ 4 → wholeOf f (freshCall f d sh) ≡ freshOf f
     fresh-whole few = ap (wholeOf f) fresh-zeroed ∙ fresh-state f few
 
     pub fresh-lendable : Set f t → Lendable f t (freshCall f d sh)

@@ -4,12 +4,13 @@ use mathlib.Core.Path.{_≡_, refl, _∙_}
 use mathlib.Core.List.{List}
 use Prim.Native.Nat.{ℕ, _<_}
 use lib.ListN.{length, getD, length-map}
-use Rattle.protocol.specs.Fresh.{fresh, freshCore}
-use Rattle.protocol.proofs.Instance.{fresh-is}
+use Rattle.protocol.specs.Fresh.{freshCore}
 use Rattle.protocol.proofs.Fair.{fair-holds}
 use Rattle.processor.proofs.Kept.{instruction-laws}
 use Rattle.taskset.specs.Judge.{codeOf}
 use Rattle.taskset.specs.Task.{sizesOf}
+use Rattle.taskset.specs.Fresh.{freshOf}
+use Rattle.taskset.proofs.Accepted.{fresh-of}
 use Rattle.taskset.specs.Trace.{traceRefusal}
 use Rattle.states.specs.Task.{taskOf}
 use Rattle.states.proofs.Fresh.{sizes-length}
@@ -22,7 +23,7 @@ pub fair-machine : (f t ks : List ℕ) → MachineFair f t ks
 unfolding taskOf
 fair-machine f t ks = record {
   table = length-map (sizesOf f) freshCore ∙ sizes-length f;
-  fair = fair-holds (taskOf f t) (instruction-laws (taskOf f t) (codeOf f) refl) (fresh (sizesOf f)) (fresh-is (sizesOf f)) ks;
+  fair = fair-holds (taskOf f t) (instruction-laws (taskOf f t) (codeOf f) refl) (freshOf f) (fresh-of f) ks;
 }
 
 -- That f and t are bytes is known of the types

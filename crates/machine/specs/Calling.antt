@@ -11,8 +11,7 @@ use Rattle.verdict.specs.Verdict.{pick}
 use Rattle.memory.specs.Memory.{splice}
 use Rattle.protocol.specs.State.{State as Whole}
 use Rattle.protocol.specs.Step.{run, takings, encoded}
-use Rattle.protocol.specs.Fresh.{fresh}
-use Rattle.taskset.specs.Task.{sizesOf}
+use Rattle.taskset.specs.Fresh.{freshOf}
 use Rattle.states.specs.declared.State.{State}
 use Rattle.states.specs.Task.{taskOf}
 use Rattle.semaphore.specs.Line.{semaphoreOf, semaphoreBack}
@@ -106,8 +105,8 @@ pub record RunIsSteps (f t : List ℕ) (h : State) (d sh order list : List ℕ) 
 -- The calls cs, from what the call for the fresh state left that was lent the memories d and sh
 pub record CallsInterleaved (f t d sh : List ℕ) (cs : List Call) : Type 0 where
   -- what they leave is what the steps that they count as make of the fresh state
-  pub steps : wholeOf f (calls f t cs (freshCall f d sh)) ≡ run (taskOf f t) (stepsOf f t cs (freshCall f d sh)) (fresh (sizesOf f))
+  pub steps : wholeOf f (calls f t cs (freshCall f d sh)) ≡ run (taskOf f t) (stepsOf f t cs (freshCall f d sh)) (freshOf f)
   -- they count the takings of those steps
-  pub taken : takenOf f t cs (freshCall f d sh) ≡ length (takings (taskOf f t) (stepsOf f t cs (freshCall f d sh)) (fresh (sizesOf f)))
+  pub taken : takenOf f t cs (freshCall f d sh) ≡ length (takings (taskOf f t) (stepsOf f t cs (freshCall f d sh)) (freshOf f))
   -- and of those steps demand 3 holds, both parts
   pub interleaved : MachineInterleaved f t (stepsOf f t cs (freshCall f d sh))

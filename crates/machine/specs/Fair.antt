@@ -7,10 +7,9 @@ use mathlib.Core.List.{List}
 use Prim.Native.Nat.{ℕ}
 use lib.ListN.{length}
 use Rattle.protocol.specs.Step.{run}
-use Rattle.protocol.specs.Fresh.{fresh}
 use Rattle.protocol.specs.Fair.{Fair}
 use Rattle.records.specs.File.{cores}
-use Rattle.taskset.specs.Task.{sizesOf}
+use Rattle.taskset.specs.Fresh.{freshOf}
 use Rattle.states.specs.Task.{taskOf}
 use Rattle.machine.specs.Calls.{freshCall}
 use Rattle.machine.specs.Calling.{Call, calls, stepsOf, wholeOf}
@@ -18,12 +17,12 @@ use Rattle.machine.specs.Calling.{Call, calls, stepsOf, wholeOf}
 -- The steps ks of the cores of the file f on the trace t
 pub record MachineFair (f t ks : List ℕ) : Type 0 where
   -- the n of the bound is the file's number of cores
-  pub table : length (fresh (sizesOf f) .plant .cores) ≡ cores f
-  pub fair : Fair (taskOf f t) (fresh (sizesOf f)) ks
+  pub table : length (freshOf f .plant .cores) ≡ cores f
+  pub fair : Fair (taskOf f t) (freshOf f) ks
 
 -- The calls cs, each a step or a run, refused ones among them, from what the call for the fresh state left that was lent the memories d and sh
 pub record CallsFair (f t d sh : List ℕ) (cs : List Call) : Type 0 where
   -- what they leave, the line too, is what the steps that they count as make of the fresh state
-  pub steps : wholeOf f (calls f t cs (freshCall f d sh)) ≡ run (taskOf f t) (stepsOf f t cs (freshCall f d sh)) (fresh (sizesOf f))
+  pub steps : wholeOf f (calls f t cs (freshCall f d sh)) ≡ run (taskOf f t) (stepsOf f t cs (freshCall f d sh)) (freshOf f)
   -- and those steps are fair
   pub fair : MachineFair f t (stepsOf f t cs (freshCall f d sh))

@@ -6,11 +6,11 @@
 -- two claims, with each word of them in formulas (crate protocol, specs/Interleaving).
 use mathlib.Core.List.{List}
 use Prim.Native.Nat.{ℕ}
-use Rattle.protocol.specs.Fresh.{fresh}
 use Rattle.protocol.specs.Interleaving.{Interleaved}
-use Rattle.taskset.specs.Task.{sizesOf, variablesOf}
+use Rattle.taskset.specs.Task.{variablesOf}
+use Rattle.taskset.specs.Fresh.{freshOf}
 use Rattle.states.specs.Task.{taskOf}
 
 -- The steps ks of the cores of the file f on the trace t
 abbrev pub MachineInterleaved : List ℕ → List ℕ → List ℕ → Type 0
-MachineInterleaved f t ks = Interleaved (taskOf f t) (variablesOf f) (fresh (sizesOf f)) ks
+MachineInterleaved f t ks = Interleaved (taskOf f t) (variablesOf f) (freshOf f) ks

@@ -7,14 +7,14 @@ use native.Mathlib.Nat.{le-of-suc-le-suc, not-suc-le-zero}
 use native.Mathlib.Omega.{arith}
 use lib.ListN.{length, getD, length-map, length-replicate}
 use Rattle.protocol.specs.State.{absent, core}
-use Rattle.protocol.specs.Fresh.{freshCore, fresh}
-use Rattle.protocol.proofs.Instance.{fresh-is}
+use Rattle.protocol.specs.Fresh.{freshCore}
 use Rattle.code.proofs.Sound.{inside-code}
 use Rattle.processor.proofs.Kept.{fresh-placed}
 use Rattle.records.specs.File.{cores, dataSize}
 use Rattle.taskset.specs.Judge.{codeOf}
 use Rattle.taskset.specs.Task.{sizesOf}
-use Rattle.taskset.proofs.Accepted.{length-listed, listed-at}
+use Rattle.taskset.specs.Fresh.{freshOf}
+use Rattle.taskset.proofs.Accepted.{length-listed, listed-at, fresh-of}
 use Rattle.states.specs.Set.{Set}
 use Rattle.states.specs.Fit.{FitCore, Fit}
 
@@ -31,7 +31,7 @@ pub sizes-at : (f : List ℕ) (k : ℕ) → k < cores f → getD (sizesOf f) k 0
 unfolding sizesOf
 sizes-at f k h = listed-at (dataSize f) (cores f) k 0 h
 
-pub fresh-core : (f : List ℕ) (k : ℕ) → k < cores f → core (fresh (sizesOf f) .plant) k ≡ freshCore (dataSize f k)
+pub fresh-core : (f : List ℕ) (k : ℕ) → k < cores f → core (freshOf f .plant) k ≡ freshCore (dataSize f k)
 fresh-core f k h = map-at freshCore (sizesOf f) k 0 absent (rw (sizes-length f) h) ∙ ap freshCore (sizes-at f k h)
 
 fresh-fit-core : (f t : List ℕ) → Set f t → (k : ℕ) → k < cores f → FitCore f t k (freshCore (dataSize f k))
@@ -57,12 +57,12 @@ still (inl a) (inr b) = omega arith
 still (inr a) (inl b) = omega arith
 still (inr a) (inr b) = omega arith
 
-pub fresh-fit : (f t : List ℕ) → Set f t → Fit f t (fresh (sizesOf f))
+pub fresh-fit : (f t : List ℕ) → Set f t → Fit f t (freshOf f)
 fresh-fit f t ok = record {
   table = length-map (sizesOf f) freshCore ∙ sizes-length f;
   each = λ k h. subst (FitCore f t k) (sym (fresh-core f k h)) (fresh-fit-core f t ok k h);
   held = record {
-    held = λ k h. absurd (still (fresh-is (sizesOf f) .between k) h);
+    held = λ k h. absurd (still (fresh-of f .between k) h);
     holding = λ k e. absurd (let y : ⊥ = omega arith in y);
   };
   line = record { once = tt; below = λ j h. absurd h; modes = λ j h. absurd h; records = λ j h. absurd h };

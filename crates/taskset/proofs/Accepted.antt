@@ -1,5 +1,5 @@
--- What a machine rests on once a file is accepted. In order: tables of numbered items; each core's data and code, the layout; the variables as
--- crate `protocol` asks for them. Assumes nothing.
+-- What a machine rests on once a file is accepted. In order: tables of numbered items; each core's data and code, the layout; the fresh state and the
+-- variables as crate `protocol` asks for them. Assumes nothing.
 use mathlib.Core.Path.{_≡_, refl, sym, ap, _∙_, subst}
 use mathlib.Core.List.{List, _∷_, map}
 use mathlib.Core.Logic.{inl, inr}
@@ -15,7 +15,9 @@ use Rattle.memory.specs.Memory.{word, start}
 use Rattle.memory.proofs.Laws.{length-part}
 use Rattle.protocol.specs.State.{Core, absent, core}
 use Rattle.protocol.specs.Variables.{Variable, local, readsIt, writesIt, In, Pairwise, Accepted}
-use Rattle.protocol.specs.Fresh.{freshCore, fresh}
+use Rattle.protocol.specs.Laws.{Fresh}
+use Rattle.protocol.specs.Fresh.{freshCore}
+use Rattle.protocol.proofs.Instance.{fresh-is}
 use Rattle.code.specs.Code.{judgeCode}
 use Rattle.code.proofs.Exact.{accepted-code}
 use Rattle.records.specs.File.{cores, dataSize, variables, recordPlace, variableAt}
@@ -26,6 +28,7 @@ use Rattle.taskset.specs.Judge.{codePlace, codeOf, judge}
 use Rattle.taskset.specs.Layout.{basePlace, coreAt, coreLayout, layoutOf, noLayout, loadOf}
 use Rattle.taskset.specs.Rules.{WellFormed}
 use Rattle.taskset.specs.Task.{listed, sizesOf, variablesOf}
+use Rattle.taskset.specs.Fresh.{freshOf}
 use Rattle.taskset.proofs.Exact.{keeps-rules, code-inside, records-inside}
 
 -- ---- tables of numbered items
@@ -136,17 +139,21 @@ load-refused f n = rw (ne-eqb (judge f) 0 n)
 pub record-in-file : (f : List ℕ) → judge f ≡ 0 → (i : ℕ) → i < variables f → recordPlace f i + 12 ≤ length f
 record-in-file f z i h = omega (arith, records-inside f (keeps-rules f z .ends))
 
--- ---- the variables, as crate `protocol` asks for them
+-- ---- the fresh state and the variables, as crate `protocol` asks for them
+
+-- the fresh state is one that every list of steps may start from
+pub fresh-of : (f : List ℕ) → Fresh (freshOf f)
+fresh-of f = fresh-is (sizesOf f)
 
 -- the fresh data of core k have its data size
-pub fresh-data : (f : List ℕ) (k : ℕ) → k < cores f → length (core (fresh (sizesOf f) .plant) k .memory) ≡ dataSize f k
+pub fresh-data : (f : List ℕ) (k : ℕ) → k < cores f → length (core (freshOf f .plant) k .memory) ≡ dataSize f k
 unfolding sizesOf
 fresh-data f k h =
     ap (λ (l : List Core). length (getD l k absent .memory)) (map-listed freshCore (dataSize f) (cores f) 0)
     ∙ ap (λ (c : Core). length (c .memory)) (listed-at (λ i. freshCore (dataSize f i)) (cores f) k absent h)
     ∙ length-replicate {A = ℕ} (dataSize f k) 0
 
-pub variables-accepted : (f : List ℕ) → judge f ≡ 0 → Accepted (variablesOf f) (fresh (sizesOf f))
+pub variables-accepted : (f : List ℕ) → judge f ≡ 0 → Accepted (variablesOf f) (freshOf f)
 unfolding variablesOf
 variables-accepted f z =
     record {

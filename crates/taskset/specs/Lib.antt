@@ -6,3 +6,4 @@ pub mod Items
 pub mod Task
 pub mod Transit
 pub mod Blank
+pub mod Fresh
