@@ -33,14 +33,15 @@ use denote.Triple.Statement.{Contract, Triple}
 use denote.Triple.Call.{calls-at}
 use denote.Triple.Clauses.{ensured, lasts}
 use denote.Triple.Spec.{tripleOf}
-use Rattle.lent.specs.Lent.{noCore, recordAt}
-use Rattle.lent.specs.declared.Core.{Core}
-use Rattle.lent.proofs.Core as T
-use Rattle.lent.proofs.Core.Laws as T′
+use Rattle.snapshot.specs.Snapshot.{noCore}
+use Rattle.lent.specs.Lent.{recordAt}
+use Rattle.snapshot.specs.declared.Core.{Core}
+use Rattle.snapshot.proofs.Core as T
+use Rattle.snapshot.proofs.Core.Laws as T′
 use Rattle.lent.proofs.get_or as get-or
 use Rattle.lent.proofs.get_or.Symbol.{name as #lent·get-or}
-use Rattle.lent.proofs.no_core as no-core
-use Rattle.lent.proofs.no_core.Symbol.{name as #lent·no-core}
+use Rattle.snapshot.proofs.no_core as no-core
+use Rattle.snapshot.proofs.no_core.Symbol.{name as #snapshot·no-core}
 
 abbrev pub R : RattleType
 R = T.the-row
@@ -73,9 +74,9 @@ module _ {M : Type 1} (𝓤 : URA M) (H : Heap 𝓤) (A : Atoms 𝓤) (W : Given
   pub typed : (c : Core) (v : Val) → Is R c (v ∷ []) → Holds (hasTy T′.mir v) × WT v
   typed c v is = LL.lawful T.the-type T′.the-laws 𝓤 H A W .typed c (v ∷ []) is .0
 
-  module _ (C : Calls 𝓤 H) (Λ : Loops 𝓤 H) (fm : FmC 𝓤 H (W .laws) C) (known : Triple 𝓤 (C #lent·no-core) (NoCore 𝓤 H A at-mem run)) where
+  module _ (C : Calls 𝓤 H) (Λ : Loops 𝓤 H) (fm : FmC 𝓤 H (W .laws) C) (known : Triple 𝓤 (C #snapshot·no-core) (NoCore 𝓤 H A at-mem run)) where
     pub begins : {Γ : List (Item 𝓤)} {E : Env 𝓤 H} {d : Place} {rest : Body} {p : Kit.Post 𝓤 H}
-        → ((n : Core) (u : Val) → n ≡ noCore → Is R n (u ∷ []) → Sq W Γ (lands C Λ E d u rest p)) → Sq W Γ (runs C Λ E (seq (call #lent·no-core [] d) rest) p)
+        → ((n : Core) (u : Val) → n ≡ noCore → Is R n (u ∷ []) → Sq W Γ (lands C Λ E d u rest p)) → Sq W Γ (runs C Λ E (seq (call #snapshot·no-core [] d) rest) p)
     begins k =
         use0 W (raw (NoCore 𝓤 H A at-mem run .pre to-none)) goes-none $
         calls-at ! fm (NoCore 𝓤 H A at-mem run) known to-none (no-more !) (λ u.

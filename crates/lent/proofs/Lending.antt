@@ -22,13 +22,13 @@ use denote.Triple.Spec.{tripleOf}
 use Rattle.semaphore.specs.declared.Semaphore.{Semaphore}
 use Rattle.semaphore.proofs.Semaphore as P
 use Rattle.semaphore.proofs.Semaphore.Laws as P′
-use Rattle.lent.specs.declared.Core.{Core}
-use Rattle.lent.specs.declared.Table.{Table}
-use Rattle.lent.specs.declared.After.{After}
+use Rattle.snapshot.specs.declared.Core.{Core}
+use Rattle.snapshot.specs.declared.Table.{Table}
+use Rattle.snapshot.specs.declared.After.{After}
 use Rattle.lent.specs.Lent.{loaded}
-use Rattle.lent.proofs.Core as T
-use Rattle.lent.proofs.After as N
-use Rattle.lent.proofs.After.Laws as N′
+use Rattle.snapshot.proofs.Core as T
+use Rattle.snapshot.proofs.After as N
+use Rattle.snapshot.proofs.After.Laws as N′
 use Rattle.lent.proofs.load as load′
 use Rattle.lent.proofs.save as save
 

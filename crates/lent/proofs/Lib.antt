@@ -2,9 +2,6 @@ pub mod Again
 pub mod Shared
 pub mod Outcomes
 pub mod Laws
-pub mod Unchanged
-pub mod Back
 pub mod Scanning
-pub mod Calling
 pub mod Asking
 pub mod Lending

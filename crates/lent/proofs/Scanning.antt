@@ -1,10 +1,10 @@
--- The scan of a lent table round the ring: what it needs beside the records, and that it finds what the scan of the state that the table holds
--- finds. In order: the ring; one record; the scan; the scan turn by turn; the call. Not here: what the answer says of steps (crate table, Next). Assumes nothing.
+-- The scan of a lent table round the ring: that it finds what the scan of the state that the table holds finds. In order: one record; the scan;
+-- the scan turn by turn; the call. Not here: what the answer says of steps (crate table, Next). Assumes nothing.
 use mathlib.Core.Path.{_≡_, refl, sym, ap, _∙_}
 use mathlib.Core.Logic.{_≢_}
 use mathlib.Core.Bool.{Bool, true, false}
-use mathlib.Core.List.{List, [], _∷_}
-use Prim.Native.Nat.{ℕ, zero, suc, _+_, _-_, _%_, _≤_, _<_, zero-le}
+use mathlib.Core.List.{List}
+use Prim.Native.Nat.{ℕ, zero, suc, _+_, _-_, _≤_, _<_, zero-le}
 use native.Mathlib.Nat.{mod-lt, sub-zero}
 use native.Mathlib.Numerals.{add-one}
 use native.Mathlib.Omega.{arith}
@@ -22,45 +22,16 @@ use Rattle.semaphore.specs.Line.{semaphoreOf}
 use Rattle.states.specs.declared.State.{State}
 use Rattle.states.specs.declared.CoreTask.{CoreTask}
 use Rattle.states.specs.Machine.{none}
-use Rattle.states.specs.Tasks.{coreTask, taskAt, tasksOf, noTask}
+use Rattle.states.specs.Tasks.{coreTask, taskAt}
 use Rattle.table.specs.declared.Moving.the-variants.{Core as moving}
 use Rattle.table.specs.Table.{canMove, moves, roundFrom, firstMoving, nextMoving}
 use Rattle.machine.specs.Calls.{nextRefusal}
-use Rattle.lent.specs.declared.Core.{Core}
-use Rattle.lent.specs.declared.Table.{Table}
-use Rattle.lent.specs.declared.Ring.{Ring}
-use Rattle.lent.specs.Lent.{registersIn, recordAt, loaded, held, countsOf, noRing, ringOf, placeAfter, recordMoves, scanFrom, scanned, numberOf, answered, ringAnswer, nextLent}
-
--- ---- the ring
-
-abbrev pub wholeRing : List ℕ → List ℕ → Semaphore → ℕ → Ring
-wholeRing f t p given = record { refusal = 0; cores = cores f; given = given; semaphore = p; counts = countsOf f t }
-
-module _ (f t : List ℕ) (x : Table) (p : Semaphore) (given : ℕ) (s : State) (es : s ≡ held x p) where
-  pub ring-refused : (n : ℕ) (r : Ring) → n ≡ nextRefusal f t s given → n ≢ 0 → r ≡ noRing n given p → r ≡ ringOf f t x p given
-  unfolding ringOf
-  ring-refused n r e ne er =
-      let q : n ≡ nextRefusal f t (held x p) given = e ∙ ap (λ (z : State). nextRefusal f t z given) es in
-      er ∙ ap (λ (m : ℕ). noRing m given p) q ∙ sym (pick-false _ _ _ (ne-eqb _ 0 (λ z. ne (q ∙ z))))
-
-  pub ring-whole : nextRefusal f t s given ≡ 0 → (n : ℕ) (tasks : List CoreTask) → n ≡ cores f → tasks ≡ tasksOf f t
-      → _≡_ {A = Ring} record {
-        refusal = 0;
-        cores = n;
-        given = given;
-        semaphore = p;
-        counts = getD tasks 0 noTask .count ∷ getD tasks 1 noTask .count ∷ getD tasks 2 noTask .count ∷ getD tasks 3 noTask .count ∷ [];
-      } (ringOf f t x p given)
-  unfolding ringOf
-  ring-whole e n tasks en et =
-      (λ i. record {
-        refusal = 0;
-        cores = en i;
-        given = given;
-        semaphore = p;
-        counts = getD (et i) 0 noTask .count ∷ getD (et i) 1 noTask .count ∷ getD (et i) 2 noTask .count ∷ getD (et i) 3 noTask .count ∷ [];
-      })
-      ∙ sym (pick-true _ _ _ (eq-eqb _ 0 (ap (λ (z : State). nextRefusal f t z given) (sym es) ∙ e)))
+use Rattle.snapshot.specs.declared.Core.{Core}
+use Rattle.snapshot.specs.declared.Table.{Table}
+use Rattle.snapshot.specs.declared.Ring.{Ring}
+use Rattle.snapshot.specs.Snapshot.{registersIn, held, countsOf, noRing, ringOf, placeAfter, recordMoves, answered, ringAnswer}
+use Rattle.lent.specs.Lent.{recordAt, loaded, scanFrom, scanned, numberOf, nextLent}
+use Rattle.snapshot.proofs.Asked.{wholeRing}
 
 -- ---- one record
 

@@ -1,18 +1,19 @@
-// The machine's calls with a lent core table, for Rust and C: thin functions over the calls by value (crate machine). A table is a slice of
+// The machine's calls with a lent core table, for Rust and C: thin functions over the calls on a snapshot of it (crate snapshot). A table is a slice of
 // records, one for each core; the semaphore is a lent record beside it. A refused call changes nothing.
 //
 // The functions that start with `rikzord_` are the C interface too: a slice is a pointer and a length there.
 use protocol::Registers;
 use runner::Ran;
 use semaphore::Semaphore;
+use snapshot::After;
+use snapshot::Core;
+use snapshot::Ring;
+use snapshot::Table;
 use states::State;
 use window::Shown;
 ghost use mathlib.Core.Path.{_≡_};
-ghost use mathlib.Core.List.{[], _∷_};
-ghost use Prim.Native.Nat.{_+_, _*_, _<_, _≤_};
+ghost use mathlib.Core.List.{[]};
 ghost use lib.ListN.{length, getD, set};
-ghost use Rattle.verdict.specs.Verdict.{next};
-ghost use Rattle.memory.specs.Memory.{splice, part};
 ghost use Rattle.taskset.specs.Judge.{judge};
 ghost use Rattle.runner.specs.Runs.{left};
 ghost use Rattle.cycles.specs.Check.{linesOf, linesRefusal, linesByte};
@@ -20,524 +21,10 @@ ghost use Rattle.window.specs.declared.Shown.the-variants.{Code, Data};
 ghost use Rattle.window.specs.Window.{windowAt, windowCall};
 ghost use Rattle.bounds.specs.Outputs.{outputs, takesLent};
 ghost use Rattle.holding.specs.Holding.{lowestRefusal, answersAfter};
-ghost use Rattle.lent.specs.Lent.{noCore, tableFrom, loaded, entries, counted, registersIn, recordWith, heldPlaces, heldOffsets, held, coreOf, recordAfter, acceptedOf, refusedOf, tableLeft, saved, lent, stepTable, stepLent, runTable, runLent, takenTable, takenLent, freshTable, freshLent, ringOf, noRing, placeAfter, recordMoves, scanned, answered, ringAnswer, nextLent, withRegisters, registersAfter, stepRegisters};
-
-// A record of the core table: a core's registers and call stack, in 84 bytes of which each belongs to a field, so that what a call says of the
-// fields it says of every byte. Spare bytes are never judged, and a record that a call writes has zeros there.
-#[repr(C)]
-pub struct Core {
-    pub time: u32,
-    pub counter: u16,
-    pub offset: u16,
-    pub count: u16,
-    pub exchange: u16,
-    pub cycles: u16,
-    pub mode: u8,
-    pub depth: u8,
-    pub flags: u8,
-    pub spare: [u8; 3],
-    pub places: [u16; 16], // the return places of its open calls
-    pub offsets: [u16; 16], // the data offsets that go with them
-}
-
-// A table copied out: how many records it has, 255 for more, and its first four; zeros where it has fewer.
-pub struct Table {
-    pub count: u8,
-    pub cores: [Core; 4],
-}
-
-// ---- a table as a state, and back
-
-// The registers of a record.
-fn registers_in(c: Core) -> Registers
-    ensures { λ r. ⌜ r ≡ registersIn c ⌝ }
-{
-    Registers {
-        mode: c.mode,
-        counter: c.counter,
-        offset: c.offset,
-        depth: c.depth,
-        count: c.count,
-        exchange: c.exchange,
-        cycles: c.cycles,
-        flags: c.flags,
-        time: c.time,
-    }
-}
-
-// A record of these registers and this call stack.
-fn record_of(r: Registers, places: [u16; 16], offsets: [u16; 16]) -> Core
-    ensures { λ c. ⌜ c ≡ recordWith r places offsets ⌝ }
-{
-    let spare = [0u8; 3];
-    Core {
-        time: r.time,
-        counter: r.counter,
-        offset: r.offset,
-        count: r.count,
-        exchange: r.exchange,
-        cycles: r.cycles,
-        mode: r.mode,
-        depth: r.depth,
-        flags: r.flags,
-        spare,
-        places,
-        offsets,
-    }
-}
-
-// Copies n entries from src[from..] to dst[to..].
-fn copy(dst: &mut [u16], to: usize, src: &[u16], from: usize, n: usize)
-    requires { ⌜ (to + n ≤ length (now dst)) × (from + n ≤ length (now src)) ⌝ }
-    ensures { λ _. ⌜ now (dst .exit) ≡ splice (now (dst .entry)) to (part (now (src .entry)) from n) ⌝ }
-{
-    let mut i = 0;
-    while i < n {
-        dst[to + i] = src[from + i];
-        i += 1;
-    }
-}
-
-// The entries of four call stacks, end to end.
-fn join(a: [u16; 16], b: [u16; 16], c: [u16; 16], d: [u16; 16]) -> [u16; 64]
-    ensures { λ r. ⌜ r ≡ entries a b c d ⌝ }
-{
-    let mut all = [0u16; 64];
-    copy(&mut all, 0, &a, 0, 16);
-    copy(&mut all, 16, &b, 0, 16);
-    copy(&mut all, 32, &c, 0, 16);
-    copy(&mut all, 48, &d, 0, 16);
-    all
-}
-
-// The entries of core k's call stack.
-fn stack_of(all: [u16; 64], k: usize) -> [u16; 16]
-    requires { ⌜ k < 4 ⌝ }
-    ensures { λ r. ⌜ r ≡ part all (16 * k) 16 ⌝ }
-{
-    let mut stack = [0u16; 16];
-    copy(&mut stack, 0, &all, 16 * k, 16);
-    stack
-}
-
-// The return places of a table's four cores.
-fn places_of(t: Table) -> [u16; 64]
-    ensures { λ r. ⌜ r ≡ heldPlaces t ⌝ }
-{
-    let a = t.cores[0];
-    let b = t.cores[1];
-    let c = t.cores[2];
-    let d = t.cores[3];
-    let pa = a.places;
-    let pb = b.places;
-    let pc = c.places;
-    let pd = d.places;
-    join(pa, pb, pc, pd)
-}
-
-// The data offsets that go with them.
-fn offsets_of(t: Table) -> [u16; 64]
-    ensures { λ r. ⌜ r ≡ heldOffsets t ⌝ }
-{
-    let a = t.cores[0];
-    let b = t.cores[1];
-    let c = t.cores[2];
-    let d = t.cores[3];
-    let oa = a.offsets;
-    let ob = b.offsets;
-    let oc = c.offsets;
-    let od = d.offsets;
-    join(oa, ob, oc, od)
-}
-
-// The state that a table holds.
-fn state_of(t: Table, semaphore: Semaphore) -> State
-    ensures { λ r. ⌜ r ≡ held t semaphore ⌝ }
-{
-    let a = t.cores[0];
-    let b = t.cores[1];
-    let c = t.cores[2];
-    let d = t.cores[3];
-    let ra = registers_in(a);
-    let rb = registers_in(b);
-    let rc = registers_in(c);
-    let rd = registers_in(d);
-    let cores = [ra, rb, rc, rd];
-    let places = places_of(t);
-    let offsets = offsets_of(t);
-    State {
-        count: t.count,
-        semaphore,
-        cores,
-        places,
-        offsets,
-    }
-}
-
-// The record of core k of a state.
-fn core_of(s: State, k: usize) -> Core
-    requires { ⌜ k < 4 ⌝ }
-    ensures { λ r. ⌜ r ≡ coreOf s k ⌝ }
-{
-    let registers = s.cores[k];
-    let all_places = s.places;
-    let all_offsets = s.offsets;
-    let places = stack_of(all_places, k);
-    let offsets = stack_of(all_offsets, k);
-    record_of(registers, places, offsets)
-}
-
-// ---- what a call leaves of a table
-
-// The refusal number, the table's first four records, and the semaphore.
-pub struct After {
-    pub refusal: u8,
-    pub a: Core,
-    pub b: Core,
-    pub c: Core,
-    pub d: Core,
-    pub semaphore: Semaphore,
-}
-
-// Record k after a call that is not refused and leaves the state s.
-fn record_after(t: Table, s: State, k: usize) -> Core
-    requires { ⌜ k < 4 ⌝ }
-    ensures { λ x. ⌜ x ≡ recordAfter t s k ⌝ }
-{
-    if s.count as usize <= k {
-        return t.cores[k];
-    }
-    core_of(s, k)
-}
-
-fn accepted(t: Table, s: State) -> After
-    ensures { λ x. ⌜ x ≡ acceptedOf t s ⌝ }
-{
-    let a = record_after(t, s, 0);
-    let b = record_after(t, s, 1);
-    let c = record_after(t, s, 2);
-    let d = record_after(t, s, 3);
-    let semaphore = s.semaphore;
-    After {
-        refusal: 0,
-        a,
-        b,
-        c,
-        d,
-        semaphore,
-    }
-}
-
-fn refused(t: Table, semaphore: Semaphore, number: u8) -> After
-    ensures { λ x. ⌜ x ≡ refusedOf t semaphore number ⌝ }
-{
-    let a = t.cores[0];
-    let b = t.cores[1];
-    let c = t.cores[2];
-    let d = t.cores[3];
-    After {
-        refusal: number,
-        a,
-        b,
-        c,
-        d,
-        semaphore,
-    }
-}
-
-// ---- the calls on a table copied out
-
-fn step_table(
-    file: &[u8],
-    trace: &[u8],
-    t: Table,
-    semaphore: Semaphore,
-    buffer: &mut [u8],
-    shared: &mut [u8],
-    core: u8,
-) -> After
-    ensures { λ r. ⌜ tableLeft r (now (buffer .exit)) (now (shared .exit)) [] ≡ stepTable (now (file .entry)) (now (trace .entry)) t semaphore (now (buffer .entry)) (now (shared .entry)) core ⌝ }
-{
-    let s = state_of(t, semaphore);
-    let stepped = machine::step(file, trace, s, buffer, shared, core);
-    if stepped.refusal != 0 {
-        return refused(t, semaphore, stepped.refusal);
-    }
-    accepted(t, stepped.state)
-}
-
-fn run_table(
-    file: &[u8],
-    trace: &[u8],
-    t: Table,
-    semaphore: Semaphore,
-    buffer: &mut [u8],
-    shared: &mut [u8],
-    order: &[u8],
-    list: &mut [u8],
-    taken: &mut usize,
-) -> After
-    ensures { λ r. ⌜ (tableLeft r (now (buffer .exit)) (now (shared .exit)) (now (list .exit)) ≡ runTable (now (file .entry)) (now (trace .entry)) t semaphore (now (buffer .entry)) (now (shared .entry)) (now (order .entry)) (now (list .entry))) × (now (taken .exit) ≡ takenTable (now (file .entry)) (now (trace .entry)) t semaphore (now (buffer .entry)) (now (shared .entry)) (now (order .entry)) (now (list .entry)) (now (taken .entry))) ⌝ }
-{
-    let s = state_of(t, semaphore);
-    let ran = machine::run(file, trace, s, buffer, shared, order, list);
-    if ran.refusal != 0 {
-        return refused(t, semaphore, ran.refusal);
-    }
-    *taken = ran.taken;
-    accepted(t, ran.state)
-}
-
-// The fresh state. A table of fewer than n records is too short.
-fn fresh_table(
-    file: &[u8],
-    t: Table,
-    semaphore: Semaphore,
-    buffer: &mut [u8],
-    shared: &mut [u8],
-) -> After
-    ensures { λ r. ⌜ tableLeft r (now (buffer .exit)) (now (shared .exit)) [] ≡ freshTable (now (file .entry)) t semaphore (now (buffer .entry)) (now (shared .entry)) ⌝ }
-{
-    if t.count < memory::byte_at(file, 4) {
-        return refused(t, semaphore, short_refusal(file));
-    }
-    let made = machine::fresh(file, buffer, shared);
-    if made.refusal != 0 {
-        return refused(t, semaphore, made.refusal);
-    }
-    accepted(t, made.state)
-}
-
-// The refusal where the table is too short: the file is judged first.
-fn short_refusal(file: &[u8]) -> u8
-    ensures { λ r. ⌜ r ≡ next (judge (now (file .entry))) 21 ⌝ }
-{
-    let r = taskset::judge_file(file);
-    if r != 0 {
-        return r;
-    }
-    21
-}
-
-// ---- the ring of cores, and the test of one record
-
-// What a scan of the table needs beside its records. Where the call is refused there are no cores to scan.
-pub struct Ring {
-    pub refusal: u8,
-    pub cores: u8,
-    pub given: u8,
-    pub semaphore: Semaphore,
-    pub counts: [usize; 4], // the input records of each core
-}
-
-// Judges the call for the next core, on the table copied out, and gives what the scan needs.
-fn ring_of(file: &[u8], trace: &[u8], t: Table, semaphore: Semaphore, given: u8) -> Ring
-    ensures { λ r. ⌜ r ≡ ringOf (now (file .entry)) (now (trace .entry)) t semaphore given ⌝ }
-{
-    let s = state_of(t, semaphore);
-    let loaded = taskset::load(file);
-    if loaded.refusal != 0 {
-        return no_ring(loaded.refusal, given, semaphore);
-    }
-    let layout = loaded.layout;
-    let prepared = states::prepare(file, trace, layout, s);
-    if prepared.refusal != 0 {
-        return no_ring(prepared.refusal, given, semaphore);
-    }
-    if layout.cores <= given as usize {
-        return no_ring(20, given, semaphore);
-    }
-    let tasks = prepared.tasks;
-    let counts = [
-        tasks[0].count,
-        tasks[1].count,
-        tasks[2].count,
-        tasks[3].count,
-    ];
-    Ring {
-        refusal: 0,
-        cores: layout.cores as u8,
-        given,
-        semaphore,
-        counts,
-    }
-}
-
-fn no_ring(number: u8, given: u8, semaphore: Semaphore) -> Ring
-    ensures { λ r. ⌜ r ≡ noRing number given semaphore ⌝ }
-{
-    let counts = [0usize; 4];
-    Ring {
-        refusal: number,
-        cores: 0,
-        given,
-        semaphore,
-        counts,
-    }
-}
-
-// Core number i + 1 after the given one, round the ring.
-fn place_after(r: Ring, i: u8) -> u8
-    ensures { λ k. ⌜ k ≡ placeAfter r i ⌝ }
-{
-    if r.cores == 0 {
-        return 0;
-    }
-    ((r.given as usize + (i as usize + 1)) % (r.cores as usize)) as u8
-}
-
-// Whether core k, which has this record, can move: the test by value.
-fn moves(r: Ring, k: u8, c: Core) -> bool
-    ensures { λ ok. ⌜ ok ≡ recordMoves r k c ⌝ }
-{
-    if 4 <= k {
-        return table::can_move(0, r.semaphore, k, registers_in(c));
-    }
-    let count = r.counts[k as usize];
-    table::can_move(count, r.semaphore, k, registers_in(c))
-}
-
-// The number of the core that moves next, where the call is not refused.
-fn found_in(r: Ring, k: u8, found: &mut u8) -> u8
-    ensures { λ x. ⌜ answered x (now (found .exit)) ≡ ringAnswer r k (now (found .entry)) ⌝ }
-{
-    if r.refusal != 0 {
-        return r.refusal;
-    }
-    *found = k;
-    0
-}
-
-// ---- the registers of one core
-
-// What a step answers that is lent the registers of its core: these, and the answer by value.
-pub struct Stepped {
-    pub registers: Registers,
-    pub ran: Ran,
-}
-
-fn set_registers(cores: [Registers; 4], k: usize, r: Registers) -> [Registers; 4]
-    ensures { λ x. ⌜ x ≡ set cores k r ⌝ }
-{
-    let mut l = cores;
-    if k < 4 {
-        l[k] = r;
-        return l;
-    }
-    l
-}
-
-// The state with these registers for core k.
-fn with_registers(s: State, k: usize, r: Registers) -> State
-    ensures { λ x. ⌜ x ≡ withRegisters s k r ⌝ }
-{
-    let old = s.cores;
-    let cores = set_registers(old, k, r);
-    let places = s.places;
-    let offsets = s.offsets;
-    let held = s.semaphore;
-    State {
-        count: s.count,
-        semaphore: held,
-        cores,
-        places,
-        offsets,
-    }
-}
-
-// Core k's registers of a state; r where there is no core k.
-fn registers_of(s: State, k: usize, r: Registers) -> Registers
-    ensures { λ x. ⌜ x ≡ registersAfter s k r ⌝ }
-{
-    if k < 4 {
-        return s.cores[k];
-    }
-    r
-}
-
-fn step_with(
-    file: &[u8],
-    trace: &[u8],
-    s: State,
-    registers: Registers,
-    buffer: &mut [u8],
-    shared: &mut [u8],
-    core: u8,
-) -> Stepped
-    ensures { λ x. ⌜ (left (x .ran) (now (buffer .exit)) (now (shared .exit)) [] ≡ stepRegisters (now (file .entry)) (now (trace .entry)) s registers (now (buffer .entry)) (now (shared .entry)) core) × (x .registers ≡ registersAfter (x .ran .state) core registers) ⌝ }
-{
-    let k = core as usize;
-    let ran = machine::step(
-        file,
-        trace,
-        with_registers(s, k, registers),
-        buffer,
-        shared,
-        core,
-    );
-    let after = registers_of(ran.state, k, registers);
-    Stepped {
-        registers: after,
-        ran,
-    }
-}
-
-// The registers of core `core` are lent to its step and changed in place; the rest of the state goes by value.
-pub fn step_registers(
-    file: &[u8],
-    trace: &[u8],
-    s: State,
-    registers: &mut Registers,
-    buffer: &mut [u8],
-    shared: &mut [u8],
-    core: u8,
-) -> Ran
-    ensures { λ x. ⌜ (left x (now (buffer .exit)) (now (shared .exit)) [] ≡ stepRegisters (now (file .entry)) (now (trace .entry)) s (now (registers .entry)) (now (buffer .entry)) (now (shared .entry)) core) × (now (registers .exit) ≡ registersAfter (x .state) core (now (registers .entry))) ⌝ }
-{
-    let x = step_with(file, trace, s, *registers, buffer, shared, core);
-    *registers = x.registers;
-    x.ran
-}
+ghost use Rattle.snapshot.specs.Snapshot.{answered, registersAfter, stepRegisters};
+ghost use Rattle.lent.specs.Lent.{loaded, saved, lent, stepLent, runLent, takenLent, freshLent, scanned, nextLent};
 
 // ---- the lent table
-
-// A record of zeros.
-fn no_core() -> Core
-    ensures { λ r. ⌜ r ≡ noCore ⌝ }
-{
-    let registers = Registers {
-        mode: protocol::BETWEEN,
-        counter: 0,
-        offset: 0,
-        depth: 0,
-        count: 0,
-        exchange: 0,
-        cycles: 0,
-        flags: 0,
-        time: 0,
-    };
-    let places = [0u16; 16];
-    let offsets = [0u16; 16];
-    record_of(registers, places, offsets)
-}
-
-// How many records a table has, in one byte.
-fn count_of(n: usize) -> u8
-    ensures { λ r. ⌜ r ≡ counted n ⌝ }
-{
-    if n < 255 {
-        return n as u8;
-    }
-    255
-}
-
-fn table_of(a: Core, b: Core, c: Core, d: Core, n: usize) -> Table
-    ensures { λ r. ⌜ r ≡ tableFrom a b c d n ⌝ }
-{
-    let count = count_of(n);
-    let cores = [a, b, c, d];
-    Table { count, cores }
-}
 
 // Record i of a table; `other` past its end.
 pub fn get_or(t: &[Core], i: usize, other: Core) -> Core
@@ -563,12 +50,12 @@ pub fn put_or(t: &mut [Core], i: usize, c: Core)
 pub fn load(t: &[Core]) -> Table
     ensures { λ r. ⌜ r ≡ loaded (now (t .entry)) ⌝ }
 {
-    let none = no_core();
+    let none = snapshot::no_core();
     let a = get_or(t, 0, none);
     let b = get_or(t, 1, none);
     let c = get_or(t, 2, none);
     let d = get_or(t, 3, none);
-    table_of(a, b, c, d, t.len())
+    snapshot::table_of(a, b, c, d, t.len())
 }
 
 // The scan round the ring: of the lent table's records, from the one after the given core to that core's own, the first whose core can move;
@@ -576,13 +63,13 @@ pub fn load(t: &[Core]) -> Table
 pub fn scan(t: &[Core], r: Ring) -> u8
     ensures { λ x. ⌜ x ≡ scanned (now (t .entry)) r ⌝ }
 {
-    let none = no_core();
+    let none = snapshot::no_core();
     let mut i: u8 = 0;
     while i < r.cores {
-        let k = place_after(r, i);
+        let k = snapshot::place_after(r, i);
         i += 1;
         let c = get_or(t, k as usize, none);
-        if moves(r, k, c) {
+        if snapshot::moves(r, k, c) {
             return k;
         }
     }
@@ -618,7 +105,7 @@ pub extern "C" fn rikzord_step(
     ensures { λ r. ⌜ lent r (now (table .exit)) (now (semaphore .exit)) (now (buffer .exit)) (now (shared .exit)) [] ≡ stepLent (now (file .entry)) (now (trace .entry)) (now (table .entry)) (now (semaphore .entry)) (now (buffer .entry)) (now (shared .entry)) core ⌝ }
 {
     let t = load(table);
-    let x = step_table(file, trace, t, *semaphore, buffer, shared, core);
+    let x = snapshot::step_table(file, trace, t, *semaphore, buffer, shared, core);
     save(table, x);
     *semaphore = x.semaphore;
     x.refusal
@@ -640,7 +127,7 @@ pub extern "C" fn rikzord_run(
     ensures { λ r. ⌜ (lent r (now (table .exit)) (now (semaphore .exit)) (now (buffer .exit)) (now (shared .exit)) (now (list .exit)) ≡ runLent (now (file .entry)) (now (trace .entry)) (now (table .entry)) (now (semaphore .entry)) (now (buffer .entry)) (now (shared .entry)) (now (order .entry)) (now (list .entry))) × (now (taken .exit) ≡ takenLent (now (file .entry)) (now (trace .entry)) (now (table .entry)) (now (semaphore .entry)) (now (buffer .entry)) (now (shared .entry)) (now (order .entry)) (now (list .entry)) (now (taken .entry))) ⌝ }
 {
     let t = load(table);
-    let x = run_table(
+    let x = snapshot::run_table(
         file,
         trace,
         t,
@@ -668,7 +155,7 @@ pub extern "C" fn rikzord_fresh(
     ensures { λ r. ⌜ lent r (now (table .exit)) (now (semaphore .exit)) (now (buffer .exit)) (now (shared .exit)) [] ≡ freshLent (now (file .entry)) (now (table .entry)) (now (semaphore .entry)) (now (buffer .entry)) (now (shared .entry)) ⌝ }
 {
     let t = load(table);
-    let x = fresh_table(file, t, *semaphore, buffer, shared);
+    let x = snapshot::fresh_table(file, t, *semaphore, buffer, shared);
     save(table, x);
     *semaphore = x.semaphore;
     x.refusal
@@ -687,9 +174,9 @@ pub extern "C" fn rikzord_next_core(
     ensures { λ r. ⌜ answered r (now (found .exit)) ≡ nextLent (now (file .entry)) (now (trace .entry)) (now (table .entry)) (now (semaphore .entry)) given (now (found .entry)) ⌝ }
 {
     let t = load(table);
-    let ring = ring_of(file, trace, t, *semaphore, given);
+    let ring = snapshot::ring_of(file, trace, t, *semaphore, given);
     let k = scan(table, ring);
-    found_in(ring, k, found)
+    snapshot::found_in(ring, k, found)
 }
 
 // The refusal number of a task set file alone.
@@ -698,6 +185,25 @@ pub extern "C" fn rikzord_check_file(file: &[u8]) -> u8
     ensures { λ r. ⌜ r ≡ judge (now (file .entry)) ⌝ }
 {
     machine::check_file(file)
+}
+
+// ---- the registers of one core
+
+// The registers of core `core` are lent to its step and changed in place; the rest of the state goes by value.
+pub fn step_registers(
+    file: &[u8],
+    trace: &[u8],
+    s: State,
+    registers: &mut Registers,
+    buffer: &mut [u8],
+    shared: &mut [u8],
+    core: u8,
+) -> Ran
+    ensures { λ x. ⌜ (left x (now (buffer .exit)) (now (shared .exit)) [] ≡ stepRegisters (now (file .entry)) (now (trace .entry)) s (now (registers .entry)) (now (buffer .entry)) (now (shared .entry)) core) × (now (registers .exit) ≡ registersAfter (x .state) core (now (registers .entry))) ⌝ }
+{
+    let x = snapshot::step_with(file, trace, s, *registers, buffer, shared, core);
+    *registers = x.registers;
+    x.ran
 }
 
 // ---- beside the machine: the lowest reading over the holding time

@@ -38,9 +38,9 @@ use denote.Triple.Spec.{Meets, tripleOf}
 use denote.Triple.Table.{entered}
 use denote.Triple.Walked.{says, Stays, stay-none-slice, stay-none, walkOf, goes-none-slice, goes-none, Walks, ends-at, walked, walk-meets}
 use denote.Exit.{yes}
-use Rattle.lent.specs.declared.Core.{Core}
-use Rattle.lent.proofs.Core as T
-use Rattle.lent.proofs.Core.Laws as T′
+use Rattle.snapshot.specs.declared.Core.{Core}
+use Rattle.snapshot.proofs.Core as T
+use Rattle.snapshot.proofs.Core.Laws as T′
 use Rattle.lent.proofs.get_or.Key.{name as #lent·get-or}
 use Rattle.lent.proofs.get_or as f
 use Rattle.lent.proofs.get_or.Statement as stated

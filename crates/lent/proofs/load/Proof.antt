@@ -38,24 +38,25 @@ use denote.Triple.Spec.{Meets, tripleOf}
 use denote.Triple.Table.{entered, cited}
 use denote.Triple.Walked.{says, Stays, stay-none-slice, walkOf, goes-none-slice, Walks, ends-at, walked, walk-meets}
 use denote.Exit.{yes}
-use Rattle.lent.specs.Lent.{tableFrom, loaded}
-use Rattle.lent.specs.declared.Core.{Core}
-use Rattle.lent.specs.declared.Table.{Table}
-use Rattle.lent.proofs.Core as T
-use Rattle.lent.proofs.Core.Laws as T′
-use Rattle.lent.proofs.Table as N
-use Rattle.lent.proofs.Table.Laws as N′
+use Rattle.snapshot.specs.Snapshot.{tableFrom}
+use Rattle.lent.specs.Lent.{loaded}
+use Rattle.snapshot.specs.declared.Core.{Core}
+use Rattle.snapshot.specs.declared.Table.{Table}
+use Rattle.snapshot.proofs.Core as T
+use Rattle.snapshot.proofs.Core.Laws as T′
+use Rattle.snapshot.proofs.Table as N
+use Rattle.snapshot.proofs.Table.Laws as N′
 use Rattle.lent.proofs.Asking.{R, GetOr, NoCore, typed, from-none, begins, asks}
 use Rattle.lent.proofs.get_or.Symbol as get-or-def
 use Rattle.lent.proofs.get_or.Symbol.{name as #lent·get-or}
 use Rattle.lent.proofs.get_or.Met as get-or-thm
-use Rattle.lent.proofs.no_core.Symbol as no-core-def
-use Rattle.lent.proofs.no_core.Symbol.{name as #lent·no-core}
-use Rattle.lent.proofs.no_core.Met as no-core-thm
-use Rattle.lent.proofs.table_of as table-of
-use Rattle.lent.proofs.table_of.Symbol as table-of-def
-use Rattle.lent.proofs.table_of.Symbol.{name as #lent·table-of}
-use Rattle.lent.proofs.table_of.Met as table-of-thm
+use Rattle.snapshot.proofs.no_core.Symbol as no-core-def
+use Rattle.snapshot.proofs.no_core.Symbol.{name as #snapshot·no-core}
+use Rattle.snapshot.proofs.no_core.Met as no-core-thm
+use Rattle.snapshot.proofs.table_of as table-of
+use Rattle.snapshot.proofs.table_of.Symbol as table-of-def
+use Rattle.snapshot.proofs.table_of.Symbol.{name as #snapshot·table-of}
+use Rattle.snapshot.proofs.table_of.Met as table-of-thm
 use Rattle.lent.proofs.load.Key.{name as #lent·load}
 use Rattle.lent.proofs.load as f
 use Rattle.lent.proofs.load.Statement as stated
@@ -108,7 +109,7 @@ module _ {M : Type 1} (𝓤 : URA M) (H : Heap 𝓤) (A : Atoms 𝓤) (W : Given
       owned ! R (Is R) (LL.makes T.the-type T′.the-plain 𝓤 H A) c₃ _ i₃ $ fjoin ! $ owned ! R (Is R) (LL.makes T.the-type T′.the-plain 𝓤 H A) c₂ _ i₂ $ fjoin ! $
       owned ! R (Is R) (LL.makes T.the-type T′.the-plain 𝓤 H A) c₁ _ i₁ $ fjoin ! $ owned ! R (Is R) (LL.makes T.the-type T′.the-plain 𝓤 H A) c₀ _ i₀ $ fjoin ! $ nothing ! $ join ! $ frame ! $ done !
 
-  module _ (C : Calls 𝓤 H) (Λ : Loops 𝓤 H) (fm : FmC 𝓤 H (W .laws) C) (known-get : Triple 𝓤 (C #lent·get-or) (GetOr 𝓤 H A at-mem run)) (known-none : Triple 𝓤 (C #lent·no-core) (NoCore 𝓤 H A at-mem run)) (known-table : Triple 𝓤 (C #lent·table-of) (TableOf 𝓤 H A at-mem run)) where
+  module _ (C : Calls 𝓤 H) (Λ : Loops 𝓤 H) (fm : FmC 𝓤 H (W .laws) C) (known-get : Triple 𝓤 (C #lent·get-or) (GetOr 𝓤 H A at-mem run)) (known-none : Triple 𝓤 (C #snapshot·no-core) (NoCore 𝓤 H A at-mem run)) (known-table : Triple 𝓤 (C #snapshot·table-of) (TableOf 𝓤 H A at-mem run)) where
     walk : ent 𝓤 (onEntry 𝓤 H A f.signature (κ, tt) (q, tt) a at) (WpFn 𝓤 H C Λ code.function (s ∷ []) Post)
     walk =
         qed W ((‵ (flft κ q) ⊛ ‵ ftrue) ∷ ‵ (owns (ShrSlice (named 0) κ R ∷ []) a at) ∷ []) ∵ enter ! C Λ code.function (s ∷ []) _ $
@@ -137,12 +138,12 @@ module _ {M : Type 1} (𝓤 : URA M) (H : Heap 𝓤) (A : Atoms 𝓤) (W : Given
         keep ! (1 ∷ 2 ∷ 0 ∷ []) $ by ! (exits r w (e ∙ λ k. tableFrom (from-none ys c₀ n 0 en e₀ k) (from-none ys c₁ n 1 en e₁ k) (from-none ys c₂ n 2 en e₂ k) (from-none ys c₃ n 3 en e₃ k) (length ys))))))))))))))))))))
 
 module _ {M : Type 1} (𝓤 : URA M) (H : Heap 𝓤) (A : Atoms 𝓤) (W : Given 𝓤 H A) (at-mem : Memory → SProp 𝓤) (run : Routine → Fun 𝓤) where
-  walks : (C : Calls 𝓤 H) (Λ : Loops 𝓤 H) → FmC 𝓤 H (W .laws) C → Triple 𝓤 (C #lent·get-or) (GetOr 𝓤 H A at-mem run) → Triple 𝓤 (C #lent·no-core) (NoCore 𝓤 H A at-mem run) → Triple 𝓤 (C #lent·table-of) (TableOf 𝓤 H A at-mem run)
+  walks : (C : Calls 𝓤 H) (Λ : Loops 𝓤 H) → FmC 𝓤 H (W .laws) C → Triple 𝓤 (C #lent·get-or) (GetOr 𝓤 H A at-mem run) → Triple 𝓤 (C #snapshot·no-core) (NoCore 𝓤 H A at-mem run) → Triple 𝓤 (C #snapshot·table-of) (TableOf 𝓤 H A at-mem run)
       → Walks 𝓤 H A f.ended stayed (WpFn 𝓤 H C Λ code.function) (f.clauses 𝓤 H A at-mem run)
   walks C Λ fm known-get known-none known-table = walked 𝓤 H A f.ended stayed (f.clauses 𝓤 H A at-mem run) (WpFn 𝓤 H C Λ code.function) (λ κs. (slice-vals, tt)) (λ κs. (shr-slice-tells (named 0) (κs .0) R, tt))
       (λ κs qs bounds a g are. via 𝓤 _ (fst∗ 𝓤 _ (emp 𝓤)) (walk 𝓤 H A W at-mem run (κs .0) (qs .0) (a .0 .ptr .0) (a .0 .ptr .1) (a .0 .name) (a .0 .now) (are .0 .0 .1) C Λ fm known-get known-none known-table))
 
-meets : {M : Type 1} (𝓤 : URA M) (H : Heap 𝓤) (A : Atoms 𝓤) → Given 𝓤 H A → (at-mem : Memory → SProp 𝓤) (run : Routine → Fun 𝓤) (𝓣 : Tables 𝓤 H) → Triple 𝓤 (𝓣 .C #lent·get-or) (GetOr 𝓤 H A at-mem run) → Triple 𝓤 (𝓣 .C #lent·no-core) (NoCore 𝓤 H A at-mem run) → Triple 𝓤 (𝓣 .C #lent·table-of) (TableOf 𝓤 H A at-mem run)
+meets : {M : Type 1} (𝓤 : URA M) (H : Heap 𝓤) (A : Atoms 𝓤) → Given 𝓤 H A → (at-mem : Memory → SProp 𝓤) (run : Routine → Fun 𝓤) (𝓣 : Tables 𝓤 H) → Triple 𝓤 (𝓣 .C #lent·get-or) (GetOr 𝓤 H A at-mem run) → Triple 𝓤 (𝓣 .C #snapshot·no-core) (NoCore 𝓤 H A at-mem run) → Triple 𝓤 (𝓣 .C #snapshot·table-of) (TableOf 𝓤 H A at-mem run)
     → Meets 𝓤 H A f.signature (WpFn 𝓤 H (𝓣 .C) (𝓣 .Λ) code.function) (f.spec 𝓤 H A at-mem run)
 meets 𝓤 H A W at-mem run 𝓣 known-get known-none known-table = walk-meets 𝓤 H A f.ended stayed W (goes-none-slice 𝓤 H A W 1 (0 ∷ []) tt (plain (λ _. R)) yes, tt) (f.clauses 𝓤 H A at-mem run)
     (WpFn 𝓤 H (𝓣 .C) (𝓣 .Λ) code.function) (WpFn-mono 𝓤 H (W .laws) 𝓣 code.function) (walks 𝓤 H A W at-mem run (𝓣 .C) (𝓣 .Λ) (fmOf 𝓤 H (W .laws) 𝓣) known-get known-none known-table)
@@ -154,5 +155,5 @@ load-spec 𝓤 H 𝓜 𝓖 𝓡 =
     (tables 𝓤 H 𝓜 𝓡 code.env .C) (tables 𝓤 H 𝓜 𝓡 code.env .Λ) #lent·load code.function (code.unfolded 𝓤 H 𝓜 𝓡)
     (meets 𝓤 H (𝓖 .A) (givenOf 𝓤 H 𝓜 𝓖) (𝓜 .mem) (𝓡 .run) (tablesOf 𝓤 H 𝓜 (tables 𝓤 H 𝓜 𝓡 code.env))
     (cited 𝓤 H (GetOr 𝓤 H (𝓖 .A) (𝓜 .mem) (𝓡 .run)) 𝓜 𝓡 code.env #lent·get-or get-or-def.routine code.calls-lent·get-or (get-or-thm.met 𝓤 H 𝓜 𝓖 𝓡))
-    (cited 𝓤 H (NoCore 𝓤 H (𝓖 .A) (𝓜 .mem) (𝓡 .run)) 𝓜 𝓡 code.env #lent·no-core no-core-def.routine code.calls-lent·no-core (no-core-thm.met 𝓤 H 𝓜 𝓖 𝓡))
-    (cited 𝓤 H (TableOf 𝓤 H (𝓖 .A) (𝓜 .mem) (𝓡 .run)) 𝓜 𝓡 code.env #lent·table-of table-of-def.routine code.calls-lent·table-of (table-of-thm.met 𝓤 H 𝓜 𝓖 𝓡)))
+    (cited 𝓤 H (NoCore 𝓤 H (𝓖 .A) (𝓜 .mem) (𝓡 .run)) 𝓜 𝓡 code.env #snapshot·no-core no-core-def.routine code.calls-snapshot·no-core (no-core-thm.met 𝓤 H 𝓜 𝓖 𝓡))
+    (cited 𝓤 H (TableOf 𝓤 H (𝓖 .A) (𝓜 .mem) (𝓡 .run)) 𝓜 𝓡 code.env #snapshot·table-of table-of-def.routine code.calls-snapshot·table-of (table-of-thm.met 𝓤 H 𝓜 𝓖 𝓡)))

@@ -41,10 +41,10 @@ use denote.Triple.Spec.{Meets, tripleOf}
 use denote.Triple.Table.{entered}
 use denote.Triple.Walked.{says, Stays, stay-slice, stay-none, walkOf, goes-slice, goes-none, Walks, ends-at, walked, walk-meets}
 use denote.Exit.{yes}
-use Rattle.lent.specs.Lent.{noCore}
-use Rattle.lent.specs.declared.Core.{Core}
-use Rattle.lent.proofs.Core as T
-use Rattle.lent.proofs.Core.Laws as T′
+use Rattle.snapshot.specs.Snapshot.{noCore}
+use Rattle.snapshot.specs.declared.Core.{Core}
+use Rattle.snapshot.proofs.Core as T
+use Rattle.snapshot.proofs.Core.Laws as T′
 use Rattle.lent.proofs.put_or.Key.{name as #lent·put-or}
 use Rattle.lent.proofs.put_or as f
 use Rattle.lent.proofs.put_or.Statement as stated

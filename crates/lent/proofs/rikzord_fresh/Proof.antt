@@ -46,25 +46,26 @@ use denote.Exit.{yes}
 use Rattle.semaphore.specs.declared.Semaphore.{Semaphore}
 use Rattle.semaphore.proofs.Semaphore as P
 use Rattle.semaphore.proofs.Semaphore.Laws as P′
-use Rattle.lent.specs.declared.Core.{Core}
-use Rattle.lent.specs.declared.Table.{Table}
-use Rattle.lent.specs.declared.After.{After}
-use Rattle.lent.proofs.Table as F
-use Rattle.lent.proofs.Table.Laws as F′
-use Rattle.lent.proofs.After as N
-use Rattle.lent.proofs.After.Laws as N′
+use Rattle.snapshot.specs.declared.Core.{Core}
+use Rattle.snapshot.specs.declared.Table.{Table}
+use Rattle.snapshot.specs.declared.After.{After}
+use Rattle.snapshot.proofs.Table as F
+use Rattle.snapshot.proofs.Table.Laws as F′
+use Rattle.snapshot.proofs.After as N
+use Rattle.snapshot.proofs.After.Laws as N′
 use Rattle.lent.proofs.Shared.{LentShared, lends-shared, shared-back}
-use Rattle.lent.specs.Lent.{loaded, tableLeft, saved, lent, freshTable, freshLent}
+use Rattle.snapshot.specs.Snapshot.{tableLeft, freshTable}
+use Rattle.lent.specs.Lent.{loaded, saved, lent, freshLent}
 use Rattle.lent.proofs.Lending.{R, mach-after, mach-semaphore, Load, Save, load-of, after-is, refusal-fits, semaphore-is}
 use Rattle.lent.proofs.Laws.{fresh-written}
 use Rattle.lent.proofs.load as load′
 use Rattle.lent.proofs.load.Symbol as load-def
 use Rattle.lent.proofs.load.Symbol.{name as #lent·load}
 use Rattle.lent.proofs.load.Met as load-thm
-use Rattle.lent.proofs.fresh_table as fresh-table
-use Rattle.lent.proofs.fresh_table.Symbol as fresh-table-def
-use Rattle.lent.proofs.fresh_table.Symbol.{name as #lent·fresh-table}
-use Rattle.lent.proofs.fresh_table.Met as fresh-table-thm
+use Rattle.snapshot.proofs.fresh_table as fresh-table
+use Rattle.snapshot.proofs.fresh_table.Symbol as fresh-table-def
+use Rattle.snapshot.proofs.fresh_table.Symbol.{name as #snapshot·fresh-table}
+use Rattle.snapshot.proofs.fresh_table.Met as fresh-table-thm
 use Rattle.lent.proofs.save as save
 use Rattle.lent.proofs.save.Symbol as save-def
 use Rattle.lent.proofs.save.Symbol.{name as #lent·save}
@@ -184,7 +185,7 @@ module _ {M : Type 1} (𝓤 : URA M) (H : Heap 𝓤) (A : Atoms 𝓤) (W : Given
       qed W (‵ table-own ∷ ‵ (flft κ₁ q₁) ∷ []) ∵ nothing ! $ owned ! N.the-row (Is N.the-row) (LL.makes N.the-type N′.the-plain 𝓤 H A) y _ is $ fjoin ! $ move ! (1 ∷ 0 ∷ []) $ fjoin ! $
       nothing ! $ move ! (2 ∷ 0 ∷ []) $ join ! $ join ! $ frame ! $ done !
 
-  module _ (C : Calls 𝓤 H) (Λ : Loops 𝓤 H) (fm : FmC 𝓤 H (W .laws) C) (known-load : Triple 𝓤 (C #lent·load) (Load 𝓤 H A at-mem run)) (known-callee : Triple 𝓤 (C #lent·fresh-table) (Callee 𝓤 H A at-mem run)) (known-save : Triple 𝓤 (C #lent·save) (Save 𝓤 H A at-mem run)) where
+  module _ (C : Calls 𝓤 H) (Λ : Loops 𝓤 H) (fm : FmC 𝓤 H (W .laws) C) (known-load : Triple 𝓤 (C #lent·load) (Load 𝓤 H A at-mem run)) (known-callee : Triple 𝓤 (C #snapshot·fresh-table) (Callee 𝓤 H A at-mem run)) (known-save : Triple 𝓤 (C #lent·save) (Save 𝓤 H A at-mem run)) where
     walk : ent 𝓤 (onEntry 𝓤 H A f.signature (κ₀, (κ₁, (κ₂, (κ₃, (κ₄, tt))))) (q₀, (q₁, (q₂, (q₃, (q₄, tt))))) a at) (WpFn 𝓤 H C Λ code.function (file-val ∷ table-val ∷ semaphore-val ∷ buffer-val ∷ shared-val ∷ []) Post)
     walk =
         qed W ((‵ (flft κ₀ q₀) ⊛ ‵ (flft κ₁ q₁) ⊛ ‵ (flft κ₂ q₂) ⊛ ‵ (flft κ₃ q₃) ⊛ ‵ (flft κ₄ q₄) ⊛ ‵ ftrue) ∷ ‵ (owns (ShrSlice (named 0) κ₀ u8 ∷ MutSlice (named 1) κ₁ R ∷ MutRef (named 2) κ₂ P.the-row ∷ MutSlice (named 3) κ₃ u8 ∷ MutSlice (named 4) κ₄ u8 ∷ []) a at) ∷ []) ∵ enter ! C Λ code.function (file-val ∷ table-val ∷ semaphore-val ∷ buffer-val ∷ shared-val ∷ []) _ $
@@ -247,7 +248,7 @@ module _ {M : Type 1} (𝓤 : URA M) (H : Heap 𝓤) (A : Atoms 𝓤) (W : Given
         keep ! (0 ∷ 6 ∷ 3 ∷ 1 ∷ 2 ∷ 5 ∷ 4 ∷ []) $ by ! (exits y (zs′ .0) (zs .1 .1 .1 .0) (zs .1 .1 .1 .1 .0) (fresh-written file table semaphore buffer shared r y (zs′ .0) (zs .1 .1 .1 .0) (zs .1 .1 .1 .1 .0) e₁ e₂ e₃) l-table l-buffer l-shared (refusal-fits y w is₂)))))))))))))))))))))))))))))))))))))))))
 
 module _ {M : Type 1} (𝓤 : URA M) (H : Heap 𝓤) (A : Atoms 𝓤) (W : Given 𝓤 H A) (at-mem : Memory → SProp 𝓤) (run : Routine → Fun 𝓤) where
-  walks : (C : Calls 𝓤 H) (Λ : Loops 𝓤 H) → FmC 𝓤 H (W .laws) C → Triple 𝓤 (C #lent·load) (Load 𝓤 H A at-mem run) → Triple 𝓤 (C #lent·fresh-table) (Callee 𝓤 H A at-mem run) → Triple 𝓤 (C #lent·save) (Save 𝓤 H A at-mem run)
+  walks : (C : Calls 𝓤 H) (Λ : Loops 𝓤 H) → FmC 𝓤 H (W .laws) C → Triple 𝓤 (C #lent·load) (Load 𝓤 H A at-mem run) → Triple 𝓤 (C #snapshot·fresh-table) (Callee 𝓤 H A at-mem run) → Triple 𝓤 (C #lent·save) (Save 𝓤 H A at-mem run)
       → Walks 𝓤 H A f.ended stayed (WpFn 𝓤 H C Λ code.function) (f.clauses 𝓤 H A at-mem run)
   walks C Λ fm k₁ k₂ k₃ = walked 𝓤 H A f.ended stayed (f.clauses 𝓤 H A at-mem run) (WpFn 𝓤 H C Λ code.function) (λ κs. (slice-vals, (slice-vals, (ptr-vals, (slice-vals, (slice-vals, tt))))))
       (λ κs. (shr-slice-tells (named 0) (κs .0) u8, (mut-slice-tells (named 1) (κs .1 .0) R, (mut-tells (named 2) (κs .1 .1 .0) P.the-row, (mut-slice-tells (named 3) (κs .1 .1 .1 .0) u8, (mut-slice-tells (named 4) (κs .1 .1 .1 .1 .0) u8, tt))))))
@@ -256,7 +257,7 @@ module _ {M : Type 1} (𝓤 : URA M) (H : Heap 𝓤) (A : Atoms 𝓤) (W : Given
   goes : AllGo 𝓤 H A W 5 (f.signature .params) (f.ended .kept) stayed
   goes = (goes-none-slice 𝓤 H A W 5 (0 ∷ []) tt (plain (λ _. u8)) yes, (goes-gave-slice 𝓤 H A W 5 1 tt (plain (λ _. R)), (goes-ref 𝓤 H A W 5 2 tt (plain (λ _. P.the-row)), (goes-gave-slice 𝓤 H A W 5 3 tt (plain (λ _. u8)), (goes-gave-slice 𝓤 H A W 5 4 tt (plain (λ _. u8)), tt)))))
 
-meets : {M : Type 1} (𝓤 : URA M) (H : Heap 𝓤) (A : Atoms 𝓤) → Given 𝓤 H A → (at-mem : Memory → SProp 𝓤) (run : Routine → Fun 𝓤) (𝓣 : Tables 𝓤 H) → Triple 𝓤 (𝓣 .C #lent·load) (Load 𝓤 H A at-mem run) → Triple 𝓤 (𝓣 .C #lent·fresh-table) (Callee 𝓤 H A at-mem run) → Triple 𝓤 (𝓣 .C #lent·save) (Save 𝓤 H A at-mem run)
+meets : {M : Type 1} (𝓤 : URA M) (H : Heap 𝓤) (A : Atoms 𝓤) → Given 𝓤 H A → (at-mem : Memory → SProp 𝓤) (run : Routine → Fun 𝓤) (𝓣 : Tables 𝓤 H) → Triple 𝓤 (𝓣 .C #lent·load) (Load 𝓤 H A at-mem run) → Triple 𝓤 (𝓣 .C #snapshot·fresh-table) (Callee 𝓤 H A at-mem run) → Triple 𝓤 (𝓣 .C #lent·save) (Save 𝓤 H A at-mem run)
     → Meets 𝓤 H A f.signature (WpFn 𝓤 H (𝓣 .C) (𝓣 .Λ) code.function) (f.spec 𝓤 H A at-mem run)
 meets 𝓤 H A W at-mem run 𝓣 k₁ k₂ k₃ = walk-meets 𝓤 H A f.ended stayed W (goes 𝓤 H A W at-mem run) (f.clauses 𝓤 H A at-mem run)
     (WpFn 𝓤 H (𝓣 .C) (𝓣 .Λ) code.function) (WpFn-mono 𝓤 H (W .laws) 𝓣 code.function) (walks 𝓤 H A W at-mem run (𝓣 .C) (𝓣 .Λ) (fmOf 𝓤 H (W .laws) 𝓣) k₁ k₂ k₃)
@@ -268,5 +269,5 @@ rikzord-fresh-spec 𝓤 H 𝓜 𝓖 𝓡 =
     (tables 𝓤 H 𝓜 𝓡 code.env .C) (tables 𝓤 H 𝓜 𝓡 code.env .Λ) #lent·rikzord-fresh code.function (code.unfolded 𝓤 H 𝓜 𝓡)
     (meets 𝓤 H (𝓖 .A) (givenOf 𝓤 H 𝓜 𝓖) (𝓜 .mem) (𝓡 .run) (tablesOf 𝓤 H 𝓜 (tables 𝓤 H 𝓜 𝓡 code.env))
     (cited 𝓤 H (Load 𝓤 H (𝓖 .A) (𝓜 .mem) (𝓡 .run)) 𝓜 𝓡 code.env #lent·load load-def.routine code.calls-lent·load (load-thm.met 𝓤 H 𝓜 𝓖 𝓡))
-    (cited 𝓤 H (Callee 𝓤 H (𝓖 .A) (𝓜 .mem) (𝓡 .run)) 𝓜 𝓡 code.env #lent·fresh-table fresh-table-def.routine code.calls-lent·fresh-table (fresh-table-thm.met 𝓤 H 𝓜 𝓖 𝓡))
+    (cited 𝓤 H (Callee 𝓤 H (𝓖 .A) (𝓜 .mem) (𝓡 .run)) 𝓜 𝓡 code.env #snapshot·fresh-table fresh-table-def.routine code.calls-snapshot·fresh-table (fresh-table-thm.met 𝓤 H 𝓜 𝓖 𝓡))
     (cited 𝓤 H (Save 𝓤 H (𝓖 .A) (𝓜 .mem) (𝓡 .run)) 𝓜 𝓡 code.env #lent·save save-def.routine code.calls-lent·save (save-thm.met 𝓤 H 𝓜 𝓖 𝓡)))

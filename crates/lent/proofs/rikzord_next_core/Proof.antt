@@ -42,32 +42,33 @@ use denote.Exit.{yes}
 use Rattle.semaphore.specs.declared.Semaphore.{Semaphore}
 use Rattle.semaphore.proofs.Semaphore as P
 use Rattle.semaphore.proofs.Semaphore.Laws as P′
-use Rattle.lent.specs.declared.Core.{Core}
-use Rattle.lent.specs.declared.Table.{Table}
-use Rattle.lent.specs.Lent.{loaded, ringOf, scanned, answered, ringAnswer, nextLent}
+use Rattle.snapshot.specs.declared.Core.{Core}
+use Rattle.snapshot.specs.declared.Table.{Table}
+use Rattle.snapshot.specs.Snapshot.{ringOf, answered, ringAnswer}
+use Rattle.lent.specs.Lent.{loaded, scanned, nextLent}
 use Rattle.lent.proofs.Lending.{R, mach-semaphore, Load, load-of}
 use Rattle.lent.proofs.Scanning.{next-lent}
-use Rattle.lent.proofs.Table as F
-use Rattle.lent.proofs.Table.Laws as F′
+use Rattle.snapshot.proofs.Table as F
+use Rattle.snapshot.proofs.Table.Laws as F′
 use Rattle.lent.proofs.load as load′
 use Rattle.lent.proofs.load.Symbol as load-def
 use Rattle.lent.proofs.load.Symbol.{name as #lent·load}
 use Rattle.lent.proofs.load.Met as load-thm
-use Rattle.lent.specs.declared.Ring.{Ring}
-use Rattle.lent.proofs.Ring as Q
-use Rattle.lent.proofs.Ring.Laws as Q′
-use Rattle.lent.proofs.ring_of as ring-of
-use Rattle.lent.proofs.ring_of.Symbol as ring-of-def
-use Rattle.lent.proofs.ring_of.Symbol.{name as #lent·ring-of}
-use Rattle.lent.proofs.ring_of.Met as ring-of-thm
+use Rattle.snapshot.specs.declared.Ring.{Ring}
+use Rattle.snapshot.proofs.Ring as Q
+use Rattle.snapshot.proofs.Ring.Laws as Q′
+use Rattle.snapshot.proofs.ring_of as ring-of
+use Rattle.snapshot.proofs.ring_of.Symbol as ring-of-def
+use Rattle.snapshot.proofs.ring_of.Symbol.{name as #snapshot·ring-of}
+use Rattle.snapshot.proofs.ring_of.Met as ring-of-thm
 use Rattle.lent.proofs.scan as scan
 use Rattle.lent.proofs.scan.Symbol as scan-def
 use Rattle.lent.proofs.scan.Symbol.{name as #lent·scan}
 use Rattle.lent.proofs.scan.Met as scan-thm
-use Rattle.lent.proofs.found_in as found-in
-use Rattle.lent.proofs.found_in.Symbol as found-in-def
-use Rattle.lent.proofs.found_in.Symbol.{name as #lent·found-in}
-use Rattle.lent.proofs.found_in.Met as found-in-thm
+use Rattle.snapshot.proofs.found_in as found-in
+use Rattle.snapshot.proofs.found_in.Symbol as found-in-def
+use Rattle.snapshot.proofs.found_in.Symbol.{name as #snapshot·found-in}
+use Rattle.snapshot.proofs.found_in.Met as found-in-thm
 use Rattle.lent.proofs.rikzord_next_core.Key.{name as #lent·rikzord-next-core}
 use Rattle.lent.proofs.rikzord_next_core as f
 use Rattle.lent.proofs.rikzord_next_core.Statement as stated
@@ -203,7 +204,7 @@ module _ {M : Type 1} (𝓤 : URA M) (H : Heap 𝓤) (A : Atoms 𝓤) (W : Given
   abbrev Says : Ring → ℕ → ℕ → ℕ → Type 0
   Says r k n found′ = answered n found′ ≡ ringAnswer r k found
 
-  module _ (C : Calls 𝓤 H) (Λ : Loops 𝓤 H) (fm : FmC 𝓤 H (W .laws) C) (known-load : Triple 𝓤 (C #lent·load) (Load 𝓤 H A at-mem run)) (known-ring : Triple 𝓤 (C #lent·ring-of) (RingOf 𝓤 H A at-mem run)) (known-scan : Triple 𝓤 (C #lent·scan) (Scan 𝓤 H A at-mem run)) (known-found : Triple 𝓤 (C #lent·found-in) (FoundIn 𝓤 H A at-mem run)) where
+  module _ (C : Calls 𝓤 H) (Λ : Loops 𝓤 H) (fm : FmC 𝓤 H (W .laws) C) (known-load : Triple 𝓤 (C #lent·load) (Load 𝓤 H A at-mem run)) (known-ring : Triple 𝓤 (C #snapshot·ring-of) (RingOf 𝓤 H A at-mem run)) (known-scan : Triple 𝓤 (C #lent·scan) (Scan 𝓤 H A at-mem run)) (known-found : Triple 𝓤 (C #snapshot·found-in) (FoundIn 𝓤 H A at-mem run)) where
     walk : ent 𝓤 (onEntry 𝓤 H A f.signature (κ₀, (κ₁, (κ₂, (κ₃, (κ₄, tt))))) (q₀, (q₁, (q₂, (q₃, (q₄, tt))))) a at) (WpFn 𝓤 H C Λ code.function (file-val ∷ trace-val ∷ table-val ∷ semaphore-val ∷ vint w8 given ∷ found-val ∷ []) Post)
     walk =
         qed W ((‵ (flft κ₀ q₀) ⊛ ‵ (flft κ₁ q₁) ⊛ ‵ (flft κ₂ q₂) ⊛ ‵ (flft κ₃ q₃) ⊛ ‵ (flft κ₄ q₄) ⊛ ‵ ftrue) ∷ ‵ (owns (ShrSlice (named 0) κ₀ u8 ∷ ShrSlice (named 1) κ₁ u8 ∷ ShrSlice (named 2) κ₂ R ∷ ShrRef (named 3) κ₃ P.the-row ∷ u8 ∷ MutRef (named 4) κ₄ u8 ∷ []) a at) ∷ []) ∵ enter ! C Λ code.function (file-val ∷ trace-val ∷ table-val ∷ semaphore-val ∷ vint w8 given ∷ found-val ∷ []) _ $
@@ -265,7 +266,7 @@ module _ {M : Type 1} (𝓤 : URA M) (H : Heap 𝓤) (A : Atoms 𝓤) (W : Given
         keep ! (0 ∷ 5 ∷ 4 ∷ 3 ∷ 7 ∷ 6 ∷ 2 ∷ 1 ∷ []) $ by ! (exits n w (zs .1 .1 .0) (next-lent file trace table semaphore given found t r k n (zs .1 .1 .0) e₁ e₂ e₃ e₄)))))))))))))))))))))))))))))))))
 
 module _ {M : Type 1} (𝓤 : URA M) (H : Heap 𝓤) (A : Atoms 𝓤) (W : Given 𝓤 H A) (at-mem : Memory → SProp 𝓤) (run : Routine → Fun 𝓤) where
-  walks : (C : Calls 𝓤 H) (Λ : Loops 𝓤 H) → FmC 𝓤 H (W .laws) C → Triple 𝓤 (C #lent·load) (Load 𝓤 H A at-mem run) → Triple 𝓤 (C #lent·ring-of) (RingOf 𝓤 H A at-mem run) → Triple 𝓤 (C #lent·scan) (Scan 𝓤 H A at-mem run) → Triple 𝓤 (C #lent·found-in) (FoundIn 𝓤 H A at-mem run) → Walks 𝓤 H A f.ended stayed (WpFn 𝓤 H C Λ code.function) (f.clauses 𝓤 H A at-mem run)
+  walks : (C : Calls 𝓤 H) (Λ : Loops 𝓤 H) → FmC 𝓤 H (W .laws) C → Triple 𝓤 (C #lent·load) (Load 𝓤 H A at-mem run) → Triple 𝓤 (C #snapshot·ring-of) (RingOf 𝓤 H A at-mem run) → Triple 𝓤 (C #lent·scan) (Scan 𝓤 H A at-mem run) → Triple 𝓤 (C #snapshot·found-in) (FoundIn 𝓤 H A at-mem run) → Walks 𝓤 H A f.ended stayed (WpFn 𝓤 H C Λ code.function) (f.clauses 𝓤 H A at-mem run)
   walks C Λ fm k₁ k₂ k₃ k₄ = walked 𝓤 H A f.ended stayed (f.clauses 𝓤 H A at-mem run) (WpFn 𝓤 H C Λ code.function) (λ κs. (slice-vals, (slice-vals, (slice-vals, (ptr-vals, (uint-vals w8, (ptr-vals, tt)))))))
       (λ κs. (shr-slice-tells (named 0) (κs .0) u8, (shr-slice-tells (named 1) (κs .1 .0) u8, (shr-slice-tells (named 2) (κs .1 .1 .0) R, (shr-tells (named 3) (κs .1 .1 .1 .0) P.the-row, (uint-tells w8, (mut-tells (named 4) (κs .1 .1 .1 .1 .0) u8, tt)))))))
       (λ κs qs bounds a g are. via 𝓤 _ (fst∗ 𝓤 _ (emp 𝓤)) (walk 𝓤 H A W at-mem run (κs .0) (κs .1 .0) (κs .1 .1 .0) (κs .1 .1 .1 .0) (κs .1 .1 .1 .1 .0) (qs .0) (qs .1 .0) (qs .1 .1 .0) (qs .1 .1 .1 .0) (qs .1 .1 .1 .1 .0) (a .0 .ptr .0) (a .0 .ptr .1) (a .0 .name) (a .0 .now) (a .1 .0 .ptr .0) (a .1 .0 .ptr .1) (a .1 .0 .name) (a .1 .0 .now) (a .1 .1 .0 .ptr .0) (a .1 .1 .0 .ptr .1) (a .1 .1 .0 .name) (a .1 .1 .0 .now) (a .1 .1 .1 .0 .ptr .0) (a .1 .1 .1 .0 .ptr .1) (a .1 .1 .1 .0 .name) (a .1 .1 .1 .0 .now) (a .1 .1 .1 .1 .0) (a .1 .1 .1 .1 .1 .0 .ptr .0) (a .1 .1 .1 .1 .1 .0 .ptr .1) (a .1 .1 .1 .1 .1 .0 .name) (a .1 .1 .1 .1 .1 .0 .now) (are .0 .0 .1) (are .1 .0 .0 .1) (are .1 .1 .0 .0 .1) (are .1 .1 .1 .1 .0 .1) C Λ fm k₁ k₂ k₃ k₄))
@@ -273,7 +274,7 @@ module _ {M : Type 1} (𝓤 : URA M) (H : Heap 𝓤) (A : Atoms 𝓤) (W : Given
   goes : AllGo 𝓤 H A W 5 (f.signature .params) (f.ended .kept) stayed
   goes = (goes-none-slice 𝓤 H A W 5 (0 ∷ []) tt (plain (λ _. u8)) yes, (goes-none-slice 𝓤 H A W 5 (1 ∷ []) tt (plain (λ _. u8)) yes, (goes-none-slice 𝓤 H A W 5 (2 ∷ []) tt (plain (λ _. R)) yes, (goes-none-ref 𝓤 H A W 5 (3 ∷ []) tt (plain (λ _. P.the-row)) yes, (goes-none 𝓤 H A W 5 (λ _. u8) yes (λ κs x f. refl), (goes-gave-ref 𝓤 H A W 5 4 tt (plain (λ _. u8)), tt))))))
 
-meets : {M : Type 1} (𝓤 : URA M) (H : Heap 𝓤) (A : Atoms 𝓤) → Given 𝓤 H A → (at-mem : Memory → SProp 𝓤) (run : Routine → Fun 𝓤) (𝓣 : Tables 𝓤 H) → Triple 𝓤 (𝓣 .C #lent·load) (Load 𝓤 H A at-mem run) → Triple 𝓤 (𝓣 .C #lent·ring-of) (RingOf 𝓤 H A at-mem run) → Triple 𝓤 (𝓣 .C #lent·scan) (Scan 𝓤 H A at-mem run) → Triple 𝓤 (𝓣 .C #lent·found-in) (FoundIn 𝓤 H A at-mem run)
+meets : {M : Type 1} (𝓤 : URA M) (H : Heap 𝓤) (A : Atoms 𝓤) → Given 𝓤 H A → (at-mem : Memory → SProp 𝓤) (run : Routine → Fun 𝓤) (𝓣 : Tables 𝓤 H) → Triple 𝓤 (𝓣 .C #lent·load) (Load 𝓤 H A at-mem run) → Triple 𝓤 (𝓣 .C #snapshot·ring-of) (RingOf 𝓤 H A at-mem run) → Triple 𝓤 (𝓣 .C #lent·scan) (Scan 𝓤 H A at-mem run) → Triple 𝓤 (𝓣 .C #snapshot·found-in) (FoundIn 𝓤 H A at-mem run)
     → Meets 𝓤 H A f.signature (WpFn 𝓤 H (𝓣 .C) (𝓣 .Λ) code.function) (f.spec 𝓤 H A at-mem run)
 meets 𝓤 H A W at-mem run 𝓣 k₁ k₂ k₃ k₄ = walk-meets 𝓤 H A f.ended stayed W (goes 𝓤 H A W at-mem run) (f.clauses 𝓤 H A at-mem run)
     (WpFn 𝓤 H (𝓣 .C) (𝓣 .Λ) code.function) (WpFn-mono 𝓤 H (W .laws) 𝓣 code.function) (walks 𝓤 H A W at-mem run (𝓣 .C) (𝓣 .Λ) (fmOf 𝓤 H (W .laws) 𝓣) k₁ k₂ k₃ k₄)
@@ -285,6 +286,6 @@ rikzord-next-core-spec 𝓤 H 𝓜 𝓖 𝓡 =
     (tables 𝓤 H 𝓜 𝓡 code.env .C) (tables 𝓤 H 𝓜 𝓡 code.env .Λ) #lent·rikzord-next-core code.function (code.unfolded 𝓤 H 𝓜 𝓡)
     (meets 𝓤 H (𝓖 .A) (givenOf 𝓤 H 𝓜 𝓖) (𝓜 .mem) (𝓡 .run) (tablesOf 𝓤 H 𝓜 (tables 𝓤 H 𝓜 𝓡 code.env))
     (cited 𝓤 H (Load 𝓤 H (𝓖 .A) (𝓜 .mem) (𝓡 .run)) 𝓜 𝓡 code.env #lent·load load-def.routine code.calls-lent·load (load-thm.met 𝓤 H 𝓜 𝓖 𝓡))
-    (cited 𝓤 H (RingOf 𝓤 H (𝓖 .A) (𝓜 .mem) (𝓡 .run)) 𝓜 𝓡 code.env #lent·ring-of ring-of-def.routine code.calls-lent·ring-of (ring-of-thm.met 𝓤 H 𝓜 𝓖 𝓡))
+    (cited 𝓤 H (RingOf 𝓤 H (𝓖 .A) (𝓜 .mem) (𝓡 .run)) 𝓜 𝓡 code.env #snapshot·ring-of ring-of-def.routine code.calls-snapshot·ring-of (ring-of-thm.met 𝓤 H 𝓜 𝓖 𝓡))
     (cited 𝓤 H (Scan 𝓤 H (𝓖 .A) (𝓜 .mem) (𝓡 .run)) 𝓜 𝓡 code.env #lent·scan scan-def.routine code.calls-lent·scan (scan-thm.met 𝓤 H 𝓜 𝓖 𝓡))
-    (cited 𝓤 H (FoundIn 𝓤 H (𝓖 .A) (𝓜 .mem) (𝓡 .run)) 𝓜 𝓡 code.env #lent·found-in found-in-def.routine code.calls-lent·found-in (found-in-thm.met 𝓤 H 𝓜 𝓖 𝓡)))
+    (cited 𝓤 H (FoundIn 𝓤 H (𝓖 .A) (𝓜 .mem) (𝓡 .run)) 𝓜 𝓡 code.env #snapshot·found-in found-in-def.routine code.calls-snapshot·found-in (found-in-thm.met 𝓤 H 𝓜 𝓖 𝓡)))

@@ -46,25 +46,26 @@ use denote.Exit.{yes}
 use Rattle.semaphore.specs.declared.Semaphore.{Semaphore}
 use Rattle.semaphore.proofs.Semaphore as P
 use Rattle.semaphore.proofs.Semaphore.Laws as P′
-use Rattle.lent.specs.declared.Core.{Core}
-use Rattle.lent.specs.declared.Table.{Table}
-use Rattle.lent.specs.declared.After.{After}
-use Rattle.lent.proofs.Table as F
-use Rattle.lent.proofs.Table.Laws as F′
-use Rattle.lent.proofs.After as N
-use Rattle.lent.proofs.After.Laws as N′
+use Rattle.snapshot.specs.declared.Core.{Core}
+use Rattle.snapshot.specs.declared.Table.{Table}
+use Rattle.snapshot.specs.declared.After.{After}
+use Rattle.snapshot.proofs.Table as F
+use Rattle.snapshot.proofs.Table.Laws as F′
+use Rattle.snapshot.proofs.After as N
+use Rattle.snapshot.proofs.After.Laws as N′
 use Rattle.lent.proofs.Shared.{LentShared, lends-shared, shared-back}
-use Rattle.lent.specs.Lent.{loaded, tableLeft, saved, lent, runTable, runLent, takenTable, takenLent}
+use Rattle.snapshot.specs.Snapshot.{tableLeft, runTable, takenTable}
+use Rattle.lent.specs.Lent.{loaded, saved, lent, runLent, takenLent}
 use Rattle.lent.proofs.Lending.{R, mach-after, mach-semaphore, Load, Save, load-of, after-is, refusal-fits, semaphore-is}
 use Rattle.lent.proofs.Laws.{run-written, taken-written}
 use Rattle.lent.proofs.load as load′
 use Rattle.lent.proofs.load.Symbol as load-def
 use Rattle.lent.proofs.load.Symbol.{name as #lent·load}
 use Rattle.lent.proofs.load.Met as load-thm
-use Rattle.lent.proofs.run_table as run-table
-use Rattle.lent.proofs.run_table.Symbol as run-table-def
-use Rattle.lent.proofs.run_table.Symbol.{name as #lent·run-table}
-use Rattle.lent.proofs.run_table.Met as run-table-thm
+use Rattle.snapshot.proofs.run_table as run-table
+use Rattle.snapshot.proofs.run_table.Symbol as run-table-def
+use Rattle.snapshot.proofs.run_table.Symbol.{name as #snapshot·run-table}
+use Rattle.snapshot.proofs.run_table.Met as run-table-thm
 use Rattle.lent.proofs.save as save
 use Rattle.lent.proofs.save.Symbol as save-def
 use Rattle.lent.proofs.save.Symbol.{name as #lent·save}
@@ -214,7 +215,7 @@ module _ {M : Type 1} (𝓤 : URA M) (H : Heap 𝓤) (A : Atoms 𝓤) (W : Given
       qed W (‵ table-own ∷ ‵ (flft κ₂ q₂) ∷ []) ∵ nothing ! $ owned ! N.the-row (Is N.the-row) (LL.makes N.the-type N′.the-plain 𝓤 H A) y _ is $ fjoin ! $ move ! (1 ∷ 0 ∷ []) $ fjoin ! $
       nothing ! $ move ! (2 ∷ 0 ∷ []) $ join ! $ join ! $ frame ! $ done !
 
-  module _ (C : Calls 𝓤 H) (Λ : Loops 𝓤 H) (fm : FmC 𝓤 H (W .laws) C) (known-load : Triple 𝓤 (C #lent·load) (Load 𝓤 H A at-mem run)) (known-callee : Triple 𝓤 (C #lent·run-table) (Callee 𝓤 H A at-mem run)) (known-save : Triple 𝓤 (C #lent·save) (Save 𝓤 H A at-mem run)) where
+  module _ (C : Calls 𝓤 H) (Λ : Loops 𝓤 H) (fm : FmC 𝓤 H (W .laws) C) (known-load : Triple 𝓤 (C #lent·load) (Load 𝓤 H A at-mem run)) (known-callee : Triple 𝓤 (C #snapshot·run-table) (Callee 𝓤 H A at-mem run)) (known-save : Triple 𝓤 (C #lent·save) (Save 𝓤 H A at-mem run)) where
     walk : ent 𝓤 (onEntry 𝓤 H A f.signature (κ₀, (κ₁, (κ₂, (κ₃, (κ₄, (κ₅, (κ₆, (κ₇, (κ₈, tt))))))))) (q₀, (q₁, (q₂, (q₃, (q₄, (q₅, (q₆, (q₇, (q₈, tt))))))))) a at) (WpFn 𝓤 H C Λ code.function (file-val ∷ trace-val ∷ table-val ∷ semaphore-val ∷ buffer-val ∷ shared-val ∷ order-val ∷ list-val ∷ taken-val ∷ []) Post)
     walk =
         qed W ((‵ (flft κ₀ q₀) ⊛ ‵ (flft κ₁ q₁) ⊛ ‵ (flft κ₂ q₂) ⊛ ‵ (flft κ₃ q₃) ⊛ ‵ (flft κ₄ q₄) ⊛ ‵ (flft κ₅ q₅) ⊛ ‵ (flft κ₆ q₆) ⊛ ‵ (flft κ₇ q₇) ⊛ ‵ (flft κ₈ q₈) ⊛ ‵ ftrue) ∷ ‵ (owns (ShrSlice (named 0) κ₀ u8 ∷ ShrSlice (named 1) κ₁ u8 ∷ MutSlice (named 2) κ₂ R ∷ MutRef (named 3) κ₃ P.the-row ∷ MutSlice (named 4) κ₄ u8 ∷ MutSlice (named 5) κ₅ u8 ∷ ShrSlice (named 6) κ₆ u8 ∷ MutSlice (named 7) κ₇ u8 ∷ MutRef (named 8) κ₈ usize ∷ []) a at) ∷ []) ∵ enter ! C Λ code.function (file-val ∷ trace-val ∷ table-val ∷ semaphore-val ∷ buffer-val ∷ shared-val ∷ order-val ∷ list-val ∷ taken-val ∷ []) _ $
@@ -282,7 +283,7 @@ module _ {M : Type 1} (𝓤 : URA M) (H : Heap 𝓤) (A : Atoms 𝓤) (W : Given
         keep ! (0 ∷ 10 ∷ 9 ∷ 3 ∷ 1 ∷ 2 ∷ 7 ∷ 6 ∷ 8 ∷ 5 ∷ 4 ∷ []) $ by ! (exits y (zs′ .0) (zs .1 .1 .1 .1 .0) (zs .1 .1 .1 .1 .1 .0) (zs .1 .1 .1 .1 .1 .1 .1 .0) (zs .1 .1 .1 .1 .1 .1 .1 .1 .0) (run-written file trace table semaphore buffer shared order list r y (zs′ .0) (zs .1 .1 .1 .1 .0) (zs .1 .1 .1 .1 .1 .0) (zs .1 .1 .1 .1 .1 .1 .1 .0) e₁ (e₂ .0) e₃, taken-written file trace table semaphore buffer shared order list taken (zs .1 .1 .1 .1 .1 .1 .1 .1 .0) r e₁ (e₂ .1)) l-table l-buffer l-shared l-list (refusal-fits y w is₂)))))))))))))))))))))))))))))))))))))))))))))))))
 
 module _ {M : Type 1} (𝓤 : URA M) (H : Heap 𝓤) (A : Atoms 𝓤) (W : Given 𝓤 H A) (at-mem : Memory → SProp 𝓤) (run : Routine → Fun 𝓤) where
-  walks : (C : Calls 𝓤 H) (Λ : Loops 𝓤 H) → FmC 𝓤 H (W .laws) C → Triple 𝓤 (C #lent·load) (Load 𝓤 H A at-mem run) → Triple 𝓤 (C #lent·run-table) (Callee 𝓤 H A at-mem run) → Triple 𝓤 (C #lent·save) (Save 𝓤 H A at-mem run)
+  walks : (C : Calls 𝓤 H) (Λ : Loops 𝓤 H) → FmC 𝓤 H (W .laws) C → Triple 𝓤 (C #lent·load) (Load 𝓤 H A at-mem run) → Triple 𝓤 (C #snapshot·run-table) (Callee 𝓤 H A at-mem run) → Triple 𝓤 (C #lent·save) (Save 𝓤 H A at-mem run)
       → Walks 𝓤 H A f.ended stayed (WpFn 𝓤 H C Λ code.function) (f.clauses 𝓤 H A at-mem run)
   walks C Λ fm k₁ k₂ k₃ = walked 𝓤 H A f.ended stayed (f.clauses 𝓤 H A at-mem run) (WpFn 𝓤 H C Λ code.function) (λ κs. (slice-vals, (slice-vals, (slice-vals, (ptr-vals, (slice-vals, (slice-vals, (slice-vals, (slice-vals, (ptr-vals, tt))))))))))
       (λ κs. (shr-slice-tells (named 0) (κs .0) u8, (shr-slice-tells (named 1) (κs .1 .0) u8, (mut-slice-tells (named 2) (κs .1 .1 .0) R, (mut-tells (named 3) (κs .1 .1 .1 .0) P.the-row, (mut-slice-tells (named 4) (κs .1 .1 .1 .1 .0) u8, (mut-slice-tells (named 5) (κs .1 .1 .1 .1 .1 .0) u8, (shr-slice-tells (named 6) (κs .1 .1 .1 .1 .1 .1 .0) u8, (mut-slice-tells (named 7) (κs .1 .1 .1 .1 .1 .1 .1 .0) u8, (mut-tells (named 8) (κs .1 .1 .1 .1 .1 .1 .1 .1 .0) usize, tt))))))))))
@@ -291,7 +292,7 @@ module _ {M : Type 1} (𝓤 : URA M) (H : Heap 𝓤) (A : Atoms 𝓤) (W : Given
   goes : AllGo 𝓤 H A W 9 (f.signature .params) (f.ended .kept) stayed
   goes = (goes-none-slice 𝓤 H A W 9 (0 ∷ []) tt (plain (λ _. u8)) yes, (goes-none-slice 𝓤 H A W 9 (1 ∷ []) tt (plain (λ _. u8)) yes, (goes-gave-slice 𝓤 H A W 9 2 tt (plain (λ _. R)), (goes-ref 𝓤 H A W 9 3 tt (plain (λ _. P.the-row)), (goes-gave-slice 𝓤 H A W 9 4 tt (plain (λ _. u8)), (goes-gave-slice 𝓤 H A W 9 5 tt (plain (λ _. u8)), (goes-none-slice 𝓤 H A W 9 (6 ∷ []) tt (plain (λ _. u8)) yes, (goes-gave-slice 𝓤 H A W 9 7 tt (plain (λ _. u8)), (goes-gave-ref 𝓤 H A W 9 8 tt (plain (λ _. usize)), tt)))))))))
 
-meets : {M : Type 1} (𝓤 : URA M) (H : Heap 𝓤) (A : Atoms 𝓤) → Given 𝓤 H A → (at-mem : Memory → SProp 𝓤) (run : Routine → Fun 𝓤) (𝓣 : Tables 𝓤 H) → Triple 𝓤 (𝓣 .C #lent·load) (Load 𝓤 H A at-mem run) → Triple 𝓤 (𝓣 .C #lent·run-table) (Callee 𝓤 H A at-mem run) → Triple 𝓤 (𝓣 .C #lent·save) (Save 𝓤 H A at-mem run)
+meets : {M : Type 1} (𝓤 : URA M) (H : Heap 𝓤) (A : Atoms 𝓤) → Given 𝓤 H A → (at-mem : Memory → SProp 𝓤) (run : Routine → Fun 𝓤) (𝓣 : Tables 𝓤 H) → Triple 𝓤 (𝓣 .C #lent·load) (Load 𝓤 H A at-mem run) → Triple 𝓤 (𝓣 .C #snapshot·run-table) (Callee 𝓤 H A at-mem run) → Triple 𝓤 (𝓣 .C #lent·save) (Save 𝓤 H A at-mem run)
     → Meets 𝓤 H A f.signature (WpFn 𝓤 H (𝓣 .C) (𝓣 .Λ) code.function) (f.spec 𝓤 H A at-mem run)
 meets 𝓤 H A W at-mem run 𝓣 k₁ k₂ k₃ = walk-meets 𝓤 H A f.ended stayed W (goes 𝓤 H A W at-mem run) (f.clauses 𝓤 H A at-mem run)
     (WpFn 𝓤 H (𝓣 .C) (𝓣 .Λ) code.function) (WpFn-mono 𝓤 H (W .laws) 𝓣 code.function) (walks 𝓤 H A W at-mem run (𝓣 .C) (𝓣 .Λ) (fmOf 𝓤 H (W .laws) 𝓣) k₁ k₂ k₃)
@@ -303,5 +304,5 @@ rikzord-run-spec 𝓤 H 𝓜 𝓖 𝓡 =
     (tables 𝓤 H 𝓜 𝓡 code.env .C) (tables 𝓤 H 𝓜 𝓡 code.env .Λ) #lent·rikzord-run code.function (code.unfolded 𝓤 H 𝓜 𝓡)
     (meets 𝓤 H (𝓖 .A) (givenOf 𝓤 H 𝓜 𝓖) (𝓜 .mem) (𝓡 .run) (tablesOf 𝓤 H 𝓜 (tables 𝓤 H 𝓜 𝓡 code.env))
     (cited 𝓤 H (Load 𝓤 H (𝓖 .A) (𝓜 .mem) (𝓡 .run)) 𝓜 𝓡 code.env #lent·load load-def.routine code.calls-lent·load (load-thm.met 𝓤 H 𝓜 𝓖 𝓡))
-    (cited 𝓤 H (Callee 𝓤 H (𝓖 .A) (𝓜 .mem) (𝓡 .run)) 𝓜 𝓡 code.env #lent·run-table run-table-def.routine code.calls-lent·run-table (run-table-thm.met 𝓤 H 𝓜 𝓖 𝓡))
+    (cited 𝓤 H (Callee 𝓤 H (𝓖 .A) (𝓜 .mem) (𝓡 .run)) 𝓜 𝓡 code.env #snapshot·run-table run-table-def.routine code.calls-snapshot·run-table (run-table-thm.met 𝓤 H 𝓜 𝓖 𝓡))
     (cited 𝓤 H (Save 𝓤 H (𝓖 .A) (𝓜 .mem) (𝓡 .run)) 𝓜 𝓡 code.env #lent·save save-def.routine code.calls-lent·save (save-thm.met 𝓤 H 𝓜 𝓖 𝓡)))

@@ -43,13 +43,13 @@ use denote.Triple.Table.{entered, cited}
 use denote.Triple.Walked.{says, Stays, stay-slice, stay-none, walkOf, goes-slice, goes-none, Walks, ends-at, walked, walk-meets}
 use denote.Exit.{yes}
 use Rattle.verdict.proofs.Verdict.{pick-true, pick-false}
-use Rattle.lent.specs.declared.Core.{Core}
-use Rattle.lent.specs.declared.After.{After}
+use Rattle.snapshot.specs.declared.Core.{Core}
+use Rattle.snapshot.specs.declared.After.{After}
 use Rattle.lent.specs.Lent.{saved}
-use Rattle.lent.proofs.Core as T
-use Rattle.lent.proofs.Core.Laws as T′
-use Rattle.lent.proofs.After as N
-use Rattle.lent.proofs.After.Laws as N′
+use Rattle.snapshot.proofs.Core as T
+use Rattle.snapshot.proofs.Core.Laws as T′
+use Rattle.snapshot.proofs.After as N
+use Rattle.snapshot.proofs.After.Laws as N′
 use Rattle.lent.proofs.Outcomes.{fails, passes}
 use Rattle.lent.proofs.Again.{LentAgain, lends-again, comes-back}
 use Rattle.lent.proofs.put_or as put-or

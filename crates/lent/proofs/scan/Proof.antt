@@ -45,30 +45,31 @@ use denote.Triple.Spec.{Meets, tripleOf}
 use denote.Triple.Table.{entered, cited}
 use denote.Triple.Walked.{says, Stays, stay-none-slice, stay-none, walkOf, goes-none-slice, goes-none, Walks, ends-at, walked, walk-meets}
 use denote.Exit.{yes}
-use Rattle.lent.specs.Lent.{noCore, placeAfter, recordMoves, scanned}
-use Rattle.lent.specs.declared.Core.{Core}
-use Rattle.lent.specs.declared.Ring.{Ring}
-use Rattle.lent.proofs.Core as T
-use Rattle.lent.proofs.Core.Laws as T′
-use Rattle.lent.proofs.Ring as Q
-use Rattle.lent.proofs.Ring.Laws as Q′
+use Rattle.snapshot.specs.Snapshot.{noCore, placeAfter, recordMoves}
+use Rattle.lent.specs.Lent.{scanned}
+use Rattle.snapshot.specs.declared.Core.{Core}
+use Rattle.snapshot.specs.declared.Ring.{Ring}
+use Rattle.snapshot.proofs.Core as T
+use Rattle.snapshot.proofs.Core.Laws as T′
+use Rattle.snapshot.proofs.Ring as Q
+use Rattle.snapshot.proofs.Ring.Laws as Q′
 use Rattle.lent.proofs.Outcomes.{holds, fails}
 use Rattle.lent.proofs.Asking.{R, GetOr, NoCore, typed, from-none, begins, asks}
 use Rattle.lent.proofs.Scanning.{Turn, toGo, turn-first, turn-found, turn-next, turn-less, turn-last}
 use Rattle.lent.proofs.get_or.Symbol as get-or-def
 use Rattle.lent.proofs.get_or.Symbol.{name as #lent·get-or}
 use Rattle.lent.proofs.get_or.Met as get-or-thm
-use Rattle.lent.proofs.no_core.Symbol as no-core-def
-use Rattle.lent.proofs.no_core.Symbol.{name as #lent·no-core}
-use Rattle.lent.proofs.no_core.Met as no-core-thm
-use Rattle.lent.proofs.place_after as place-after
-use Rattle.lent.proofs.place_after.Symbol as place-after-def
-use Rattle.lent.proofs.place_after.Symbol.{name as #lent·place-after}
-use Rattle.lent.proofs.place_after.Met as place-after-thm
-use Rattle.lent.proofs.moves as moves
-use Rattle.lent.proofs.moves.Symbol as moves-def
-use Rattle.lent.proofs.moves.Symbol.{name as #lent·moves}
-use Rattle.lent.proofs.moves.Met as moves-thm
+use Rattle.snapshot.proofs.no_core.Symbol as no-core-def
+use Rattle.snapshot.proofs.no_core.Symbol.{name as #snapshot·no-core}
+use Rattle.snapshot.proofs.no_core.Met as no-core-thm
+use Rattle.snapshot.proofs.place_after as place-after
+use Rattle.snapshot.proofs.place_after.Symbol as place-after-def
+use Rattle.snapshot.proofs.place_after.Symbol.{name as #snapshot·place-after}
+use Rattle.snapshot.proofs.place_after.Met as place-after-thm
+use Rattle.snapshot.proofs.moves as moves
+use Rattle.snapshot.proofs.moves.Symbol as moves-def
+use Rattle.snapshot.proofs.moves.Symbol.{name as #snapshot·moves}
+use Rattle.snapshot.proofs.moves.Met as moves-thm
 use Rattle.lent.proofs.scan.Key.{name as #lent·scan}
 use Rattle.lent.proofs.scan as f
 use Rattle.lent.proofs.scan.Statement as stated
@@ -159,7 +160,7 @@ module _ {M : Type 1} (𝓤 : URA M) (H : Heap 𝓤) (A : Atoms 𝓤) (W : Given
   sooner-ends : WellFounded sooner
   sooner-ends = record { apply = λ t. InvImage·accessible (λ (x : Turn ys r). toGo x) (Nat·lt-wfRel .wf .apply (toGo t)) }
 
-  module _ (𝓣 : Tables 𝓤 H) (fm : FmC 𝓤 H (W .laws) (𝓣 .C)) (known-get : Triple 𝓤 (𝓣 .C #lent·get-or) (GetOr 𝓤 H A at-mem run)) (known-none : Triple 𝓤 (𝓣 .C #lent·no-core) (NoCore 𝓤 H A at-mem run)) (known-place : Triple 𝓤 (𝓣 .C #lent·place-after) (PlaceAfter 𝓤 H A at-mem run)) (known-moves : Triple 𝓤 (𝓣 .C #lent·moves) (Moves 𝓤 H A at-mem run)) where
+  module _ (𝓣 : Tables 𝓤 H) (fm : FmC 𝓤 H (W .laws) (𝓣 .C)) (known-get : Triple 𝓤 (𝓣 .C #lent·get-or) (GetOr 𝓤 H A at-mem run)) (known-none : Triple 𝓤 (𝓣 .C #snapshot·no-core) (NoCore 𝓤 H A at-mem run)) (known-place : Triple 𝓤 (𝓣 .C #snapshot·place-after) (PlaceAfter 𝓤 H A at-mem run)) (known-moves : Triple 𝓤 (𝓣 .C #snapshot·moves) (Moves 𝓤 H A at-mem run)) where
     -- the locals
     abbrev E : ℕ → ℕ → ℕ → ℕ → ℕ → ℕ → ℕ → ℕ → ℕ → ℕ → Env 𝓤 H
     E l₀ l₁ l₂ l₃ l₄ l₅ l₆ l₇ l₈ l₉ = (τ 0, l₀) ∷ (τ 1, l₁) ∷ (τ 2, l₂) ∷ (τ 3, l₃) ∷ (τ 4, l₄) ∷ (τ 5, l₅) ∷ (τ 6, l₆) ∷ (τ 7, l₇) ∷ (τ 8, l₈) ∷ (τ 9, l₉) ∷ []
@@ -253,12 +254,12 @@ module _ {M : Type 1} (𝓤 : URA M) (H : Heap 𝓤) (A : Atoms 𝓤) (W : Given
         keep ! (0 ∷ 1 ∷ 2 ∷ 3 ∷ 4 ∷ 5 ∷ 6 ∷ 7 ∷ 8 ∷ 9 ∷ 10 ∷ 11 ∷ 12 ∷ 13 ∷ 14 ∷ 15 ∷ 16 ∷ 17 ∷ 18 ∷ 19 ∷ 20 ∷ 21 ∷ []) $ by ! (begun l₀ l₁ l₂ l₃ l₄ l₅ l₆ l₇ l₈ l₉)))))))))))
 
 module _ {M : Type 1} (𝓤 : URA M) (H : Heap 𝓤) (A : Atoms 𝓤) (W : Given 𝓤 H A) (at-mem : Memory → SProp 𝓤) (run : Routine → Fun 𝓤) where
-  walks : (𝓣 : Tables 𝓤 H) → FmC 𝓤 H (W .laws) (𝓣 .C) → Triple 𝓤 (𝓣 .C #lent·get-or) (GetOr 𝓤 H A at-mem run) → Triple 𝓤 (𝓣 .C #lent·no-core) (NoCore 𝓤 H A at-mem run) → Triple 𝓤 (𝓣 .C #lent·place-after) (PlaceAfter 𝓤 H A at-mem run) → Triple 𝓤 (𝓣 .C #lent·moves) (Moves 𝓤 H A at-mem run)
+  walks : (𝓣 : Tables 𝓤 H) → FmC 𝓤 H (W .laws) (𝓣 .C) → Triple 𝓤 (𝓣 .C #lent·get-or) (GetOr 𝓤 H A at-mem run) → Triple 𝓤 (𝓣 .C #snapshot·no-core) (NoCore 𝓤 H A at-mem run) → Triple 𝓤 (𝓣 .C #snapshot·place-after) (PlaceAfter 𝓤 H A at-mem run) → Triple 𝓤 (𝓣 .C #snapshot·moves) (Moves 𝓤 H A at-mem run)
       → Walks 𝓤 H A f.ended stayed (WpFn 𝓤 H (𝓣 .C) (𝓣 .Λ) code.function) (f.clauses 𝓤 H A at-mem run)
   walks 𝓣 fm k₁ k₂ k₃ k₄ = walked 𝓤 H A f.ended stayed (f.clauses 𝓤 H A at-mem run) (WpFn 𝓤 H (𝓣 .C) (𝓣 .Λ) code.function) (λ κs. (slice-vals, (LL.vals Q.the-type Q′.the-laws, tt))) (λ κs. (shr-slice-tells (named 0) (κs .0) R, (LL.tells Q.the-type Q′.the-laws, tt)))
       (λ κs qs bounds a g are. via 𝓤 _ (fst∗ 𝓤 _ (emp 𝓤)) (walk 𝓤 H A W at-mem run (κs .0) (qs .0) (a .0 .ptr .0) (a .0 .ptr .1) (a .0 .name) (a .0 .now) (a .1 .0) (are .0 .0 .1) (are .1 .0) 𝓣 fm k₁ k₂ k₃ k₄))
 
-meets : {M : Type 1} (𝓤 : URA M) (H : Heap 𝓤) (A : Atoms 𝓤) → Given 𝓤 H A → (at-mem : Memory → SProp 𝓤) (run : Routine → Fun 𝓤) (𝓣 : Tables 𝓤 H) → Triple 𝓤 (𝓣 .C #lent·get-or) (GetOr 𝓤 H A at-mem run) → Triple 𝓤 (𝓣 .C #lent·no-core) (NoCore 𝓤 H A at-mem run) → Triple 𝓤 (𝓣 .C #lent·place-after) (PlaceAfter 𝓤 H A at-mem run) → Triple 𝓤 (𝓣 .C #lent·moves) (Moves 𝓤 H A at-mem run)
+meets : {M : Type 1} (𝓤 : URA M) (H : Heap 𝓤) (A : Atoms 𝓤) → Given 𝓤 H A → (at-mem : Memory → SProp 𝓤) (run : Routine → Fun 𝓤) (𝓣 : Tables 𝓤 H) → Triple 𝓤 (𝓣 .C #lent·get-or) (GetOr 𝓤 H A at-mem run) → Triple 𝓤 (𝓣 .C #snapshot·no-core) (NoCore 𝓤 H A at-mem run) → Triple 𝓤 (𝓣 .C #snapshot·place-after) (PlaceAfter 𝓤 H A at-mem run) → Triple 𝓤 (𝓣 .C #snapshot·moves) (Moves 𝓤 H A at-mem run)
     → Meets 𝓤 H A f.signature (WpFn 𝓤 H (𝓣 .C) (𝓣 .Λ) code.function) (f.spec 𝓤 H A at-mem run)
 meets 𝓤 H A W at-mem run 𝓣 k₁ k₂ k₃ k₄ = walk-meets 𝓤 H A f.ended stayed W (goes-none-slice 𝓤 H A W 1 (0 ∷ []) tt (plain (λ _. R)) yes, (goes-none 𝓤 H A W 1 (λ _. Q.the-row) yes (λ κs x f. refl), tt)) (f.clauses 𝓤 H A at-mem run)
     (WpFn 𝓤 H (𝓣 .C) (𝓣 .Λ) code.function) (WpFn-mono 𝓤 H (W .laws) 𝓣 code.function) (walks 𝓤 H A W at-mem run 𝓣 (fmOf 𝓤 H (W .laws) 𝓣) k₁ k₂ k₃ k₄)
@@ -270,6 +271,6 @@ scan-spec 𝓤 H 𝓜 𝓖 𝓡 =
     (tables 𝓤 H 𝓜 𝓡 code.env .C) (tables 𝓤 H 𝓜 𝓡 code.env .Λ) #lent·scan code.function (code.unfolded 𝓤 H 𝓜 𝓡)
     (meets 𝓤 H (𝓖 .A) (givenOf 𝓤 H 𝓜 𝓖) (𝓜 .mem) (𝓡 .run) (tablesOf 𝓤 H 𝓜 (tables 𝓤 H 𝓜 𝓡 code.env))
     (cited 𝓤 H (GetOr 𝓤 H (𝓖 .A) (𝓜 .mem) (𝓡 .run)) 𝓜 𝓡 code.env #lent·get-or get-or-def.routine code.calls-lent·get-or (get-or-thm.met 𝓤 H 𝓜 𝓖 𝓡))
-    (cited 𝓤 H (NoCore 𝓤 H (𝓖 .A) (𝓜 .mem) (𝓡 .run)) 𝓜 𝓡 code.env #lent·no-core no-core-def.routine code.calls-lent·no-core (no-core-thm.met 𝓤 H 𝓜 𝓖 𝓡))
-    (cited 𝓤 H (PlaceAfter 𝓤 H (𝓖 .A) (𝓜 .mem) (𝓡 .run)) 𝓜 𝓡 code.env #lent·place-after place-after-def.routine code.calls-lent·place-after (place-after-thm.met 𝓤 H 𝓜 𝓖 𝓡))
-    (cited 𝓤 H (Moves 𝓤 H (𝓖 .A) (𝓜 .mem) (𝓡 .run)) 𝓜 𝓡 code.env #lent·moves moves-def.routine code.calls-lent·moves (moves-thm.met 𝓤 H 𝓜 𝓖 𝓡)))
+    (cited 𝓤 H (NoCore 𝓤 H (𝓖 .A) (𝓜 .mem) (𝓡 .run)) 𝓜 𝓡 code.env #snapshot·no-core no-core-def.routine code.calls-snapshot·no-core (no-core-thm.met 𝓤 H 𝓜 𝓖 𝓡))
+    (cited 𝓤 H (PlaceAfter 𝓤 H (𝓖 .A) (𝓜 .mem) (𝓡 .run)) 𝓜 𝓡 code.env #snapshot·place-after place-after-def.routine code.calls-snapshot·place-after (place-after-thm.met 𝓤 H 𝓜 𝓖 𝓡))
+    (cited 𝓤 H (Moves 𝓤 H (𝓖 .A) (𝓜 .mem) (𝓡 .run)) 𝓜 𝓡 code.env #snapshot·moves moves-def.routine code.calls-snapshot·moves (moves-thm.met 𝓤 H 𝓜 𝓖 𝓡)))

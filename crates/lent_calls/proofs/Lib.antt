@@ -1,0 +1,3 @@
+pub mod Unchanged
+pub mod Back
+pub mod Calling

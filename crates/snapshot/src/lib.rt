@@ -1,0 +1,515 @@
+// The machine's calls on a snapshot of the core table: its first four records copied out, by value. The calls on a lent table (crate lent) copy it out,
+// call these, and store what they leave.
+use protocol::Registers;
+use runner::Ran;
+use semaphore::Semaphore;
+use states::State;
+ghost use mathlib.Core.Path.{_≡_};
+ghost use mathlib.Core.List.{[]};
+ghost use Prim.Native.Nat.{_+_, _*_, _<_, _≤_};
+ghost use lib.ListN.{length, set};
+ghost use Rattle.verdict.specs.Verdict.{next};
+ghost use Rattle.memory.specs.Memory.{splice, part};
+ghost use Rattle.taskset.specs.Judge.{judge};
+ghost use Rattle.runner.specs.Runs.{left};
+ghost use Rattle.snapshot.specs.Snapshot.{noCore, tableFrom, entries, counted, registersIn, recordWith, heldPlaces, heldOffsets, held, coreOf, recordAfter, acceptedOf, refusedOf, tableLeft, stepTable, runTable, takenTable, freshTable, ringOf, noRing, placeAfter, recordMoves, answered, ringAnswer, withRegisters, registersAfter, stepRegisters};
+
+// A record of the core table: a core's registers and call stack, in 84 bytes of which each belongs to a field, so that what a call says of the
+// fields it says of every byte. Spare bytes are never judged, and a record that a call writes has zeros there.
+#[repr(C)]
+pub struct Core {
+    pub time: u32,
+    pub counter: u16,
+    pub offset: u16,
+    pub count: u16,
+    pub exchange: u16,
+    pub cycles: u16,
+    pub mode: u8,
+    pub depth: u8,
+    pub flags: u8,
+    pub spare: [u8; 3],
+    pub places: [u16; 16], // the return places of its open calls
+    pub offsets: [u16; 16], // the data offsets that go with them
+}
+
+// A table copied out: how many records it has, 255 for more, and its first four; zeros where it has fewer.
+pub struct Table {
+    pub count: u8,
+    pub cores: [Core; 4],
+}
+
+// ---- a table as a state, and back
+
+// The registers of a record.
+fn registers_in(c: Core) -> Registers
+    ensures { λ r. ⌜ r ≡ registersIn c ⌝ }
+{
+    Registers {
+        mode: c.mode,
+        counter: c.counter,
+        offset: c.offset,
+        depth: c.depth,
+        count: c.count,
+        exchange: c.exchange,
+        cycles: c.cycles,
+        flags: c.flags,
+        time: c.time,
+    }
+}
+
+// A record of these registers and this call stack.
+fn record_of(r: Registers, places: [u16; 16], offsets: [u16; 16]) -> Core
+    ensures { λ c. ⌜ c ≡ recordWith r places offsets ⌝ }
+{
+    let spare = [0u8; 3];
+    Core {
+        time: r.time,
+        counter: r.counter,
+        offset: r.offset,
+        count: r.count,
+        exchange: r.exchange,
+        cycles: r.cycles,
+        mode: r.mode,
+        depth: r.depth,
+        flags: r.flags,
+        spare,
+        places,
+        offsets,
+    }
+}
+
+// Copies n entries from src[from..] to dst[to..].
+fn copy(dst: &mut [u16], to: usize, src: &[u16], from: usize, n: usize)
+    requires { ⌜ (to + n ≤ length (now dst)) × (from + n ≤ length (now src)) ⌝ }
+    ensures { λ _. ⌜ now (dst .exit) ≡ splice (now (dst .entry)) to (part (now (src .entry)) from n) ⌝ }
+{
+    let mut i = 0;
+    while i < n {
+        dst[to + i] = src[from + i];
+        i += 1;
+    }
+}
+
+// The entries of four call stacks, end to end.
+fn join(a: [u16; 16], b: [u16; 16], c: [u16; 16], d: [u16; 16]) -> [u16; 64]
+    ensures { λ r. ⌜ r ≡ entries a b c d ⌝ }
+{
+    let mut all = [0u16; 64];
+    copy(&mut all, 0, &a, 0, 16);
+    copy(&mut all, 16, &b, 0, 16);
+    copy(&mut all, 32, &c, 0, 16);
+    copy(&mut all, 48, &d, 0, 16);
+    all
+}
+
+// The entries of core k's call stack.
+fn stack_of(all: [u16; 64], k: usize) -> [u16; 16]
+    requires { ⌜ k < 4 ⌝ }
+    ensures { λ r. ⌜ r ≡ part all (16 * k) 16 ⌝ }
+{
+    let mut stack = [0u16; 16];
+    copy(&mut stack, 0, &all, 16 * k, 16);
+    stack
+}
+
+// The return places of a table's four cores.
+fn places_of(t: Table) -> [u16; 64]
+    ensures { λ r. ⌜ r ≡ heldPlaces t ⌝ }
+{
+    let a = t.cores[0];
+    let b = t.cores[1];
+    let c = t.cores[2];
+    let d = t.cores[3];
+    let pa = a.places;
+    let pb = b.places;
+    let pc = c.places;
+    let pd = d.places;
+    join(pa, pb, pc, pd)
+}
+
+// The data offsets that go with them.
+fn offsets_of(t: Table) -> [u16; 64]
+    ensures { λ r. ⌜ r ≡ heldOffsets t ⌝ }
+{
+    let a = t.cores[0];
+    let b = t.cores[1];
+    let c = t.cores[2];
+    let d = t.cores[3];
+    let oa = a.offsets;
+    let ob = b.offsets;
+    let oc = c.offsets;
+    let od = d.offsets;
+    join(oa, ob, oc, od)
+}
+
+// The state that a table holds.
+fn state_of(t: Table, semaphore: Semaphore) -> State
+    ensures { λ r. ⌜ r ≡ held t semaphore ⌝ }
+{
+    let a = t.cores[0];
+    let b = t.cores[1];
+    let c = t.cores[2];
+    let d = t.cores[3];
+    let ra = registers_in(a);
+    let rb = registers_in(b);
+    let rc = registers_in(c);
+    let rd = registers_in(d);
+    let cores = [ra, rb, rc, rd];
+    let places = places_of(t);
+    let offsets = offsets_of(t);
+    State {
+        count: t.count,
+        semaphore,
+        cores,
+        places,
+        offsets,
+    }
+}
+
+// The record of core k of a state.
+fn core_of(s: State, k: usize) -> Core
+    requires { ⌜ k < 4 ⌝ }
+    ensures { λ r. ⌜ r ≡ coreOf s k ⌝ }
+{
+    let registers = s.cores[k];
+    let all_places = s.places;
+    let all_offsets = s.offsets;
+    let places = stack_of(all_places, k);
+    let offsets = stack_of(all_offsets, k);
+    record_of(registers, places, offsets)
+}
+
+// ---- what a call leaves of a table
+
+// The refusal number, the table's first four records, and the semaphore.
+pub struct After {
+    pub refusal: u8,
+    pub a: Core,
+    pub b: Core,
+    pub c: Core,
+    pub d: Core,
+    pub semaphore: Semaphore,
+}
+
+// Record k after a call that is not refused and leaves the state s.
+fn record_after(t: Table, s: State, k: usize) -> Core
+    requires { ⌜ k < 4 ⌝ }
+    ensures { λ x. ⌜ x ≡ recordAfter t s k ⌝ }
+{
+    if s.count as usize <= k {
+        return t.cores[k];
+    }
+    core_of(s, k)
+}
+
+fn accepted(t: Table, s: State) -> After
+    ensures { λ x. ⌜ x ≡ acceptedOf t s ⌝ }
+{
+    let a = record_after(t, s, 0);
+    let b = record_after(t, s, 1);
+    let c = record_after(t, s, 2);
+    let d = record_after(t, s, 3);
+    let semaphore = s.semaphore;
+    After {
+        refusal: 0,
+        a,
+        b,
+        c,
+        d,
+        semaphore,
+    }
+}
+
+fn refused(t: Table, semaphore: Semaphore, number: u8) -> After
+    ensures { λ x. ⌜ x ≡ refusedOf t semaphore number ⌝ }
+{
+    let a = t.cores[0];
+    let b = t.cores[1];
+    let c = t.cores[2];
+    let d = t.cores[3];
+    After {
+        refusal: number,
+        a,
+        b,
+        c,
+        d,
+        semaphore,
+    }
+}
+
+// ---- the calls on a table copied out
+
+pub fn step_table(
+    file: &[u8],
+    trace: &[u8],
+    t: Table,
+    semaphore: Semaphore,
+    buffer: &mut [u8],
+    shared: &mut [u8],
+    core: u8,
+) -> After
+    ensures { λ r. ⌜ tableLeft r (now (buffer .exit)) (now (shared .exit)) [] ≡ stepTable (now (file .entry)) (now (trace .entry)) t semaphore (now (buffer .entry)) (now (shared .entry)) core ⌝ }
+{
+    let s = state_of(t, semaphore);
+    let stepped = machine::step(file, trace, s, buffer, shared, core);
+    if stepped.refusal != 0 {
+        return refused(t, semaphore, stepped.refusal);
+    }
+    accepted(t, stepped.state)
+}
+
+pub fn run_table(
+    file: &[u8],
+    trace: &[u8],
+    t: Table,
+    semaphore: Semaphore,
+    buffer: &mut [u8],
+    shared: &mut [u8],
+    order: &[u8],
+    list: &mut [u8],
+    taken: &mut usize,
+) -> After
+    ensures { λ r. ⌜ (tableLeft r (now (buffer .exit)) (now (shared .exit)) (now (list .exit)) ≡ runTable (now (file .entry)) (now (trace .entry)) t semaphore (now (buffer .entry)) (now (shared .entry)) (now (order .entry)) (now (list .entry))) × (now (taken .exit) ≡ takenTable (now (file .entry)) (now (trace .entry)) t semaphore (now (buffer .entry)) (now (shared .entry)) (now (order .entry)) (now (list .entry)) (now (taken .entry))) ⌝ }
+{
+    let s = state_of(t, semaphore);
+    let ran = machine::run(file, trace, s, buffer, shared, order, list);
+    if ran.refusal != 0 {
+        return refused(t, semaphore, ran.refusal);
+    }
+    *taken = ran.taken;
+    accepted(t, ran.state)
+}
+
+// The fresh state. A table of fewer than n records is too short.
+pub fn fresh_table(
+    file: &[u8],
+    t: Table,
+    semaphore: Semaphore,
+    buffer: &mut [u8],
+    shared: &mut [u8],
+) -> After
+    ensures { λ r. ⌜ tableLeft r (now (buffer .exit)) (now (shared .exit)) [] ≡ freshTable (now (file .entry)) t semaphore (now (buffer .entry)) (now (shared .entry)) ⌝ }
+{
+    if t.count < memory::byte_at(file, 4) {
+        return refused(t, semaphore, short_refusal(file));
+    }
+    let made = machine::fresh(file, buffer, shared);
+    if made.refusal != 0 {
+        return refused(t, semaphore, made.refusal);
+    }
+    accepted(t, made.state)
+}
+
+// The refusal where the table is too short: the file is judged first.
+fn short_refusal(file: &[u8]) -> u8
+    ensures { λ r. ⌜ r ≡ next (judge (now (file .entry))) 21 ⌝ }
+{
+    let r = taskset::judge_file(file);
+    if r != 0 {
+        return r;
+    }
+    21
+}
+
+// ---- the ring of cores, and the test of one record
+
+// What a scan of the table needs beside its records. Where the call is refused there are no cores to scan.
+pub struct Ring {
+    pub refusal: u8,
+    pub cores: u8,
+    pub given: u8,
+    pub semaphore: Semaphore,
+    pub counts: [usize; 4], // the input records of each core
+}
+
+// Judges the call for the next core, on the table copied out, and gives what the scan needs.
+pub fn ring_of(file: &[u8], trace: &[u8], t: Table, semaphore: Semaphore, given: u8) -> Ring
+    ensures { λ r. ⌜ r ≡ ringOf (now (file .entry)) (now (trace .entry)) t semaphore given ⌝ }
+{
+    let s = state_of(t, semaphore);
+    let loaded = taskset::load(file);
+    if loaded.refusal != 0 {
+        return no_ring(loaded.refusal, given, semaphore);
+    }
+    let layout = loaded.layout;
+    let prepared = states::prepare(file, trace, layout, s);
+    if prepared.refusal != 0 {
+        return no_ring(prepared.refusal, given, semaphore);
+    }
+    if layout.cores <= given as usize {
+        return no_ring(20, given, semaphore);
+    }
+    let tasks = prepared.tasks;
+    let counts = [
+        tasks[0].count,
+        tasks[1].count,
+        tasks[2].count,
+        tasks[3].count,
+    ];
+    Ring {
+        refusal: 0,
+        cores: layout.cores as u8,
+        given,
+        semaphore,
+        counts,
+    }
+}
+
+fn no_ring(number: u8, given: u8, semaphore: Semaphore) -> Ring
+    ensures { λ r. ⌜ r ≡ noRing number given semaphore ⌝ }
+{
+    let counts = [0usize; 4];
+    Ring {
+        refusal: number,
+        cores: 0,
+        given,
+        semaphore,
+        counts,
+    }
+}
+
+// Core number i + 1 after the given one, round the ring.
+pub fn place_after(r: Ring, i: u8) -> u8
+    ensures { λ k. ⌜ k ≡ placeAfter r i ⌝ }
+{
+    if r.cores == 0 {
+        return 0;
+    }
+    ((r.given as usize + (i as usize + 1)) % (r.cores as usize)) as u8
+}
+
+// Whether core k, which has this record, can move: the test by value.
+pub fn moves(r: Ring, k: u8, c: Core) -> bool
+    ensures { λ ok. ⌜ ok ≡ recordMoves r k c ⌝ }
+{
+    if 4 <= k {
+        return table::can_move(0, r.semaphore, k, registers_in(c));
+    }
+    let count = r.counts[k as usize];
+    table::can_move(count, r.semaphore, k, registers_in(c))
+}
+
+// The number of the core that moves next, where the call is not refused.
+pub fn found_in(r: Ring, k: u8, found: &mut u8) -> u8
+    ensures { λ x. ⌜ answered x (now (found .exit)) ≡ ringAnswer r k (now (found .entry)) ⌝ }
+{
+    if r.refusal != 0 {
+        return r.refusal;
+    }
+    *found = k;
+    0
+}
+
+// ---- the registers of one core
+
+// What a step answers that is lent the registers of its core: these, and the answer by value.
+pub struct Stepped {
+    pub registers: Registers,
+    pub ran: Ran,
+}
+
+fn set_registers(cores: [Registers; 4], k: usize, r: Registers) -> [Registers; 4]
+    ensures { λ x. ⌜ x ≡ set cores k r ⌝ }
+{
+    let mut l = cores;
+    if k < 4 {
+        l[k] = r;
+        return l;
+    }
+    l
+}
+
+// The state with these registers for core k.
+fn with_registers(s: State, k: usize, r: Registers) -> State
+    ensures { λ x. ⌜ x ≡ withRegisters s k r ⌝ }
+{
+    let old = s.cores;
+    let cores = set_registers(old, k, r);
+    let places = s.places;
+    let offsets = s.offsets;
+    let held = s.semaphore;
+    State {
+        count: s.count,
+        semaphore: held,
+        cores,
+        places,
+        offsets,
+    }
+}
+
+// Core k's registers of a state; r where there is no core k.
+fn registers_of(s: State, k: usize, r: Registers) -> Registers
+    ensures { λ x. ⌜ x ≡ registersAfter s k r ⌝ }
+{
+    if k < 4 {
+        return s.cores[k];
+    }
+    r
+}
+
+pub fn step_with(
+    file: &[u8],
+    trace: &[u8],
+    s: State,
+    registers: Registers,
+    buffer: &mut [u8],
+    shared: &mut [u8],
+    core: u8,
+) -> Stepped
+    ensures { λ x. ⌜ (left (x .ran) (now (buffer .exit)) (now (shared .exit)) [] ≡ stepRegisters (now (file .entry)) (now (trace .entry)) s registers (now (buffer .entry)) (now (shared .entry)) core) × (x .registers ≡ registersAfter (x .ran .state) core registers) ⌝ }
+{
+    let k = core as usize;
+    let ran = machine::step(
+        file,
+        trace,
+        with_registers(s, k, registers),
+        buffer,
+        shared,
+        core,
+    );
+    let after = registers_of(ran.state, k, registers);
+    Stepped {
+        registers: after,
+        ran,
+    }
+}
+
+// ---- a table from its records
+
+// A record of zeros.
+pub fn no_core() -> Core
+    ensures { λ r. ⌜ r ≡ noCore ⌝ }
+{
+    let registers = Registers {
+        mode: protocol::BETWEEN,
+        counter: 0,
+        offset: 0,
+        depth: 0,
+        count: 0,
+        exchange: 0,
+        cycles: 0,
+        flags: 0,
+        time: 0,
+    };
+    let places = [0u16; 16];
+    let offsets = [0u16; 16];
+    record_of(registers, places, offsets)
+}
+
+// How many records a table has, in one byte.
+fn count_of(n: usize) -> u8
+    ensures { λ r. ⌜ r ≡ counted n ⌝ }
+{
+    if n < 255 {
+        return n as u8;
+    }
+    255
+}
+
+pub fn table_of(a: Core, b: Core, c: Core, d: Core, n: usize) -> Table
+    ensures { λ r. ⌜ r ≡ tableFrom a b c d n ⌝ }
+{
+    let count = count_of(n);
+    let cores = [a, b, c, d];
+    Table { count, cores }
+}
