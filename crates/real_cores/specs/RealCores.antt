@@ -1,0 +1,54 @@
+-- Cores that truly run at once: no two steps meet but at the semaphore, of the real machine. In order: steps; fit states; calls; calls on a lent core table.
+-- `race-free-machine`, `steps-commute-machine`, `swaps-alike-machine`, `fit-race-free`, `calls-race-free`, `calls-alike`, `lent-race-free` and `lent-alike`
+-- of proofs/RealCores prove what their names say. Not here: the places of a step, and what `RaceFree`, `Independent`, `Swaps` and `Alike` mean (crate races).
+use mathlib.Core.Path.{_≡_}
+use mathlib.Core.List.{List, [], _∷_}
+use Prim.Native.Nat.{ℕ}
+use Rattle.protocol.specs.Step.{run, takings}
+use Rattle.races.specs.Footprint.{RaceFree, Independent, Alike, Swaps}
+use Rattle.taskset.specs.Fresh.{freshOf}
+use Rattle.semaphore.specs.declared.Semaphore.{Semaphore}
+use Rattle.states.specs.Task.{taskOf}
+use Rattle.machine.specs.Calls.{freshCall}
+use Rattle.machine.specs.Calling.{Call, calls, stepsOf, wholeOf}
+use Rattle.snapshot.specs.declared.Core.{Core}
+use Rattle.lent.specs.Lent.{freshLent}
+use Rattle.lent_calls.specs.Calling.{LentCall, lentCalls, lentStepsOf, wholeLent}
+
+-- ---- steps of the cores of the file f on the trace t, from the fresh state
+
+-- after the steps ks: what the next step of one core writes, that of another neither reads nor writes, the semaphore aside
+abbrev pub MachineRaceFree : List ℕ → List ℕ → List ℕ → Type 0
+MachineRaceFree f t ks = RaceFree (taskOf f t) (run (taskOf f t) ks (freshOf f))
+
+-- after the steps ks: the next steps of cores j and k can change places, unless both touch the semaphore
+abbrev pub StepsCommute : List ℕ → List ℕ → List ℕ → ℕ → ℕ → Type 0
+StepsCommute f t ks j k =
+    Independent (taskOf f t) j k (run (taskOf f t) ks (freshOf f)) → Alike (taskOf f t) (j ∷ k ∷ []) (k ∷ j ∷ []) (run (taskOf f t) ks (freshOf f))
+
+-- steps that differ by such changes of places of neighbours end alike, with the same takings
+abbrev pub StepsAlike : List ℕ → List ℕ → List ℕ → List ℕ → Type 0
+StepsAlike f t js ks = Swaps (taskOf f t) (freshOf f) js ks → Alike (taskOf f t) js ks (freshOf f)
+
+-- ---- calls by value, from what the call for the fresh state left that was lent the memories d and sh
+
+pub record CallsRaceFree (f t d sh : List ℕ) (cs : List Call) : Type 0 where
+  -- what they leave is what the steps that they count as make of the fresh state
+  pub steps : wholeOf f (calls f t cs (freshCall f d sh)) ≡ run (taskOf f t) (stepsOf f t cs (freshCall f d sh)) (freshOf f)
+  -- and in what they leave the next steps of the cores do not race
+  pub race-free : RaceFree (taskOf f t) (wholeOf f (calls f t cs (freshCall f d sh)))
+
+-- Two lists of calls leave the same state, with the same takings
+pub record CallsAlike (f t d sh : List ℕ) (bs cs : List Call) : Type 0 where
+  pub whole : wholeOf f (calls f t bs (freshCall f d sh)) ≡ wholeOf f (calls f t cs (freshCall f d sh))
+  pub takings-same : takings (taskOf f t) (stepsOf f t bs (freshCall f d sh)) (freshOf f) ≡ takings (taskOf f t) (stepsOf f t cs (freshCall f d sh)) (freshOf f)
+
+-- ---- calls on a lent core table, from what `rikzord_fresh` left that was lent the table ys, the semaphore p and the memories d and sh
+
+pub record LentRaceFree (f t : List ℕ) (ys : List Core) (p : Semaphore) (d sh : List ℕ) (cs : List LentCall) : Type 0 where
+  pub steps : wholeLent f (lentCalls f t cs (freshLent f ys p d sh)) ≡ run (taskOf f t) (lentStepsOf f t cs (freshLent f ys p d sh)) (freshOf f)
+  pub race-free : RaceFree (taskOf f t) (wholeLent f (lentCalls f t cs (freshLent f ys p d sh)))
+
+pub record LentAlike (f t : List ℕ) (ys : List Core) (p : Semaphore) (d sh : List ℕ) (bs cs : List LentCall) : Type 0 where
+  pub whole : wholeLent f (lentCalls f t bs (freshLent f ys p d sh)) ≡ wholeLent f (lentCalls f t cs (freshLent f ys p d sh))
+  pub takings-same : takings (taskOf f t) (lentStepsOf f t bs (freshLent f ys p d sh)) (freshOf f) ≡ takings (taskOf f t) (lentStepsOf f t cs (freshLent f ys p d sh)) (freshOf f)
