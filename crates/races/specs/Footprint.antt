@@ -6,26 +6,38 @@ use mathlib.Core.Logic.{_≢_, _⊎_}
 use mathlib.Core.List.{List, [], _∷_, _++_, map}
 use Prim.Native.Nat.{ℕ, zero, suc}
 use lib.ListN.{length, getD, take, drop}
+use Rattle.protocol.specs.declared.Registers.{Registers}
+use Rattle.protocol.specs.declared.Stack.{Stack}
 use Rattle.protocol.specs.State.{Core, Semaphore, State, Move, Sample, Task, core, mode}
-use Rattle.protocol.specs.Step.{left, step, run, takingOf, takings}
+use Rattle.protocol.specs.Step.{step, run, takingOf, takings}
 use Rattle.protocol.specs.Variables.{In}
 
--- ---- places
+-- ---- places. The file and the trace, which no step writes, are none.
 
--- core k's registers, call stack and data; byte i of shared memory; the semaphore, its line included
+-- core k's registers with its call stack; its data; byte i of shared memory; the semaphore, its line included
 pub data Place : Type 0 where
-  own : ℕ → Place
+  control : ℕ → Place
+  local : ℕ → Place
   byte : ℕ → Place
   semaphore : Place
 
+pub record Control : Type 0 where
+  pub registers : Registers
+  pub stack : Stack
+
+abbrev pub controlOf : Core → Control
+controlOf c = record { registers = c .registers; stack = c .stack }
+
 -- what stands at a place
 abbrev pub What : Place → Type 0
-What (own k) = Core
+What (control k) = Control
+What (local k) = List ℕ
 What (byte i) = ℕ
 What semaphore = Semaphore
 
 abbrev pub content : (p : Place) → State → What p
-content (own k) s = core (s .plant) k
+content (control k) s = controlOf (core (s .plant) k)
+content (local k) s = core (s .plant) k .memory
 content (byte i) s = getD (s .plant .shared) i 0
 content semaphore s = s .semaphore
 
@@ -56,27 +68,27 @@ abbrev pub release : List Move → List Place
 release [] = semaphore ∷ []
 release (m ∷ ms) = []
 
--- a step of core k, which is c, by its mode; a stopped core reads its mode only
-abbrev pub footprintIn : ℕ → Task → ℕ → Core → Footprint
-footprintIn zero t k c = record {
-  reads = own k ∷ unspent (drop (c .registers .cycles) (t .samples k)) (semaphore ∷ []);
-  writes = unspent (drop (c .registers .cycles) (t .samples k)) (own k ∷ semaphore ∷ []);
+-- a step of core k, which has the registers r, by its mode; a stopped core reads its mode only
+abbrev pub footprintIn : ℕ → Task → ℕ → Registers → Footprint
+footprintIn zero t k r = record {
+  reads = control k ∷ unspent (drop (r .cycles) (t .samples k)) (local k ∷ semaphore ∷ []);
+  writes = unspent (drop (r .cycles) (t .samples k)) (control k ∷ local k ∷ semaphore ∷ []);
 }
-footprintIn (suc zero) t k c = record {
-  reads = own k ∷ release (drop 1 (left c (t .reads k))) ++ sources (take 1 (left c (t .reads k)));
-  writes = own k ∷ release (drop 1 (left c (t .reads k)));
+footprintIn (suc zero) t k r = record {
+  reads = control k ∷ local k ∷ release (drop 1 (drop (r .exchange) (t .reads k))) ++ sources (take 1 (drop (r .exchange) (t .reads k)));
+  writes = control k ∷ local k ∷ release (drop 1 (drop (r .exchange) (t .reads k)));
 }
-footprintIn (suc (suc zero)) t k c = record { reads = own k ∷ []; writes = own k ∷ [] }
-footprintIn (suc (suc (suc zero))) t k c = record { reads = own k ∷ semaphore ∷ []; writes = own k ∷ semaphore ∷ [] }
-footprintIn (suc (suc (suc (suc zero)))) t k c = record {
-  reads = own k ∷ release (drop 1 (left c (t .writes k)));
-  writes = own k ∷ release (drop 1 (left c (t .writes k))) ++ targets (take 1 (left c (t .writes k)));
+footprintIn (suc (suc zero)) t k r = record { reads = control k ∷ local k ∷ []; writes = control k ∷ local k ∷ [] }
+footprintIn (suc (suc (suc zero))) t k r = record { reads = control k ∷ semaphore ∷ []; writes = control k ∷ semaphore ∷ [] }
+footprintIn (suc (suc (suc (suc zero)))) t k r = record {
+  reads = control k ∷ local k ∷ release (drop 1 (drop (r .exchange) (t .writes k)));
+  writes = control k ∷ release (drop 1 (drop (r .exchange) (t .writes k))) ++ targets (take 1 (drop (r .exchange) (t .writes k)));
 }
-footprintIn (suc (suc (suc (suc (suc m))))) t k c = record { reads = own k ∷ []; writes = [] }
+footprintIn (suc (suc (suc (suc (suc m))))) t k r = record { reads = control k ∷ []; writes = [] }
 
 -- of core k's step in state s
 unfoldable pub footprint : Task → ℕ → State → Footprint
-footprint t k s = footprintIn (mode (core (s .plant) k)) t k (core (s .plant) k)
+footprint t k s = footprintIn (mode (core (s .plant) k)) t k (core (s .plant) k .registers)
 
 abbrev pub Reads : Task → ℕ → State → Place → Type 0
 Reads t k s p = In p (footprint t k s .reads)
@@ -113,6 +125,9 @@ pub record RaceFree (t : Task) (s : State) : Type 0 where
   pub no-race : (j k : ℕ) → j ≢ k → (p : Place) → Writes t j s p → Touches t k s p → p ≡ semaphore
   -- shared memory is touched by the holder alone
   pub by-holder : (k i : ℕ) → Touches t k s (byte i) → s .semaphore .holder ≡ suc k
+  -- a core's registers, call stack and data by no other core
+  pub control-alone : (j k : ℕ) → Touches t k s (control j) → j ≡ k
+  pub local-alone : (j k : ℕ) → Touches t k s (local j) → j ≡ k
 
 -- ---- changing places
 
