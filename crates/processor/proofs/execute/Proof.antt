@@ -13,56 +13,60 @@ use Rattle.processor.proofs.execute.Statement.{statement}
 shared-slice-read-op : tie.Need-shared-slice-read-op
 shared-slice-read-op c = inside-code _ _ _ (c .before .before .before .before .pre)
 
+-- the place after a typed command, though there may be none
+add-next : tie.Need-add-next
+add-next c = omega (arith, inside-code _ _ _ (c .before .before .before .before .before .pre), c .before .before .before .before .before .pre .short)
+
 word-requires : tie.Need-word-requires
 unfolding lengthOf layoutOf pick
-word-requires c κs = let s = stands _ _ _ (c .before .before .before .before .before .pre) 1 (c .match .keys2) in omega (arith, s .whole)
+word-requires c κs = let s = stands _ _ _ (c .before .before .before .before .before .before .pre) 1 (c .match .keys2) in omega (arith, s .whole)
 
 call-instance-requires : tie.Need-call-instance-requires
 unfolding lengthOf layoutOf pick
-call-instance-requires c κs = (stands _ _ _ (c .before .before .before .before .before .before .pre) 4 (c .before .match .keys3), c .before .before .before .before .before .before .pre .small)
+call-instance-requires c κs = (stands _ _ _ (c .before .before .before .before .before .before .before .pre) 4 (c .before .match .keys3), c .before .before .before .before .before .before .before .pre .small)
 
 call-function-requires : tie.Need-call-function-requires
 unfolding lengthOf layoutOf pick
-call-function-requires c κs = stands _ _ _ (c .before .before .before .before .before .before .pre) 5 (c .before .match .keys4)
+call-function-requires c κs = stands _ _ _ (c .before .before .before .before .before .before .before .pre) 5 (c .before .match .keys4)
 
 move-constant-requires : tie.Need-move-constant-requires
-move-constant-requires c κs = stands-constant _ _ _ (c .before .before .before .before .before .before .pre) (c .before .match .keys5)
+move-constant-requires c κs = stands-constant _ _ _ (c .before .before .before .before .before .before .before .pre) (c .before .match .keys5)
 
 copy-memory-requires : tie.Need-copy-memory-requires
 unfolding lengthOf layoutOf pick
-copy-memory-requires c κs = (stands _ _ _ (c .before .before .before .before .before .before .pre) 7 (c .before .match .keys6), c .before .before .before .before .before .before .pre .small)
+copy-memory-requires c κs = (stands _ _ _ (c .before .before .before .before .before .before .before .pre) 7 (c .before .match .keys6), c .before .before .before .before .before .before .before .pre .small)
 
 store-number-requires : tie.Need-store-number-requires
 unfolding lengthOf layoutOf pick
-store-number-requires c κs = (inl (c .before .before .match .keys7, refl, refl), stands-report _ _ _ (c .before .before .before .before .before .before .before .pre) _ 41 refl (c .before .before .match .keys7) refl)
+store-number-requires c κs = (inl (c .before .before .match .keys7, refl, refl), stands-report _ _ _ (c .before .before .before .before .before .before .before .before .pre) _ 41 refl (c .before .before .match .keys7) refl)
 
 store-number-requires-2 : tie.Need-store-number-requires-2
 unfolding lengthOf layoutOf pick
-store-number-requires-2 c κs = (inr (c .before .before .match .keys8, refl, refl), stands-report _ _ _ (c .before .before .before .before .before .before .before .pre) _ 42 refl (c .before .before .match .keys8) refl)
+store-number-requires-2 c κs = (inr (c .before .before .match .keys8, refl, refl), stands-report _ _ _ (c .before .before .before .before .before .before .before .before .pre) _ 42 refl (c .before .before .match .keys8) refl)
 
 convert-requires : tie.Need-convert-requires
-convert-requires c κs = stands-conversion _ _ _ (c .before .before .before .before .before .before .pre) (c .before .match .keys27)
+convert-requires c κs = stands-conversion _ _ _ (c .before .before .before .before .before .before .before .pre) (c .before .match .keys27)
 
 pack-requires : tie.Need-pack-requires
-pack-requires c κs = stands-packing _ _ _ (c .before .before .before .before .before .before .pre) (c .before .match .keys28)
+pack-requires c κs = stands-packing _ _ _ (c .before .before .before .before .before .before .before .pre) (c .before .match .keys28)
 
 unpack-requires : tie.Need-unpack-requires
-unpack-requires c κs = stands-unpacking _ _ _ (c .before .before .before .before .before .before .pre) (c .before .match .keys29)
+unpack-requires c κs = stands-unpacking _ _ _ (c .before .before .before .before .before .before .before .pre) (c .before .match .keys29)
 
 branch-requires : tie.Need-branch-requires
-branch-requires c κs = let n = c .before .before .match .rest .0 .0 .0 .0 .0 .0 .0 .0 .0 .0 .0 .0 .0 .0 .0 .0 .0 .0 .0 .0 .0 .0 .0 .0 .0 .0 .0 in stands-branch _ _ _ (c .before .before .before .before .before .before .before .pre) _ refl (c .before .if1 .taken) (n .0 .1) (n .1)
+branch-requires c κs = let n = c .before .before .match .rest .0 .0 .0 .0 .0 .0 .0 .0 .0 .0 .0 .0 .0 .0 .0 .0 .0 .0 .0 .0 .0 .0 .0 .0 .0 .0 .0 in stands-branch _ _ _ (c .before .before .before .before .before .before .before .before .pre) _ refl (c .before .if1 .taken) (n .0 .1) (n .1)
 
 access-element-requires : tie.Need-access-element-requires
-access-element-requires c κs = let n = c .before .before .before .match .rest .0 .0 .0 .0 .0 .0 .0 .0 .0 .0 .0 .0 .0 .0 .0 .0 .0 .0 .0 .0 .0 .0 .0 in stands-element _ _ _ (c .before .before .before .before .before .before .before .before .pre) _ refl (c .before .before .if1 .left) (c .before .if2 .taken) (n .0 .0 .0 .1) (n .0 .0 .1) (n .0 .1) (n .1)
+access-element-requires c κs = let n = c .before .before .before .match .rest .0 .0 .0 .0 .0 .0 .0 .0 .0 .0 .0 .0 .0 .0 .0 .0 .0 .0 .0 .0 .0 .0 .0 in stands-element _ _ _ (c .before .before .before .before .before .before .before .before .before .pre) _ refl (c .before .before .if1 .left) (c .before .if2 .taken) (n .0 .0 .0 .1) (n .0 .0 .1) (n .0 .1) (n .1)
 
 single-requires : tie.Need-single-requires
-single-requires c κs = typed-inside _ _ _ (c .before .before .before .before .before .before .before .before .pre) 27 4 (search last-here)
+single-requires c κs = typed-inside _ _ _ (c .before .before .before .before .before .before .before .before .before .pre) 27 4 (search last-here)
 
 not-at-requires : tie.Need-not-at-requires
-not-at-requires c κs = typed-given _ _ _ (c .before .before .before .before .before .before .before .before .before .pre) 27 4 _ (search last-here) (c .single .ensures)
+not-at-requires c κs = let n = c .before .before .before .before .match .rest in typed-given _ _ _ (c .before .before .before .before .before .before .before .before .before .before .pre) 27 4 _ (last-here _ _ _ (c .before .before .before .before .before .before .before .before .before .before .pre) (c .before .before .if2 .left) (n .0 .0 .0 .0 .0 .0 .0 .0 .0 .0 .0 .0 .0 .0 .0 .0 .0 .0 .0 .0 .0 .0 .1) (n .0 .0 .0 .0 .0 .0 .0 .0 .0 .0 .0 .0 .0 .0 .0 .0 .0 .0 .0 .0 .0 .1) (n .0 .0 .1) (n .0 .1) (n .1) (n .0 .0 .0 .0 .0 .0 .0 .0 .0 .0 .0 .0 .0 .0 .0 .0 .0 .0 .0 .0 .1) (n .0 .0 .0 .0 .0 .0 .0 .0 .0 .0 .0 .0 .0 .0 .0 .0 .0 .0 .0 .1) (n .0 .0 .0 .0 .0 .0 .0 .0 .0 .0 .0 .0 .0 .0 .0 .0 .0 .0 .1) (n .0 .0 .0 .0 .0 .0 .0 .0 .0 .0 .0 .0 .0 .0 .0 .0 .0 .1) (n .0 .0 .0 .0 .0 .0 .0 .0 .0 .0 .0 .0 .0 .0 .0 .0 .1) (n .0 .0 .0 .0 .0 .0 .0 .0 .0 .0 .0 .0 .0 .0 .0 .1) (n .0 .0 .0 .0 .0 .0 .0 .0 .0 .0 .0 .0 .0 .0 .1) (n .0 .0 .0 .0 .0 .0 .0 .0 .0 .0 .0 .0 .0 .1) (n .0 .0 .0 .0 .0 .0 .0 .0 .0 .0 .0 .0 .1) (n .0 .0 .0 .0 .0 .0 .0 .0 .0 .0 .0 .1) (n .0 .0 .0 .0 .0 .0 .0 .0 .0 .0 .1) (n .0 .0 .0 .0 .0 .0 .0 .0 .0 .1) (n .0 .0 .0 .0 .0 .0 .0 .0 .1) (n .0 .0 .0 .0 .0 .0 .0 .1) (n .0 .0 .0 .0 .0 .0 .1) (n .0 .0 .0 .0 .0 .1) (n .0 .0 .0 .0 .1) (n .0 .0 .0 .1)) (c .single .ensures)
 
-add-outcome-19 : tie.Need-add-outcome-19
-add-outcome-19 c = omega (arith, inside-code _ _ _ (c .before .before .before .before .before .before .before .before .before .before .before .before .before .pre), c .before .before .before .before .before .before .before .before .before .before .before .before .before .pre .short)
+add-outcome : tie.Need-add-outcome
+add-outcome c = omega (arith, inside-code _ _ _ (c .before .before .before .before .before .before .before .before .before .before .before .before .before .before .pre), c .before .before .before .before .before .before .before .before .before .before .before .before .before .before .pre .short)
 
 returns : tie.Need-returns
 returns c = sym (return-at _ _ _ (c .match .keys1))
@@ -71,7 +75,7 @@ returns-2 : tie.Need-returns-2
 returns-2 c = rw (c .word .ensures) (sym (jump-at _ _ _ (c .before .match .keys2)))
 
 returns-32 : tie.Need-returns-32
-returns-32 c = let n = c .before .before .before .before .before .before .before .before .before .match .rest in typed-done _ _ _ 27 4 _ _ _ _ (last-here _ _ _ (c .before .before .before .before .before .before .before .before .before .before .before .before .before .before .pre) (c .before .before .before .before .before .before .before .if2 .left) (n .0 .0 .0 .0 .0 .0 .0 .0 .0 .0 .0 .0 .0 .0 .0 .0 .0 .0 .0 .0 .0 .0 .1) (n .0 .0 .0 .0 .0 .0 .0 .0 .0 .0 .0 .0 .0 .0 .0 .0 .0 .0 .0 .0 .0 .1) (n .0 .0 .1) (n .0 .1) (n .1) (n .0 .0 .0 .0 .0 .0 .0 .0 .0 .0 .0 .0 .0 .0 .0 .0 .0 .0 .0 .0 .1) (n .0 .0 .0 .0 .0 .0 .0 .0 .0 .0 .0 .0 .0 .0 .0 .0 .0 .0 .0 .1) (n .0 .0 .0 .0 .0 .0 .0 .0 .0 .0 .0 .0 .0 .0 .0 .0 .0 .0 .1) (n .0 .0 .0 .0 .0 .0 .0 .0 .0 .0 .0 .0 .0 .0 .0 .0 .0 .1) (n .0 .0 .0 .0 .0 .0 .0 .0 .0 .0 .0 .0 .0 .0 .0 .0 .1) (n .0 .0 .0 .0 .0 .0 .0 .0 .0 .0 .0 .0 .0 .0 .0 .1) (n .0 .0 .0 .0 .0 .0 .0 .0 .0 .0 .0 .0 .0 .0 .1) (n .0 .0 .0 .0 .0 .0 .0 .0 .0 .0 .0 .0 .0 .1) (n .0 .0 .0 .0 .0 .0 .0 .0 .0 .0 .0 .0 .1) (n .0 .0 .0 .0 .0 .0 .0 .0 .0 .0 .0 .1) (n .0 .0 .0 .0 .0 .0 .0 .0 .0 .0 .1) (n .0 .0 .0 .0 .0 .0 .0 .0 .0 .1) (n .0 .0 .0 .0 .0 .0 .0 .0 .1) (n .0 .0 .0 .0 .0 .0 .0 .1) (n .0 .0 .0 .0 .0 .0 .1) (n .0 .0 .0 .0 .0 .1) (n .0 .0 .0 .0 .1) (n .0 .0 .0 .1)) (c .before .before .before .before .before .single .ensures .0) (c .before .before .before .before .not-at .ensures) (c .outcome19 .ensures)
+returns-32 c = let n = c .before .before .before .before .before .before .before .before .before .match .rest in typed-done _ _ _ 27 4 _ _ _ _ (last-here _ _ _ (c .before .before .before .before .before .before .before .before .before .before .before .before .before .before .before .pre) (c .before .before .before .before .before .before .before .if2 .left) (n .0 .0 .0 .0 .0 .0 .0 .0 .0 .0 .0 .0 .0 .0 .0 .0 .0 .0 .0 .0 .0 .0 .1) (n .0 .0 .0 .0 .0 .0 .0 .0 .0 .0 .0 .0 .0 .0 .0 .0 .0 .0 .0 .0 .0 .1) (n .0 .0 .1) (n .0 .1) (n .1) (n .0 .0 .0 .0 .0 .0 .0 .0 .0 .0 .0 .0 .0 .0 .0 .0 .0 .0 .0 .0 .1) (n .0 .0 .0 .0 .0 .0 .0 .0 .0 .0 .0 .0 .0 .0 .0 .0 .0 .0 .0 .1) (n .0 .0 .0 .0 .0 .0 .0 .0 .0 .0 .0 .0 .0 .0 .0 .0 .0 .0 .1) (n .0 .0 .0 .0 .0 .0 .0 .0 .0 .0 .0 .0 .0 .0 .0 .0 .0 .1) (n .0 .0 .0 .0 .0 .0 .0 .0 .0 .0 .0 .0 .0 .0 .0 .0 .1) (n .0 .0 .0 .0 .0 .0 .0 .0 .0 .0 .0 .0 .0 .0 .0 .1) (n .0 .0 .0 .0 .0 .0 .0 .0 .0 .0 .0 .0 .0 .0 .1) (n .0 .0 .0 .0 .0 .0 .0 .0 .0 .0 .0 .0 .0 .1) (n .0 .0 .0 .0 .0 .0 .0 .0 .0 .0 .0 .0 .1) (n .0 .0 .0 .0 .0 .0 .0 .0 .0 .0 .0 .1) (n .0 .0 .0 .0 .0 .0 .0 .0 .0 .0 .1) (n .0 .0 .0 .0 .0 .0 .0 .0 .0 .1) (n .0 .0 .0 .0 .0 .0 .0 .0 .1) (n .0 .0 .0 .0 .0 .0 .0 .1) (n .0 .0 .0 .0 .0 .0 .1) (n .0 .0 .0 .0 .0 .1) (n .0 .0 .0 .0 .1) (n .0 .0 .0 .1)) (c .before .before .before .before .before .single .ensures .0) (c .before .before .before .before .not-at .ensures) (c .outcome19 .ensures)
 
 pub execute-spec : {M : Type 1} → statement M
 execute-spec =
@@ -79,6 +83,7 @@ execute-spec =
     (tie.spec
     (λ c. search needs)
     shared-slice-read-op
+    add-next
     (λ c. search needs)
     word-requires
     call-instance-requires
@@ -89,77 +94,59 @@ execute-spec =
     store-number-requires
     (λ c. search needs)
     store-number-requires-2
-    (λ c κs. three-inside _ _ _ (c .before .before .before .before .before .before .pre) _ (c .before .match .keys9) refl)
+    (λ c κs. three-inside _ _ _ (c .before .before .before .before .before .before .before .pre) _ (c .before .match .keys9) refl)
     (λ c κs. search typed)
-    (λ c. search typed)
     (λ c κs. search needs)
-    (λ c κs. three-inside _ _ _ (c .before .before .before .before .before .before .pre) _ (c .before .match .keys10) refl)
+    (λ c κs. three-inside _ _ _ (c .before .before .before .before .before .before .before .pre) _ (c .before .match .keys10) refl)
     (λ c κs. search typed)
-    (λ c. search typed)
     (λ c κs. search needs)
-    (λ c κs. three-inside _ _ _ (c .before .before .before .before .before .before .pre) _ (c .before .match .keys11) refl)
+    (λ c κs. three-inside _ _ _ (c .before .before .before .before .before .before .before .pre) _ (c .before .match .keys11) refl)
     (λ c κs. search typed)
-    (λ c. search typed)
     (λ c κs. search needs)
-    (λ c κs. three-inside _ _ _ (c .before .before .before .before .before .before .pre) _ (c .before .match .keys12) refl)
+    (λ c κs. three-inside _ _ _ (c .before .before .before .before .before .before .before .pre) _ (c .before .match .keys12) refl)
     (λ c κs. search typed)
-    (λ c. search typed)
     (λ c κs. search needs)
-    (λ c κs. three-inside _ _ _ (c .before .before .before .before .before .before .pre) _ (c .before .match .keys13) refl)
+    (λ c κs. three-inside _ _ _ (c .before .before .before .before .before .before .before .pre) _ (c .before .match .keys13) refl)
     (λ c κs. search typed)
-    (λ c. search typed)
     (λ c κs. search needs)
-    (λ c κs. three-inside _ _ _ (c .before .before .before .before .before .before .pre) _ (c .before .match .keys14) refl)
+    (λ c κs. three-inside _ _ _ (c .before .before .before .before .before .before .before .pre) _ (c .before .match .keys14) refl)
     (λ c κs. search typed)
-    (λ c. search typed)
     (λ c κs. search needs)
-    (λ c κs. three-inside _ _ _ (c .before .before .before .before .before .before .pre) _ (c .before .match .keys15) refl)
+    (λ c κs. three-inside _ _ _ (c .before .before .before .before .before .before .before .pre) _ (c .before .match .keys15) refl)
     (λ c κs. search typed)
-    (λ c. search typed)
     (λ c κs. search needs)
-    (λ c κs. three-inside _ _ _ (c .before .before .before .before .before .before .pre) _ (c .before .match .keys16) refl)
+    (λ c κs. three-inside _ _ _ (c .before .before .before .before .before .before .before .pre) _ (c .before .match .keys16) refl)
     (λ c κs. search typed)
-    (λ c. search typed)
     (λ c κs. search needs)
-    (λ c κs. three-inside _ _ _ (c .before .before .before .before .before .before .pre) _ (c .before .match .keys17) refl)
+    (λ c κs. three-inside _ _ _ (c .before .before .before .before .before .before .before .pre) _ (c .before .match .keys17) refl)
     (λ c κs. search typed)
-    (λ c. search typed)
     (λ c κs. search needs)
-    (λ c κs. three-inside _ _ _ (c .before .before .before .before .before .before .pre) _ (c .before .match .keys18) refl)
+    (λ c κs. three-inside _ _ _ (c .before .before .before .before .before .before .before .pre) _ (c .before .match .keys18) refl)
     (λ c κs. search typed)
-    (λ c. search typed)
     (λ c κs. search needs)
-    (λ c κs. three-inside _ _ _ (c .before .before .before .before .before .before .pre) _ (c .before .match .keys19) refl)
+    (λ c κs. three-inside _ _ _ (c .before .before .before .before .before .before .before .pre) _ (c .before .match .keys19) refl)
     (λ c κs. search typed)
-    (λ c. search typed)
     (λ c κs. search needs)
-    (λ c κs. three-inside _ _ _ (c .before .before .before .before .before .before .pre) _ (c .before .match .keys20) refl)
+    (λ c κs. three-inside _ _ _ (c .before .before .before .before .before .before .before .pre) _ (c .before .match .keys20) refl)
     (λ c κs. search typed)
-    (λ c. search typed)
     (λ c κs. search needs)
-    (λ c κs. three-inside _ _ _ (c .before .before .before .before .before .before .pre) _ (c .before .match .keys21) refl)
+    (λ c κs. three-inside _ _ _ (c .before .before .before .before .before .before .before .pre) _ (c .before .match .keys21) refl)
     (λ c κs. search typed)
-    (λ c. search typed)
     (λ c κs. search needs)
-    (λ c κs. three-inside _ _ _ (c .before .before .before .before .before .before .pre) _ (c .before .match .keys22) refl)
+    (λ c κs. three-inside _ _ _ (c .before .before .before .before .before .before .before .pre) _ (c .before .match .keys22) refl)
     (λ c κs. search typed)
-    (λ c. search typed)
     (λ c κs. search needs)
-    (λ c κs. three-inside _ _ _ (c .before .before .before .before .before .before .pre) _ (c .before .match .keys23) refl)
+    (λ c κs. three-inside _ _ _ (c .before .before .before .before .before .before .before .pre) _ (c .before .match .keys23) refl)
     (λ c κs. search typed)
-    (λ c. search typed)
     (λ c κs. search needs)
-    (λ c κs. three-inside _ _ _ (c .before .before .before .before .before .before .pre) _ (c .before .match .keys24) refl)
+    (λ c κs. three-inside _ _ _ (c .before .before .before .before .before .before .before .pre) _ (c .before .match .keys24) refl)
     (λ c κs. search typed)
-    (λ c. search typed)
     (λ c κs. search needs)
-    (λ c κs. three-inside _ _ _ (c .before .before .before .before .before .before .pre) _ (c .before .match .keys25) refl)
+    (λ c κs. three-inside _ _ _ (c .before .before .before .before .before .before .before .pre) _ (c .before .match .keys25) refl)
     (λ c κs. search typed)
-    (λ c. search typed)
     (λ c κs. search needs)
-    (λ c κs. three-inside _ _ _ (c .before .before .before .before .before .before .pre) _ (c .before .match .keys26) refl)
+    (λ c κs. three-inside _ _ _ (c .before .before .before .before .before .before .before .pre) _ (c .before .match .keys26) refl)
     (λ c κs. search typed)
-    (λ c. search typed)
     (λ c κs. search needs)
     convert-requires
     pack-requires
@@ -168,7 +155,7 @@ execute-spec =
     access-element-requires
     single-requires
     not-at-requires
-    add-outcome-19
+    add-outcome
     (λ c κs. search needs)
     returns
     returns-2
