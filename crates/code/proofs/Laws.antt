@@ -9,13 +9,16 @@ use borrow.Author.Tests.{ltb-true, leb-true, eqb-true, eqb-false, ne-eqb, lt-ltb
 use lib.Dec.{T, ltb, leb, eqb, eqb→eq, leb→le}
 use lib.ListN.{length, getD}
 use Rattle.verdict.specs.Verdict.{pick, both, either, within, upto}
-use Rattle.verdict.proofs.Verdict.{absurd-bool, by-pick, yes, no, below, both-true, unless-zero}
+use Rattle.verdict.proofs.Verdict.{absurd-bool, by-pick, skip, halt, yes, no, below, both-true, next-zero, next-none, unless-zero}
 use Rattle.memory.specs.Memory.{byte}
 use Rattle.values.specs.Types.{takes}
 use Rattle.code.specs.Commands.{three, layoutOf, lengthOf, known, Lengths}
 use Rattle.code.specs.Instructions.{typedAt, instructionAt, instructionLength}
 use Rattle.code.specs.Flow.{kind, goesOn, goesTo, kindOf}
+use Rattle.code.specs.Profiles.{carries}
 use Rattle.code.specs.Code.{operandsOk, instructionOk, instructionRefusal, acceptedLength, Sized}
+use Rattle.code.specs.declared.Profile.{Profile}
+use Rattle.code.specs.declared.Profile.the-variants.{Full, Small}
 use Rattle.code.specs.declared.Instruction.{Instruction}
 use Rattle.code.specs.declared.Instruction.the-variants.{Unknown}
 
@@ -201,9 +204,27 @@ whole c p z =
     let l = fixed-part c p in
     record { known = k; long = omega arith; fixed = omega arith; inside = i; listed = b .1 }
 
-pub accepted : (c : List ℕ) (p : ℕ) → instructionRefusal c p ≡ 0 → instructionOk c p ≡ true
+pub accepted : (o : Profile) (c : List ℕ) (p : ℕ) → instructionRefusal o c p ≡ 0 → instructionOk c p ≡ true
 unfolding instructionRefusal
-accepted c p z = unless-zero _ 5 z
+accepted o c p z = unless-zero _ 5 (next-zero _ _ z .0)
+
+-- the full profile is not the small one
+small : Profile → Bool
+small Full = false
+small Small = true
+
+pub full-small {ℓ} : {A : Type ℓ} → Full ≡ Small → A
+unfolding small
+full-small e = absurd-bool (ap small e)
+
+-- accepted and carried by the profile, or not carried
+pub carried-none : (o : Profile) (c : List ℕ) (p : ℕ) → instructionOk c p ≡ true → carries o (instructionAt c p) ≡ true → instructionRefusal o c p ≡ 0
+unfolding instructionRefusal
+carried-none o c p e h = next-none _ _ (yes _ 6 e) (yes _ 27 h)
+
+pub carried-not : (o : Profile) (c : List ℕ) (p : ℕ) → instructionOk c p ≡ true → carries o (instructionAt c p) ≡ false → 27 ≡ instructionRefusal o c p
+unfolding instructionRefusal
+carried-not o c p e h = skip (yes _ 6 e) (sym (no _ 27 h))
 
 -- ---- the length of an accepted instruction
 
@@ -276,21 +297,21 @@ typed-sized c p h n6 n27 o =
     eight e = go e (three (byte c p)) refl
 
 -- a length is an acceptance, no length a refusal
-pub length-taken : (c : List ℕ) (p n : ℕ) → n ≡ acceptedLength c p → (n ≡ 0 → ⊥) → (instructionRefusal c p ≡ 0) × (n ≡ instructionLength c p)
-unfolding acceptedLength instructionRefusal pick
+pub length-taken : (c : List ℕ) (p n : ℕ) → n ≡ acceptedLength c p → (n ≡ 0 → ⊥) → (instructionOk c p ≡ true) × (n ≡ instructionLength c p)
+unfolding acceptedLength pick
 length-taken c p n q nz = go (instructionOk c p) refl
   where
-    go : (b : Bool) → instructionOk c p ≡ b → (instructionRefusal c p ≡ 0) × (n ≡ instructionLength c p)
-    go true e = (yes _ 6 e, q ∙ rw e)
+    go : (b : Bool) → instructionOk c p ≡ b → (instructionOk c p ≡ true) × (n ≡ instructionLength c p)
+    go true e = (e, q ∙ rw e)
     go false e = absurd (nz (q ∙ rw e))
 
-pub length-refused : (c : List ℕ) (p n : ℕ) → n ≡ acceptedLength c p → n ≡ 0 → 6 ≡ instructionRefusal c p
+pub length-refused : (o : Profile) (c : List ℕ) (p n : ℕ) → n ≡ acceptedLength c p → n ≡ 0 → 6 ≡ instructionRefusal o c p
 unfolding acceptedLength instructionRefusal pick
-length-refused c p n q z = go (instructionOk c p) refl
+length-refused o c p n q z = go (instructionOk c p) refl
   where
-    go : (b : Bool) → instructionOk c p ≡ b → 6 ≡ instructionRefusal c p
+    go : (b : Bool) → instructionOk c p ≡ b → 6 ≡ instructionRefusal o c p
     go true e =
         let w = whole c p e in
         let i : n ≡ instructionLength c p = q ∙ rw e in
         absurd (let y : ⊥ = omega (arith, w .long) in y)
-    go false e = sym (no _ 6 e)
+    go false e = halt 5 _ (no _ 6 e)

@@ -14,8 +14,11 @@ use Rattle.verdict.specs.Verdict.{pick, either, next}
 use Rattle.verdict.proofs.Verdict.{absurd-bool, skip, stop, halt, no, next-zero, either-true, either-false}
 use Rattle.memory.specs.Memory.{byte}
 use Rattle.code.specs.Flow.{kind, goesTo, target, after}
-use Rattle.code.specs.Code.{instructionRefusal, laid, startFrom, isStart, allFrom, targetOk, lastFrom, acceptedLength, judgeCode, Asked, TargetAsked, Pass, AllMet}
-use Rattle.code.proofs.Laws.{whole, accepted, length-taken}
+use Rattle.code.specs.declared.Profile.{Profile}
+use Rattle.code.specs.Instructions.{instructionAt}
+use Rattle.code.specs.Profiles.{carries}
+use Rattle.code.specs.Code.{instructionRefusal, laid, startFrom, isStart, allFrom, targetOk, lastFrom, acceptedLength, judgeCodeFor, Asked, TargetAsked, Pass, AllMet}
+use Rattle.code.proofs.Laws.{whole, accepted, carried-none, length-taken}
 use Rattle.code.proofs.Passes.{laid-one, start-one, all-one, last-one, laid-end, start-end, all-end, last-end, start-here, start-beyond}
 use Rattle.code.proofs.Sound.{each-passes}
 
@@ -145,21 +148,21 @@ mark-one m p t r h = go (eqb p t) refl
 
 -- what is left to judge from p on is what was asked, and the map has the starts before p. Of the targets before p: if all targets are right, each place
 -- that is asked for is a start and none lies outside the map; if that is so, what is left of the targets is what was asked
-pub record Laying (c : List ℕ) (p last : ℕ) (outside : Bool) (m : List ℕ) : Type 0 where
+pub record Laying (o : Profile) (c : List ℕ) (p last : ℕ) (outside : Bool) (m : List ℕ) : Type 0 where
   pub left : ℕ
   pub inside : p ≤ length c
   pub enough : length c ≤ p + left
   pub size : length m ≡ 8192
-  pub laid-rest : laid (length c) c 0 ≡ laid left c p
+  pub laid-rest : laid o (length c) c 0 ≡ laid o left c p
   pub last-rest : lastFrom (length c) c 0 0 ≡ lastFrom left c p last
   pub start-rest : (t : ℕ) → isStart c t ≡ either (eqb (getD m t 0) 1) (startFrom left c p t)
   pub wanted : allFrom (targetOk c) (length c) c 0 ≡ true → (t : ℕ) → 2 ≤ getD m t 0 → isStart c t ≡ true
   pub near : allFrom (targetOk c) (length c) c 0 ≡ true → outside ≡ false
   pub target-rest : outside ≡ false → ((t : ℕ) → 2 ≤ getD m t 0 → isStart c t ≡ true) → allFrom (targetOk c) (length c) c 0 ≡ allFrom (targetOk c) left c p
 
-pub laying-none : (c m : List ℕ) → length m ≡ 8192 → ((t : ℕ) → getD m t 0 ≡ 0) → Laying c 0 0 false m
+pub laying-none : (o : Profile) (c m : List ℕ) → length m ≡ 8192 → ((t : ℕ) → getD m t 0 ≡ 0) → Laying o c 0 0 false m
 unfolding isStart
-laying-none c m e z =
+laying-none o c m e z =
     record {
       left = length c;
       inside = omega arith;
@@ -196,24 +199,24 @@ neither : (a b : Bool) → either a b ≡ false → (a ≡ false) × (b ≡ fals
 neither true b e = absurd-bool (sym e)
 neither false b e = (refl, e)
 
-laying-turn : (c : List ℕ) (p last : ℕ) (outside : Bool) (m : List ℕ) → length c ≤ 8192 → p < length c → instructionRefusal c p ≡ 0
+laying-turn : (o : Profile) (c : List ℕ) (p last : ℕ) (outside : Bool) (m : List ℕ) → length c ≤ 8192 → p < length c → instructionRefusal o c p ≡ 0
     → (r : Bool) (n : List ℕ) → Turned c p m r n → (k : ℕ)
-    → length c ≤ p + k → length m ≡ 8192 → laid (length c) c 0 ≡ laid k c p → lastFrom (length c) c 0 0 ≡ lastFrom k c p last
+    → length c ≤ p + k → length m ≡ 8192 → laid o (length c) c 0 ≡ laid o k c p → lastFrom (length c) c 0 0 ≡ lastFrom k c p last
     → ((t : ℕ) → isStart c t ≡ either (eqb (getD m t 0) 1) (startFrom k c p t))
     → (allFrom (targetOk c) (length c) c 0 ≡ true → (t : ℕ) → 2 ≤ getD m t 0 → isStart c t ≡ true)
     → (allFrom (targetOk c) (length c) c 0 ≡ true → outside ≡ false)
     → (outside ≡ false → ((t : ℕ) → 2 ≤ getD m t 0 → isStart c t ≡ true) → allFrom (targetOk c) (length c) c 0 ≡ allFrom (targetOk c) k c p)
-    → Laying c (after c p) (byte c p) (either r outside) (set n p 1)
+    → Laying o c (after c p) (byte c p) (either r outside) (set n p 1)
 unfolding next pick
-laying-turn c p last outside m b h z r n q zero e g l a s o i w = absurd (let y : ⊥ = omega arith in y)
-laying-turn c p last outside m b h z r n q (suc k) e g l a s o i w =
-    let d = whole c p (accepted c p z) in
+laying-turn x c p last outside m b h z r n q zero e g l a s o i w = absurd (let y : ⊥ = omega arith in y)
+laying-turn x c p last outside m b h z r n q (suc k) e g l a s o i w =
+    let d = whole c p (accepted x c p z) in
     record {
       left = k;
       inside = omega arith;
       enough = omega arith;
       size = length-set n p 1 ∙ q .size ∙ g;
-      laid-rest = l ∙ laid-one k c p h ∙ ap (λ (x : ℕ). next x (laid k c (after c p))) z;
+      laid-rest = l ∙ laid-one x k c p h ∙ ap (λ (y : ℕ). next y (laid x k c (after c p))) z;
       last-rest = a ∙ last-one k c p last h;
       start-rest = λ t.
           s t
@@ -235,19 +238,19 @@ laying-turn c p last outside m b h z r n q (suc k) e g l a s o i w =
     one t u = s t ∙ ap (λ (x : Bool). either x (startFrom (suc k) c p t)) (sym (q .starts t) ∙ eq-eqb _ _ u)
 
 -- with the length and the flag as the code has them
-pub laying-more : (c : List ℕ) (p last : ℕ) (outside : Bool) (m : List ℕ) → length c ≤ 8192 → Laying c p last outside m → p < length c
-    → (l : ℕ) → l ≡ acceptedLength c p → (l ≡ 0 → ⊥) → (r : Bool) (n : List ℕ) → TargetAsked c p m r n → (o : Bool) → o ≡ either r outside
-    → Laying c (p + l) (byte c p) o (set n p 1)
-laying-more c p last outside m b w h l e nz r n q o f =
+pub laying-more : (x : Profile) (c : List ℕ) (p last : ℕ) (outside : Bool) (m : List ℕ) → length c ≤ 8192 → Laying x c p last outside m → p < length c
+    → (l : ℕ) → l ≡ acceptedLength c p → (l ≡ 0 → ⊥) → carries x (instructionAt c p) ≡ true → (r : Bool) (n : List ℕ) → TargetAsked c p m r n → (o : Bool) → o ≡ either r outside
+    → Laying x c (p + l) (byte c p) o (set n p 1)
+laying-more x c p last outside m b w h l e nz y r n q o f =
     let t = length-taken c p l e nz in
     rw (t .1, f)
-    (laying-turn c p last outside m b h (t .0) r n (turned c p m r n (omega (arith, w .size)) q)
+    (laying-turn x c p last outside m b h (carried-none x c p (t .0) y) r n (turned c p m r n (omega (arith, w .size)) q)
     (w .left) (w .enough) (w .size) (w .laid-rest) (w .last-rest) (w .start-rest) (w .wanted) (w .near) (w .target-rest))
 
-pub laying-end : (c : List ℕ) (p last : ℕ) (outside : Bool) (m : List ℕ) → Laying c p last outside m → length c ≤ p → Pass c 0 last outside m
-laying-end c p last outside m r h =
+pub laying-end : (x : Profile) (c : List ℕ) (p last : ℕ) (outside : Bool) (m : List ℕ) → Laying x c p last outside m → length c ≤ p → Pass x c 0 last outside m
+laying-end x c p last outside m r h =
     record {
-      right = sym (r .laid-rest ∙ laid-end (r .left) c p h);
+      right = sym (r .laid-rest ∙ laid-end x (r .left) c p h);
       size = r .size;
       marked = λ _. marks;
       latest = λ _. sym (r .last-rest ∙ last-end (r .left) c p last h);
@@ -266,15 +269,15 @@ laying-end c p last outside m r h =
         let y : getD m t 0 ≡ 1 = eqb-true _ _ (marks t ∙ r .wanted a t x) in
         omega arith
 
-laid-stop : (k : ℕ) (c : List ℕ) (p r : ℕ) → length c ≤ p + k → p < length c → r ≡ instructionRefusal c p → (r ≡ 0 → ⊥) → r ≡ laid k c p
-laid-stop zero c p r e h q nz = absurd (let x : ⊥ = omega arith in x)
-laid-stop (suc k) c p r e h q nz = stop _ q nz ∙ sym (laid-one k c p h)
+laid-stop : (o : Profile) (k : ℕ) (c : List ℕ) (p r : ℕ) → length c ≤ p + k → p < length c → r ≡ instructionRefusal o c p → (r ≡ 0 → ⊥) → r ≡ laid o k c p
+laid-stop o zero c p r e h q nz = absurd (let x : ⊥ = omega arith in x)
+laid-stop o (suc k) c p r e h q nz = stop _ q nz ∙ sym (laid-one o k c p h)
 
-pub laying-stop : (c : List ℕ) (p last r : ℕ) (outside : Bool) (m : List ℕ) → Laying c p last outside m → p < length c → r ≡ instructionRefusal c p
-    → (r ≡ 0 → ⊥) → Pass c r last outside m
-laying-stop c p last r outside m w h q nz =
+pub laying-stop : (x : Profile) (c : List ℕ) (p last r : ℕ) (outside : Bool) (m : List ℕ) → Laying x c p last outside m → p < length c → r ≡ instructionRefusal x c p
+    → (r ≡ 0 → ⊥) → Pass x c r last outside m
+laying-stop x c p last r outside m w h q nz =
     record {
-      right = laid-stop (w .left) c p r (w .enough) h q nz ∙ sym (w .laid-rest);
+      right = laid-stop x (w .left) c p r (w .enough) h q nz ∙ sym (w .laid-rest);
       size = w .size;
       marked = λ z. absurd (nz z);
       latest = λ z. absurd (nz z);
@@ -289,27 +292,27 @@ never : (b x : Bool) → (b ≡ true → x ≡ false) → x ≡ true → b ≡ f
 never true x f e = absurd-bool (sym (f refl) ∙ e)
 never false x f e = refl
 
-pub targets-outside : (c : List ℕ) (r l : ℕ) (o : Bool) (m : List ℕ) → Pass c r l o m → r ≡ 0 → o ≡ true → allFrom (targetOk c) (length c) c 0 ≡ false
+pub targets-outside : {x : Profile} (c : List ℕ) (r l : ℕ) (o : Bool) (m : List ℕ) → Pass x c r l o m → r ≡ 0 → o ≡ true → allFrom (targetOk c) (length c) c 0 ≡ false
 targets-outside c r l o m p z e = never _ o (p .inside z) e
 
-pub targets-wanted : (c : List ℕ) (r l : ℕ) (o : Bool) (m : List ℕ) (x : Bool) → Pass c r l o m → r ≡ 0 → AllMet m x → x ≡ false
+pub targets-wanted : {y : Profile} (c : List ℕ) (r l : ℕ) (o : Bool) (m : List ℕ) (x : Bool) → Pass y c r l o m → r ≡ 0 → AllMet m x → x ≡ false
     → allFrom (targetOk c) (length c) c 0 ≡ false
 targets-wanted c r l o m x p z a e = never _ true (λ t. sym (a .high (p .closed z t)) ∙ e) refl
 
-pub targets-right : (c : List ℕ) (r l : ℕ) (o : Bool) (m : List ℕ) (x : Bool) → Pass c r l o m → r ≡ 0 → o ≡ false → AllMet m x → x ≡ true
+pub targets-right : {y : Profile} (c : List ℕ) (r l : ℕ) (o : Bool) (m : List ℕ) (x : Bool) → Pass y c r l o m → r ≡ 0 → o ≡ false → AllMet m x → x ≡ true
     → allFrom (targetOk c) (length c) c 0 ≡ true
 targets-right c r l o m x p z f a e = p .met z f (a .low e)
 
 -- the instructions come before the targets outside the map
-module _ (c : List ℕ) (r l : ℕ) (o : Bool) (m : List ℕ) (p : Pass c r l o m) (x y : ℕ) (e : x ≡ pick o 7 0) (d : y ≡ next r x) where
-  pub first-refused : (y ≡ 0 → ⊥) → y ≡ judgeCode c
-  unfolding judgeCode pick next
+module _ {z : Profile} (c : List ℕ) (r l : ℕ) (o : Bool) (m : List ℕ) (p : Pass z c r l o m) (x y : ℕ) (e : x ≡ pick o 7 0) (d : y ≡ next r x) where
+  pub first-refused : (y ≡ 0 → ⊥) → y ≡ judgeCodeFor z c
+  unfolding judgeCodeFor pick next
   first-refused nz = go r refl o refl
     where
-      go : (n : ℕ) → r ≡ n → (b : Bool) → o ≡ b → y ≡ judgeCode c
-      go zero z true f = d ∙ rw (z, e, f) (skip (sym (p .right) ∙ z) (halt 6 _ (no _ _ (targets-outside c r l o m p z f))))
-      go zero z false f = absurd (nz (d ∙ rw (z, e, f)))
-      go (suc n) z b f = d ∙ rw z (halt n _ (sym (p .right) ∙ z))
+      go : (n : ℕ) → r ≡ n → (b : Bool) → o ≡ b → y ≡ judgeCodeFor z c
+      go zero i true f = d ∙ rw (i, e, f) (skip (sym (p .right) ∙ i) (halt 6 _ (no _ _ (targets-outside c r l o m p i f))))
+      go zero i false f = absurd (nz (d ∙ rw (i, e, f)))
+      go (suc n) i b f = d ∙ rw i (halt n _ (sym (p .right) ∙ i))
 
   pub first-none : y ≡ 0 → (r ≡ 0) × (o ≡ false)
   unfolding pick next

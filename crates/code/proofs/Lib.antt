@@ -3,5 +3,6 @@ pub mod Passes
 pub mod Sound
 pub mod Laying
 pub mod Rules
+pub mod Types
 pub mod Exact
 pub mod Parts

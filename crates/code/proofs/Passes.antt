@@ -9,20 +9,23 @@ use borrow.Author.Tests.{lt-ltb, le-ltb, ne-eqb, eq-eqb, ltb-true}
 use lib.Dec.{ltb, eqb}
 use lib.ListN.{length}
 use Rattle.verdict.specs.Verdict.{pick, next}
-use Rattle.verdict.proofs.Verdict.{next-zero}
+use Rattle.verdict.proofs.Verdict.{next-zero, next-none}
 use Rattle.memory.specs.Memory.{byte}
 use Rattle.code.specs.Instructions.{instructionLength}
 use Rattle.code.specs.Flow.{after}
+use Rattle.code.specs.declared.Profile.{Profile}
+use Rattle.code.specs.declared.Profile.the-variants.{Full}
 use Rattle.code.specs.Code.{instructionRefusal, laid, startFrom, isStart, allFrom, lastFrom}
+use Rattle.code.proofs.Laws.{accepted, carried-none}
 
 -- ---- one instruction of a walk
 
-pub laid-one : (k : ℕ) (c : List ℕ) (p : ℕ) → p < length c → laid (suc k) c p ≡ next (instructionRefusal c p) (laid k c (after c p))
+pub laid-one : (o : Profile) (k : ℕ) (c : List ℕ) (p : ℕ) → p < length c → laid o (suc k) c p ≡ next (instructionRefusal o c p) (laid o k c (after c p))
 unfolding laid pick
-laid-one k c p h = rw (lt-ltb _ _ h)
+laid-one o k c p h = rw (lt-ltb _ _ h)
 
-pub laid-both : (k : ℕ) (c : List ℕ) (p : ℕ) → p < length c → laid (suc k) c p ≡ 0 → (instructionRefusal c p ≡ 0) × (laid k c (after c p) ≡ 0)
-laid-both k c p h z = next-zero _ _ (sym (laid-one k c p h) ∙ z)
+pub laid-both : (o : Profile) (k : ℕ) (c : List ℕ) (p : ℕ) → p < length c → laid o (suc k) c p ≡ 0 → (instructionRefusal o c p ≡ 0) × (laid o k c (after c p) ≡ 0)
+laid-both o k c p h z = next-zero _ _ (sym (laid-one o k c p h) ∙ z)
 
 pub start-one : (k : ℕ) (c : List ℕ) (p t : ℕ) → p < length c → startFrom (suc k) c p t ≡ pick (eqb p t) true (startFrom k c (after c p) t)
 unfolding startFrom pick
@@ -37,10 +40,10 @@ unfolding lastFrom pick
 last-one k c p code h = rw (lt-ltb _ _ h)
 
 -- at the end of the code nothing is left
-pub laid-end : (k : ℕ) (c : List ℕ) (p : ℕ) → length c ≤ p → laid k c p ≡ 0
+pub laid-end : (o : Profile) (k : ℕ) (c : List ℕ) (p : ℕ) → length c ≤ p → laid o k c p ≡ 0
 unfolding laid pick
-laid-end zero c p h = refl
-laid-end (suc k) c p h = simp (le-ltb _ _ h)
+laid-end o zero c p h = refl
+laid-end o (suc k) c p h = simp (le-ltb _ _ h)
 
 pub start-end : (k : ℕ) (c : List ℕ) (p t : ℕ) → length c ≤ p → startFrom k c p t ≡ false
 unfolding startFrom pick
@@ -56,6 +59,18 @@ pub last-end : (k : ℕ) (c : List ℕ) (p code : ℕ) → length c ≤ p → la
 unfolding lastFrom pick
 last-end zero c p code h = refl
 last-end (suc k) c p code h = simp (le-ltb _ _ h)
+
+-- what one profile accepts the full one accepts
+pub laid-full : (o : Profile) (k : ℕ) (c : List ℕ) (p : ℕ) → laid o k c p ≡ 0 → laid Full k c p ≡ 0
+unfolding laid pick
+laid-full o zero c p z = refl
+laid-full o (suc k) c p z = go (laid-full o k c (after c p)) (ltb p (length c)) refl
+  where
+    go : (laid o k c (after c p) ≡ 0 → laid Full k c (after c p) ≡ 0) → (b : Bool) → ltb p (length c) ≡ b → laid Full (suc k) c p ≡ 0
+    go ih true e =
+        let a = laid-both o k c p (ltb-true _ _ e) z in
+        rw e (next-none _ _ (carried-none Full c p (accepted o c p (a .0)) refl) (ih (a .1)))
+    go ih false e = rw e
 
 -- ---- the way to one place, of any code
 

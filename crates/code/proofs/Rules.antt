@@ -23,7 +23,7 @@ use Rattle.code.proofs.Laws.{is, same, same-is, Whole, whole, typed-tak
 
 -- ---- code bytes
 
-either-way : {P : Type 0} (a b : Bool) → either a b ≡ true → (a ≡ true → P) → (b ≡ true → P) → P
+pub either-way : {P : Type 0} (a b : Bool) → either a b ≡ true → (a ≡ true → P) → (b ≡ true → P) → P
 either-way true b e f g = f refl
 either-way false b e f g = g e
 
@@ -52,7 +52,7 @@ low code =
     (λ e. by-pick P _ _ _ (λ e h. omega (arith, inside-true 44 45 code e))
     (λ e h. absurd (let y : ⊥ = omega arith in y))))))))))))))
 
-known-low : (code : ℕ) → known code ≡ true → code < 46
+pub known-low : (code : ℕ) → known code ≡ true → code < 46
 known-low code e =
     either-way (within 0 9 code) _ e (λ a. omega (arith, inside-true 0 9 code a))
     (λ d. either-way (within 16 20 code) _ d (λ a. omega (arith, inside-true 16 20 code a))
@@ -278,7 +278,7 @@ module _ (c : List ℕ) (p : ℕ) where
   packed-kept : InstructionRules c p → From 44 45 (byte c p) → operandsOk (instructionAt c p) ≡ true
   packed-kept r h = packed-listed h ∙ shift-even (byte c (p + 1)) (r .packed-type h)
 
-  past : (k : ℕ) → k ≤ byte c p → (byte c p ≡ k → ⊥) → k + 1 ≤ byte c p
+  pub past : (k : ℕ) → k ≤ byte c p → (byte c p ≡ k → ⊥) → k + 1 ≤ byte c p
   past k h n = omega arith
 
   last-two : within 41 45 (byte c p) ≡ true → (byte c p ≡ 41 → ⊥) → (byte c p ≡ 42 → ⊥) → (byte c p ≡ 43 → ⊥) → From 44 45 (byte c p)

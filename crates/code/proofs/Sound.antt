@@ -13,7 +13,9 @@ use Rattle.verdict.specs.Verdict.{pick, next, unless}
 use Rattle.verdict.proofs.Verdict.{absurd-bool, next-zero, unless-zero}
 use Rattle.memory.specs.Memory.{byte}
 use Rattle.code.specs.Flow.{kind, goesOn, goesTo, target, after}
-use Rattle.code.specs.Code.{instructionOk, instructionRefusal, laid, startFrom, isStart, allFrom, targetOk, lastFrom, ends, judgeCode}
+use Rattle.code.specs.declared.Profile.{Profile}
+use Rattle.code.specs.declared.Profile.the-variants.{Full}
+use Rattle.code.specs.Code.{instructionOk, instructionRefusal, laid, startFrom, isStart, allFrom, targetOk, lastFrom, ends, judgeCodeFor, judgeCode}
 use Rattle.code.proofs.Laws.{Whole, whole, accepted, high}
 use Rattle.code.proofs.Passes.{laid-both, start-one, all-one, last-one, last-end, start-here, start-beyond}
 
@@ -58,11 +60,11 @@ inside-code c p w = go (ltb p (length c)) refl
     go false e = absurd-bool (sym (start-beyond c p (ltb-false _ _ e)) ∙ w)
 
 -- each instruction of laid code is accepted
-pub each-ok : (c : List ℕ) (p : ℕ) → laid (length c) c 0 ≡ 0 → isStart c p ≡ true → instructionOk c p ≡ true
+pub each-ok : (c : List ℕ) (p : ℕ) → laid Full (length c) c 0 ≡ 0 → isStart c p ≡ true → instructionOk c p ≡ true
 unfolding isStart
 each-ok c p l w =
-    accepted c p
-    (each c (λ q. instructionRefusal c q ≡ 0) (λ k q. laid k c q ≡ 0) (λ k q h z. laid-both k c q h z) (length c) 0 p l w)
+    accepted Full c p
+    (each c (λ q. instructionRefusal Full c q ≡ 0) (λ k q. laid Full k c q ≡ 0) (λ k q h z. laid-both Full k c q h z) (length c) 0 p l w)
 
 chain-true : (t r : Bool) → pick t r false ≡ true → (t ≡ true) × (r ≡ true)
 unfolding pick
@@ -82,7 +84,7 @@ unfolding pick
 pick-true true r e = refl
 pick-true false r e = e
 
-start-next : (k : ℕ) (c : List ℕ) (q p : ℕ) → length c ≤ q + k → laid k c q ≡ 0 → startFrom k c q p ≡ true → after c p < length c
+start-next : (k : ℕ) (c : List ℕ) (q p : ℕ) → length c ≤ q + k → laid Full k c q ≡ 0 → startFrom k c q p ≡ true → after c p < length c
     → startFrom k c q (after c p) ≡ true
 unfolding startFrom
 start-next zero c q p e l w h = absurd-bool w
@@ -92,11 +94,11 @@ start-next (suc k) c q p e l w h =
     inside : q < length c
     inside = start-inside k c q p w
 
-    a : (instructionRefusal c q ≡ 0) × (laid k c (after c q) ≡ 0)
-    a = laid-both k c q inside l
+    a : (instructionRefusal Full c q ≡ 0) × (laid Full k c (after c q) ≡ 0)
+    a = laid-both Full k c q inside l
 
     here : Whole c q
-    here = whole c q (accepted c q (a .0))
+    here = whole c q (accepted Full c q (a .0))
 
     go : (startFrom k c (after c q) p ≡ true → after c p < length c → startFrom k c (after c q) (after c p) ≡ true)
         → (b : Bool) → eqb q p ≡ b → startFrom (suc k) c q (after c p) ≡ true
@@ -111,11 +113,11 @@ start-next (suc k) c q p e l w h =
         ∙ pick-true (eqb q (after c p)) (startFrom k c (after c q) (after c p)) (ih (later k c q p inside eb w) h)
 
 -- after an instruction that does not end the code, the next one starts
-pub next-starts : (c : List ℕ) (p : ℕ) → laid (length c) c 0 ≡ 0 → isStart c p ≡ true → after c p < length c → isStart c (after c p) ≡ true
+pub next-starts : (c : List ℕ) (p : ℕ) → laid Full (length c) c 0 ≡ 0 → isStart c p ≡ true → after c p < length c → isStart c (after c p) ≡ true
 unfolding isStart
 next-starts c p l w h = start-next (length c) c 0 p (omega arith) l w h
 
-last-is : (k : ℕ) (c : List ℕ) (q p code : ℕ) → length c ≤ q + k → laid k c q ≡ 0 → startFrom k c q p ≡ true → length c ≤ after c p
+last-is : (k : ℕ) (c : List ℕ) (q p code : ℕ) → length c ≤ q + k → laid Full k c q ≡ 0 → startFrom k c q p ≡ true → length c ≤ after c p
     → lastFrom k c q code ≡ byte c p
 unfolding startFrom
 last-is zero c q p code e l w h = absurd-bool w
@@ -125,11 +127,11 @@ last-is (suc k) c q p code e l w h =
     inside : q < length c
     inside = start-inside k c q p w
 
-    a : (instructionRefusal c q ≡ 0) × (laid k c (after c q) ≡ 0)
-    a = laid-both k c q inside l
+    a : (instructionRefusal Full c q ≡ 0) × (laid Full k c (after c q) ≡ 0)
+    a = laid-both Full k c q inside l
 
     here : Whole c q
-    here = whole c q (accepted c q (a .0))
+    here = whole c q (accepted Full c q (a .0))
 
     go : (startFrom k c (after c q) p ≡ true → length c ≤ after c p → lastFrom k c (after c q) (byte c q) ≡ byte c p)
         → (b : Bool) → eqb q p ≡ b → lastFrom k c (after c q) (byte c q) ≡ byte c p
@@ -139,11 +141,11 @@ last-is (suc k) c q p code e l w h =
     go ih false eb = ih (later k c q p inside eb w) h
 
 -- the instruction that ends the code is the last one
-pub end-is-last : (c : List ℕ) (p : ℕ) → laid (length c) c 0 ≡ 0 → isStart c p ≡ true → length c ≤ after c p → lastFrom (length c) c 0 0 ≡ byte c p
+pub end-is-last : (c : List ℕ) (p : ℕ) → laid Full (length c) c 0 ≡ 0 → isStart c p ≡ true → length c ≤ after c p → lastFrom (length c) c 0 0 ≡ byte c p
 unfolding isStart
 end-is-last c p l w h = last-is (length c) c 0 p 0 (omega arith) l w h
 
--- ---- what a machine that runs accepted code rests on
+-- ---- what a machine that runs accepted Full code rests on
 
 -- of a place where an instruction starts: the instruction is known and whole, its operands lie on their lists, and control goes to a start
 pub record Sound (c : List ℕ) (p : ℕ) : Type 0 where
@@ -152,18 +154,21 @@ pub record Sound (c : List ℕ) (p : ℕ) : Type 0 where
   pub onward : goesOn (kind c p) ≡ true → isStart c (after c p) ≡ true
   pub there : goesTo (kind c p) ≡ true → isStart c (target c p) ≡ true
 
--- the three judgements of accepted code
-pub record Judged (c : List ℕ) : Type 0 where
-  pub all-laid : laid (length c) c 0 ≡ 0
+-- the three judgements of code that a profile accepts
+pub record Judged (o : Profile) (c : List ℕ) : Type 0 where
+  pub all-laid : laid o (length c) c 0 ≡ 0
   pub targets : allFrom (targetOk c) (length c) c 0 ≡ true
   pub last : lastFrom (length c) c 0 0 < 2
 
-pub judged : (c : List ℕ) → judgeCode c ≡ 0 → Judged c
-unfolding judgeCode
-judged c z =
-    let a = next-zero (laid (length c) c 0) _ z in
+pub judged-for : (o : Profile) (c : List ℕ) → judgeCodeFor o c ≡ 0 → Judged o c
+unfolding judgeCodeFor
+judged-for o c z =
+    let a = next-zero (laid o (length c) c 0) _ z in
     let b = next-zero (unless (allFrom (targetOk c) (length c) c 0) 7) _ (a .1) in
     record { all-laid = a .0; targets = unless-zero _ 6 (b .0); last = ltb-true _ _ (unless-zero (ends (lastFrom (length c) c 0 0)) 6 (b .1)) }
+
+pub judged : (c : List ℕ) → judgeCode c ≡ 0 → Judged Full c
+judged c z = judged-for Full c z
 
 pub start-zero : (c : List ℕ) → 0 < length c → isStart c 0 ≡ true
 unfolding isStart
@@ -176,7 +181,7 @@ target-starts c p t o = rw o at t
 pub sound : (c : List ℕ) (p : ℕ) → judgeCode c ≡ 0 → isStart c p ≡ true → Sound c p
 sound c p z w = record { inside = inside-code c p w; here = here; onward = onward; there = there }
   where
-    j : Judged c
+    j : Judged Full c
     j = judged c z
 
     here : Whole c p

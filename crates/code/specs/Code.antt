@@ -1,4 +1,5 @@
--- Document 01, the code of one core: which instructions are refused (6), where instructions start, which targets and which end are refused (7).
+-- Document 01, the code of one core: which instructions are refused (6; 27 by the profile, document 02, 2.10), where instructions start, which targets and
+-- which end are refused (7).
 -- In order: one instruction; instructions laid end to end; targets and the last instruction; the judgement.
 use Prim.Native.Nat.{ℕ, zero, suc, _+_, _%_, _≤_, _<_}
 use mathlib.Core.Path.{_≡_}
@@ -13,6 +14,9 @@ use Rattle.values.specs.Types.{takes}
 use Rattle.code.specs.Commands.{lengthOf}
 use Rattle.code.specs.Instructions.{instructionAt, instructionLength}
 use Rattle.code.specs.Flow.{kind, goesTo, target, after}
+use Rattle.code.specs.Profiles.{carries}
+use Rattle.code.specs.declared.Profile.{Profile}
+use Rattle.code.specs.declared.Profile.the-variants.{Full}
 use Rattle.code.specs.declared.Instruction.{Instruction}
 use Rattle.code.specs.declared.Instruction.the-variants.{Return, Jump, JumpZero, JumpNotZero, CallInstance, CallFunction, MoveConstant, CopyMemory, ReadElement, WriteElement, Typed, CycleTime, FlagByte, Convert, Pack, Unpack, Unknown}
 
@@ -59,8 +63,9 @@ unfoldable pub instructionOk : List ℕ → ℕ → Bool
 instructionOk c p =
     both (ltb 0 (lengthOf (byte c p))) (both (leb (p + instructionLength c p) (length c)) (operandsOk (instructionAt c p)))
 
-unfoldable pub instructionRefusal : List ℕ → ℕ → ℕ
-instructionRefusal c p = unless (instructionOk c p) 6
+-- 6, and right after it what the profile does not carry
+unfoldable pub instructionRefusal : Profile → List ℕ → ℕ → ℕ
+instructionRefusal profile c p = next (unless (instructionOk c p) 6) (unless (carries profile (instructionAt c p)) 27)
 
 -- the length of an accepted instruction, 0 where it is refused
 unfoldable pub acceptedLength : List ℕ → ℕ → ℕ
@@ -74,9 +79,9 @@ pub record Sized (c : List ℕ) (p n : ℕ) : Type 0 where
 -- ---- instructions laid end to end. In what follows the number k bounds the instructions still to come.
 
 -- the first refusal of the instructions from p on
-unfoldable pub laid : ℕ → List ℕ → ℕ → ℕ
-laid zero c p = 0
-laid (suc k) c p = pick (ltb p (length c)) (next (instructionRefusal c p) (laid k c (after c p))) 0
+unfoldable pub laid : Profile → ℕ → List ℕ → ℕ → ℕ
+laid profile zero c p = 0
+laid profile (suc k) c p = pick (ltb p (length c)) (next (instructionRefusal profile c p) (laid profile k c (after c p))) 0
 
 -- t is one of the places from p on at which an instruction starts
 unfoldable pub startFrom : ℕ → List ℕ → ℕ → ℕ → Bool
@@ -108,10 +113,14 @@ ends code = ltb code 2
 
 -- ---- the judgement: all instructions before any target
 
-unfoldable pub judgeCode : List ℕ → ℕ
-judgeCode c =
-    next (laid (length c) c 0)
+unfoldable pub judgeCodeFor : Profile → List ℕ → ℕ
+judgeCodeFor profile c =
+    next (laid profile (length c) c 0)
     (next (unless (allFrom (targetOk c) (length c) c 0) 7) (unless (ends (lastFrom (length c) c 0 0)) 7))
+
+-- under the full profile
+abbrev pub judgeCode : List ℕ → ℕ
+judgeCode c = judgeCodeFor Full c
 
 -- what a map of starts says: 1 exactly where an instruction starts
 abbrev pub Marked : List ℕ → List ℕ → Type 0
@@ -133,8 +142,8 @@ pub record TargetAsked (c : List ℕ) (p : ℕ) (m : List ℕ) (outside : Bool) 
 
 -- what a pass over the instructions finds: their refusal, and if there is none the map of starts, the last code byte, and the targets:
 -- all are right where none lies outside the map and none is still asked for, and only there
-pub record Pass (c : List ℕ) (refusal last : ℕ) (outside : Bool) (marks : List ℕ) : Type 0 where
-  pub right : refusal ≡ laid (length c) c 0
+pub record Pass (profile : Profile) (c : List ℕ) (refusal last : ℕ) (outside : Bool) (marks : List ℕ) : Type 0 where
+  pub right : refusal ≡ laid profile (length c) c 0
   pub size : length marks ≡ 8192
   pub marked : refusal ≡ 0 → Marked c marks
   pub latest : refusal ≡ 0 → last ≡ lastFrom (length c) c 0 0

@@ -1,5 +1,6 @@
 pub mod Commands
 pub mod Instructions
 pub mod Flow
+pub mod Profiles
 pub mod Code
 pub mod Rules

@@ -12,6 +12,8 @@ use Rattle.verdict.specs.Items.{From, OneOf, Item, item, forEach}
 use Rattle.memory.specs.Memory.{byte, word}
 use Rattle.code.specs.Commands.{known}
 use Rattle.code.specs.Flow.{after}
+use Rattle.code.specs.declared.Profile.{Profile}
+use Rattle.code.specs.declared.Profile.the-variants.{Full, Small}
 
 -- ---- one instruction
 
@@ -37,6 +39,17 @@ pub record InstructionRules (c : List ℕ) (p : ℕ) : Type 0 where
   -- "each with a type byte (2, 4, 6 or 8)", "Another type byte gives 6." (document 02, 2.8)
   pub packed-type : From 44 45 (byte c p) → OneOf (2 ∷ 4 ∷ 6 ∷ 8 ∷ []) (byte c (p + 1))
   pub uncut : after c p ≤ length c
+
+-- the types that the instruction at p names: the type byte of a typed command, both of 43, that of 44 and 45 (document 02, 2.10)
+pub data Names (c : List ℕ) (p : ℕ) : ℕ → Type 0 where
+  typed : From 16 37 (byte c p) → Names c p (byte c (p + 1))
+  converts-from : byte c p ≡ 43 → Names c p (byte c (p + 1))
+  converts-to : byte c p ≡ 43 → Names c p (byte c (p + 2))
+  packs : From 44 45 (byte c p) → Names c p (byte c (p + 1))
+
+-- refusal 27: "no instruction naming types 7 to 10"
+abbrev pub NoWide : List ℕ → ℕ → Type 0
+NoWide c p = (type : ℕ) → Names c p type → From 7 10 type → ⊥
 
 -- "JMP T; JZ addr T; JNZ addr T", "CALB instance T; CALF T": the T of the instruction at p
 pub data Target (c : List ℕ) (p : ℕ) : ℕ → Type 0 where
@@ -71,14 +84,29 @@ Targets c = (p t : ℕ) → Start c p → Target c p t → Start c t
 abbrev pub Last : List ℕ → Type 0
 Last c = (p : ℕ) → Start c p → after c p ≡ length c → OneOf (0 ∷ 1 ∷ []) (byte c p)
 
-pub record WellFormedCode (c : List ℕ) : Type 0 where
+-- under the small profile, "no instruction naming types 7 to 10"
+abbrev pub Carried : Profile → List ℕ → Type 0
+Carried profile c = profile ≡ Small → (p : ℕ) → Start c p → NoWide c p
+
+pub record WellFormedCodeFor (profile : Profile) (c : List ℕ) : Type 0 where
   pub instructions : Instructions c
+  pub carried : Carried profile c
   pub targets : Targets c
   pub last : Last c
 
--- ---- the items, in the order in which they are judged: "targets follow that core's instructions"
+abbrev pub WellFormedCode : List ℕ → Type 0
+WellFormedCode c = WellFormedCodeFor Full c
 
-unfoldable pub codeItems : List ℕ → List Item
-codeItems c =
-    forEach (startsFrom (length c) c 0) (λ p. item 6 (InstructionRules c p) ∷ [])
+-- ---- the items, in the order in which they are judged: "targets follow that core's instructions"; 27 "at its instruction right after 6"
+
+abbrev pub typeItems : Profile → List ℕ → ℕ → List Item
+typeItems Full c p = []
+typeItems Small c p = item 27 (NoWide c p) ∷ []
+
+unfoldable pub codeItemsFor : Profile → List ℕ → List Item
+codeItemsFor profile c =
+    forEach (startsFrom (length c) c 0) (λ p. item 6 (InstructionRules c p) ∷ typeItems profile c p)
     ++ (item 7 (Targets c) ∷ item 7 (Last c) ∷ [])
+
+abbrev pub codeItems : List ℕ → List Item
+codeItems c = codeItemsFor Full c

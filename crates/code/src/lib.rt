@@ -1,5 +1,5 @@
-// Document 01, "Types and commands": the instruction set, and the judging of one core's code: instructions laid end to end (refusal 6),
-// targets and the last instruction (7).
+// Document 01, "Types and commands": the instruction set, and the judging of one core's code: instructions laid end to end (refusal 6), each of them
+// carried by the profile (27, document 02, 2.10), targets and the last instruction (7).
 ghost use mathlib.Core.Path.{_≡_};
 ghost use mathlib.Core.Bool.{true};
 ghost use Prim.Native.Nat.{ℕ, _+_, _<_, _≤_};
@@ -9,7 +9,8 @@ ghost use Rattle.memory.specs.Memory.{byte, readLE};
 ghost use Rattle.values.specs.Types.{takes};
 ghost use Rattle.code.specs.Commands.{three, lengthOf, Lengths};
 ghost use Rattle.code.specs.Instructions.{instructionAt, instructionLength, typedAt};
-ghost use Rattle.code.specs.Code.{isWidth, elementOk, convertible, packable, operandsOk, acceptedLength, Sized, isStart, judgeCode, Marked, Asked, TargetAsked, Pass, AllMet};
+ghost use Rattle.code.specs.Profiles.{wide, carries};
+ghost use Rattle.code.specs.Code.{isWidth, elementOk, convertible, packable, operandsOk, instructionOk, acceptedLength, Sized, isStart, judgeCode, judgeCodeFor, Marked, Asked, TargetAsked, Pass, AllMet};
 
 // "Each of the 256 code bytes has its instruction length in one table, 0 where unknown; MCD adds n."
 pub const LENGTHS: [u8; 256] = [
@@ -318,6 +319,12 @@ pub fn word(s: &[u8], place: usize) -> u16
     let low = s[place] as u16;
     let high = s[place + 1] as u16;
     low + 256 * high
+}
+
+// What the machine that loads a file carries: all of document 01, or data of 1,024 bytes at most, no 64-bit numbers and no floats.
+pub enum Profile {
+    Full,
+    Small,
 }
 
 // ---- decoding
@@ -646,6 +653,46 @@ pub fn accepted_length(code: &[u8], p: usize) -> usize
     }
 }
 
+// ---- one instruction, by the profile
+
+// LINT, LWORD, REAL and LREAL.
+fn is_wide(t: u8) -> bool
+    ensures { λ r. ⌜ r ≡ wide t ⌝ }
+{
+    inside(7, 10, t)
+}
+
+// Whether the small profile carries the accepted instruction at p.
+fn is_small(code: &[u8], p: usize) -> bool
+    requires { ⌜ (p < length (now code)) × (instructionOk (now code) p ≡ true) ⌝ }
+    ensures { λ r. ⌜ r ≡ carries Profile.Small (instructionAt (now (code .entry)) p) ⌝ }
+{
+    let b = code[p];
+    if b < 16 {
+        return true; // no command before ADD names a type
+    }
+    if inside(41, 42, b) {
+        return true; // nor do the cycle time and the flag byte
+    }
+    if is_wide(code[p + 1]) {
+        return false;
+    }
+    if b == 43 {
+        return !is_wide(code[p + 2]);
+    }
+    true
+}
+
+fn is_carried(profile: Profile, code: &[u8], p: usize) -> bool
+    requires { ⌜ (p < length (now code)) × (instructionOk (now code) p ≡ true) ⌝ }
+    ensures { λ r. ⌜ r ≡ carries profile (instructionAt (now (code .entry)) p) ⌝ }
+{
+    match profile {
+        Profile::Full => true,
+        Profile::Small => is_small(code, p),
+    }
+}
+
 // ---- a core's code, judged
 
 // What one pass over the instructions finds: the refusal, the last code byte, whether a T lies outside the map, and the map: 1 where an instruction
@@ -693,9 +740,9 @@ fn ask_target(code: &[u8], p: usize, marks: &mut [u8]) -> bool
     }
 }
 
-fn lay(code: &[u8]) -> Laid
+fn lay(profile: Profile, code: &[u8]) -> Laid
     requires { ⌜ length (now code) ≤ 8192 ⌝ }
-    ensures { λ r. ⌜ Pass (now (code .entry)) (r .refusal) (r .last) (r .outside) (r .marks) ⌝ }
+    ensures { λ r. ⌜ Pass profile (now (code .entry)) (r .refusal) (r .last) (r .outside) (r .marks) ⌝ }
 {
     let mut marks = cleared();
     let mut last: u8 = 0;
@@ -706,6 +753,14 @@ fn lay(code: &[u8]) -> Laid
         if n == 0 {
             return Laid {
                 refusal: 6,
+                last,
+                outside,
+                marks,
+            };
+        }
+        if !is_carried(profile, code, p) {
+            return Laid {
+                refusal: 27,
                 last,
                 outside,
                 marks,
@@ -763,11 +818,11 @@ fn outside_refusal(outside: bool) -> u8
 }
 
 // The refusal of a core's code: all instructions before any target.
-pub fn judge_code(code: &[u8]) -> u8
+pub fn judge_code_for(profile: Profile, code: &[u8]) -> u8
     requires { ⌜ length (now code) ≤ 8192 ⌝ }
-    ensures { λ r. ⌜ r ≡ judgeCode (now (code .entry)) ⌝ }
+    ensures { λ r. ⌜ r ≡ judgeCodeFor profile (now (code .entry)) ⌝ }
 {
-    let m = lay(code);
+    let m = lay(profile, code);
     let r = first_refusal(m.refusal, outside_refusal(m.outside));
     if r != 0 {
         return r;
@@ -782,12 +837,20 @@ pub fn judge_code(code: &[u8]) -> u8
     0
 }
 
+// Under the full profile.
+pub fn judge_code(code: &[u8]) -> u8
+    requires { ⌜ length (now code) ≤ 8192 ⌝ }
+    ensures { λ r. ⌜ r ≡ judgeCode (now (code .entry)) ⌝ }
+{
+    judge_code_for(Profile::Full, code)
+}
+
 // The map of the instruction starts of accepted code: 1 exactly where one starts.
 pub fn starts(code: &[u8]) -> [u8; 8192]
     requires { ⌜ (length (now code) ≤ 8192) × (judgeCode (now code) ≡ 0) ⌝ }
     ensures { λ r. ⌜ (length r ≡ 8192) × Marked (now (code .entry)) r ⌝ }
 {
-    let m = lay(code);
+    let m = lay(Profile::Full, code);
     m.marks
 }
 

@@ -13,11 +13,13 @@ use Rattle.verdict.specs.Verdict.{pick, both, either, within}
 use Rattle.verdict.proofs.Truth.{holds, tested, fails, either-left, either-right}
 use Rattle.verdict.proofs.Verdict.{absurd-bool, both-true, both-not, inside, inside-true}
 use Rattle.protocol.specs.Variables.{Variable, local, readsIt, writesIt, Clear}
+use Rattle.code.specs.declared.Profile.{Profile}
+use Rattle.code.specs.Profiles.{mostData}
 use Rattle.code.specs.Code.{isWidth}
 use Rattle.code.proofs.Rules.{keeps-width, accepts-width}
 use Rattle.records.specs.File.{cores, dataSize, inputSize}
 use Rattle.records.specs.Records.{coreOk, bit, oneWriter, named, placeOk, partOk, partsOk, variableOk, meets, meetsShared, meetsIn, overlap}
-use Rattle.records.specs.Rules.{CoreRules, Writer, VariableRules, Apart}
+use Rattle.records.specs.Rules.{CoreRulesFor, Writer, VariableRules, Apart}
 
 -- ---- tests and bits
 
@@ -54,17 +56,17 @@ named-low k v t = go (readsIt k v) (writesIt k v) refl refl t
 
 -- ---- a core's record
 
-pub core-rules : (f : List ℕ) (k : ℕ) → coreOk f k ≡ true → CoreRules f k
+pub core-rules : (o : Profile) (f : List ℕ) (k : ℕ) → coreOk o f k ≡ true → CoreRulesFor o f k
 unfolding coreOk
-core-rules f k z =
-    let a = both-true (within 1 4096 (dataSize f k)) _ z in
+core-rules o f k z =
+    let a = both-true (within 1 (mostData o) (dataSize f k)) _ z in
     let b = both-true (leb (inputSize f k) (dataSize f k)) _ (a .1) in
-    let s = inside-true 1 4096 (dataSize f k) (a .0) in
+    let s = inside-true 1 (mostData o) (dataSize f k) (a .0) in
     record { some-data = s .0; most-data = s .1; inputs = leb-true _ _ (b .0); some-limit = leb-true _ _ (b .1) }
 
-pub core-ok : (f : List ℕ) (k : ℕ) → CoreRules f k → coreOk f k ≡ true
+pub core-ok : (o : Profile) (f : List ℕ) (k : ℕ) → CoreRulesFor o f k → coreOk o f k ≡ true
 unfolding coreOk
-core-ok f k r = rw (inside 1 4096 (dataSize f k) (r .some-data) (r .most-data), le-leb _ _ (r .inputs)) (le-leb _ _ (r .some-limit))
+core-ok o f k r = rw (inside 1 (mostData o) (dataSize f k) (r .some-data) (r .most-data), le-leb _ _ (r .inputs)) (le-leb _ _ (r .some-limit))
 
 -- ---- exactly one writer
 

@@ -6,6 +6,8 @@ use lib.Dec.{ltb, leb, eqb}
 use lib.ListN.{length}
 use Rattle.verdict.specs.Verdict.{pick, both, either, within, next, unless, first}
 use Rattle.protocol.specs.Variables.{Variable, local, readsIt, writesIt}
+use Rattle.code.specs.declared.Profile.{Profile}
+use Rattle.code.specs.Profiles.{mostData}
 use Rattle.code.specs.Code.{isWidth}
 use Rattle.records.specs.File.{cores, corePlace, dataSize, inputSize, limit, variables, recordPlace, variableAt}
 
@@ -15,12 +17,12 @@ present f n = unless (leb n (length f)) 1
 
 -- ---- cores
 
--- data size 1..4,096; input size at most the data size; limit at least 1
-unfoldable pub coreOk : List ℕ → ℕ → Bool
-coreOk f k = both (within 1 4096 (dataSize f k)) (both (leb (inputSize f k) (dataSize f k)) (leb 1 (limit f k)))
+-- data size 1..4,096, or 1..1,024 under the small profile; input size at most the data size; limit at least 1
+unfoldable pub coreOk : Profile → List ℕ → ℕ → Bool
+coreOk profile f k = both (within 1 (mostData profile) (dataSize f k)) (both (leb (inputSize f k) (dataSize f k)) (leb 1 (limit f k)))
 
-unfoldable pub coreRefusal : List ℕ → ℕ → ℕ
-coreRefusal f k = next (present f (corePlace k + 6)) (unless (coreOk f k) 3)
+unfoldable pub coreRefusal : Profile → List ℕ → ℕ → ℕ
+coreRefusal profile f k = next (present f (corePlace k + 6)) (unless (coreOk profile f k) 3)
 
 -- ---- one variable
 

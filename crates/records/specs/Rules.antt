@@ -5,15 +5,21 @@ use mathlib.Core.List.{List, [], _∷_}
 use lib.Dec.{T}
 use Rattle.verdict.specs.Items.{OneOf}
 use Rattle.protocol.specs.Variables.{Variable, local, readsIt, writesIt, Clear}
+use Rattle.code.specs.declared.Profile.{Profile}
+use Rattle.code.specs.declared.Profile.the-variants.{Full}
+use Rattle.code.specs.Profiles.{mostData}
 use Rattle.records.specs.File.{cores, dataSize, inputSize, limit}
 use Rattle.records.specs.Records.{named}
 
--- "data size 1..4,096; input size, at most the data size; instruction limit of a cycle, at least 1"
-pub record CoreRules (f : List ℕ) (k : ℕ) : Type 0 where
+-- "data size 1..4,096; input size, at most the data size; instruction limit of a cycle, at least 1"; of the small profile "a data size of at most 1,024"
+pub record CoreRulesFor (profile : Profile) (f : List ℕ) (k : ℕ) : Type 0 where
   pub some-data : 1 ≤ dataSize f k
-  pub most-data : dataSize f k ≤ 4096
+  pub most-data : dataSize f k ≤ mostData profile
   pub inputs : inputSize f k ≤ dataSize f k
   pub some-limit : 1 ≤ limit f k
+
+abbrev pub CoreRules : List ℕ → ℕ → Type 0
+CoreRules f k = CoreRulesFor Full f k
 
 -- "the write half of its attribute byte has exactly one bit set"
 pub record Writer (v : Variable) : Type 0 where

@@ -1,10 +1,12 @@
 // Document 01, "The task set file": the records of cores and variables, read and judged (refusals 3, 4, 5).
+use code::Profile;
 ghost use mathlib.Core.Path.{_≡_};
 ghost use Prim.Native.Nat.{ℕ, _+_, _*_, _-_, _<_, _≤_};
 ghost use lib.Dec.{eqb};
 ghost use lib.ListN.{length};
 ghost use Rattle.verdict.specs.Verdict.{first};
 ghost use Rattle.protocol.specs.Variables.{local, readsIt, writesIt};
+ghost use Rattle.code.specs.Profiles.{mostData};
 ghost use Rattle.records.specs.File.{cores, corePlace, variables, recordPlace, variableIn};
 ghost use Rattle.records.specs.Records.{coreOk, coreRefusal, bit, oneWriter, named, placeOk, partOk, partsOk, variableOk, variableRefusal, meets, meetsShared, meetsIn, overlap, pairRefusal, overlapRefusal};
 
@@ -64,17 +66,27 @@ pub fn writes(f: &[u8], p: usize, k: usize) -> bool
 
 // ---- cores
 
+// The greatest data size of a core.
+fn most_data(profile: Profile) -> usize
+    ensures { λ r. ⌜ r ≡ mostData profile ⌝ }
+{
+    match profile {
+        Profile::Full => 4096,
+        Profile::Small => 1024,
+    }
+}
+
 // A core's three numbers.
-fn core_ok(f: &[u8], k: usize) -> bool
+fn core_ok(profile: Profile, f: &[u8], k: usize) -> bool
     requires { ⌜ k < 4 ⌝ }
-    ensures { λ r. ⌜ r ≡ coreOk (now (f .entry)) k ⌝ }
+    ensures { λ r. ⌜ r ≡ coreOk profile (now (f .entry)) k ⌝ }
 {
     let p = 5 + 6 * k;
     let size = memory::word_at(f, p);
     if size < 1 {
         return false;
     }
-    if 4096 < size {
+    if most_data(profile) < size {
         return false;
     }
     if size < memory::word_at(f, p + 2) {
@@ -83,27 +95,27 @@ fn core_ok(f: &[u8], k: usize) -> bool
     1 <= memory::word_at(f, p + 4)
 }
 
-pub fn core_refusal(f: &[u8], k: usize) -> u8
+fn core_refusal(profile: Profile, f: &[u8], k: usize) -> u8
     requires { ⌜ k < 4 ⌝ }
-    ensures { λ r. ⌜ r ≡ coreRefusal (now (f .entry)) k ⌝ }
+    ensures { λ r. ⌜ r ≡ coreRefusal profile (now (f .entry)) k ⌝ }
 {
     if f.len() < 5 + 6 * k + 6 {
         return 1;
     }
-    if core_ok(f, k) {
+    if core_ok(profile, f, k) {
         return 0;
     }
     3
 }
 
 // The records of n cores.
-pub fn cores_refusal(f: &[u8], n: usize) -> u8
+pub fn cores_refusal(profile: Profile, f: &[u8], n: usize) -> u8
     requires { ⌜ n ≤ 4 ⌝ }
-    ensures { λ r. ⌜ r ≡ first (coreRefusal (now (f .entry))) (n - 0) 0 ⌝ }
+    ensures { λ r. ⌜ r ≡ first (coreRefusal profile (now (f .entry))) (n - 0) 0 ⌝ }
 {
     let mut k = 0;
     while k < n {
-        let r = core_refusal(f, k);
+        let r = core_refusal(profile, f, k);
         if r != 0 {
             return r;
         }

@@ -18,6 +18,7 @@ use Rattle.protocol.specs.Variables.{Variable, local, readsIt, writesIt, In, Pa
 use Rattle.protocol.specs.Laws.{Fresh}
 use Rattle.protocol.specs.Fresh.{freshCore}
 use Rattle.protocol.proofs.Instance.{fresh-is}
+use Rattle.code.specs.declared.Profile.the-variants.{Full}
 use Rattle.code.specs.Code.{judgeCode}
 use Rattle.code.proofs.Exact.{accepted-code}
 use Rattle.records.specs.File.{cores, dataSize, variables, recordPlace, variableAt}
@@ -25,7 +26,7 @@ use Rattle.records.specs.Records.{named}
 use Rattle.records.specs.Rules.{CoreRules, VariableRules}
 use Rattle.verdict.proofs.Truth.{either-left}
 use Rattle.taskset.specs.Judge.{codePlace, codeOf, judge}
-use Rattle.taskset.specs.Layout.{basePlace, coreAt, coreLayout, layoutOf, noLayout, loadOf}
+use Rattle.taskset.specs.Layout.{basePlace, coreAt, coreLayout, layoutOf, noLayout, loadFor, loadOf}
 use Rattle.taskset.specs.Rules.{WellFormed}
 use Rattle.taskset.specs.Task.{listed, sizesOf, variablesOf}
 use Rattle.taskset.specs.Fresh.{freshOf}
@@ -98,7 +99,7 @@ pub core-facts : (f : List ℕ) → judge f ≡ 0 → (k : ℕ) → k < cores f 
 core-facts f z k h =
     record {
       record-rules = w .core-rules k h;
-      code-accepted = accepted-code (codeOf f k) (w .code-rules k h);
+      code-accepted = accepted-code Full (codeOf f k) (w .code-rules k h);
       code-length = length-part f (codePlace f k + 2) (word f (codePlace f k)) (code-inside f (w .ends) k h);
       some-code = w .some-code k h;
       most-code = w .most-code k h;
@@ -128,11 +129,11 @@ base-start f k h =
 
 -- the answer of loading, by the refusal
 pub load-accepted : (f : List ℕ) → judge f ≡ 0 → loadOf f ≡ record { refusal = 0; layout = layoutOf f }
-unfolding loadOf pick
+unfolding loadFor pick
 load-accepted f z = rw z
 
 pub load-refused : (f : List ℕ) → (judge f ≡ 0 → ⊥) → loadOf f ≡ record { refusal = judge f; layout = noLayout }
-unfolding loadOf pick
+unfolding loadFor pick
 load-refused f n = rw (ne-eqb (judge f) 0 n)
 
 -- each variable's record lies in the file

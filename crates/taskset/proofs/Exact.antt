@@ -1,4 +1,4 @@
--- `accepted-exactly`: a file's number is 0 exactly if it keeps the rules of `specs/Rules`. In order: the mark; from acceptance to the rules;
+-- `accepted-exactly-for`: under each profile a file's number is 0 exactly if it keeps the rules of `specs/Rules`; `accepted-exactly` under the full one. In order: the mark; from acceptance to the rules;
 -- the sections of a file that keeps them lie in it; from the rules to acceptance. Assumes nothing.
 use mathlib.Core.Path.{_≡_, ap, _∙_}
 use mathlib.Core.Bool.{true}
@@ -11,14 +11,16 @@ use lib.ListN.{length, take}
 use Rattle.verdict.specs.Verdict.{within, unless, first}
 use Rattle.verdict.proofs.Verdict.{pick-false, yes, next-zero, next-none, unless-zero, pick-zero, both-true, inside, inside-true, first-zero, zero-first}
 use Rattle.memory.specs.Memory.{word, part}
-use Rattle.code.specs.Code.{judgeCode}
+use Rattle.code.specs.declared.Profile.{Profile}
+use Rattle.code.specs.declared.Profile.the-variants.{Full}
+use Rattle.code.specs.Code.{judgeCodeFor}
 use Rattle.code.proofs.Exact.{well-formed, accepted-code}
 use Rattle.records.specs.File.{cores, corePlace, countPlace, variables, recordPlace, variableAt}
 use Rattle.records.specs.Records.{present, coreRefusal, variableRefusal, overlap, pairRefusal, overlapRefusal}
-use Rattle.records.specs.Rules.{CoreRules, VariableRules, Apart}
+use Rattle.records.specs.Rules.{CoreRulesFor, VariableRules, Apart}
 use Rattle.records.proofs.Exact.{core-rules, core-ok, variable-rules, variable-ok, apart, overlap-not}
-use Rattle.taskset.specs.Judge.{isMark, headRefusal, variablesRefusal, codePlace, fileEnd, codeOf, codeRefusal, sectionRefusal, codesRefusal, judge}
-use Rattle.taskset.specs.Rules.{WellFormed}
+use Rattle.taskset.specs.Judge.{isMark, headRefusal, variablesRefusal, codePlace, fileEnd, codeOf, codeRefusal, sectionRefusal, codesRefusal, judgeFor, judge}
+use Rattle.taskset.specs.Rules.{WellFormedFor, WellFormed}
 
 -- ---- the mark
 
@@ -50,15 +52,15 @@ is-mark (a ∷ b ∷ c ∷ d ∷ f) e =
 -- ---- from acceptance to the rules
 
 -- the three sections of an accepted file
-pub record Sound (f : List ℕ) : Type 0 where
-  pub head : headRefusal f ≡ 0
+pub record Sound (o : Profile) (f : List ℕ) : Type 0 where
+  pub head : headRefusal o f ≡ 0
   pub variables : variablesRefusal f ≡ 0
-  pub codes : codesRefusal f ≡ 0
+  pub codes : codesRefusal o f ≡ 0
 
-pub sound : (f : List ℕ) → judge f ≡ 0 → Sound f
-unfolding judge
-sound f z =
-    let a = next-zero (headRefusal f) _ z in
+pub sound : (o : Profile) (f : List ℕ) → judgeFor o f ≡ 0 → Sound o f
+unfolding judgeFor
+sound o f z =
+    let a = next-zero (headRefusal o f) _ z in
     let b = next-zero (variablesRefusal f) _ (a .1) in
     record { head = a .0; variables = b .0; codes = b .1 }
 
@@ -69,24 +71,24 @@ there f n z = leb-true _ _ (unless-zero _ 0 z)
 every : (g : ℕ → ℕ) (n : ℕ) → first g (n - 0) 0 ≡ 0 → (i : ℕ) → i < n → g i ≡ 0
 every g n z i h = first-zero g (n - 0) 0 z i (omega arith) (omega arith)
 
-record Head (f : List ℕ) : Type 0 where
+record Head (o : Profile) (f : List ℕ) : Type 0 where
   long : 4 ≤ length f
   mark : isMark f ≡ true
   number : within 1 4 (cores f) ≡ true
-  records : first (coreRefusal f) (cores f - 0) 0 ≡ 0
+  records : first (coreRefusal o f) (cores f - 0) 0 ≡ 0
 
-head : (f : List ℕ) → headRefusal f ≡ 0 → Head f
+head : (o : Profile) (f : List ℕ) → headRefusal o f ≡ 0 → Head o f
 unfolding headRefusal
-head f z =
+head o f z =
     let a = next-zero (present f 4) _ z in
     let b = next-zero (unless (isMark f) 2) _ (a .1) in
     let c = next-zero (present f 5) _ (b .1) in
     let d = next-zero (unless (within 1 4 (cores f)) 3) _ (c .1) in
     record { long = there f 4 (a .0); mark = unless-zero _ 1 (b .0); number = unless-zero _ 2 (d .0); records = d .1 }
 
-core-at : (f : List ℕ) (k : ℕ) → coreRefusal f k ≡ 0 → CoreRules f k
+core-at : (o : Profile) (f : List ℕ) (k : ℕ) → coreRefusal o f k ≡ 0 → CoreRulesFor o f k
 unfolding coreRefusal
-core-at f k z = core-rules f k (unless-zero _ 2 (next-zero (present f (corePlace k + 6)) _ z .1))
+core-at o f k z = core-rules o f k (unless-zero _ 2 (next-zero (present f (corePlace k + 6)) _ z .1))
 
 record Variables (f : List ℕ) : Type 0 where
   number : variables f ≤ 64
@@ -112,49 +114,49 @@ pair-at f z i j h l =
     (pick-zero (overlap (variableAt f i) (variableAt f j)) 4
     (first-zero (pairRefusal f i) (variables f - (i + 1)) (i + 1) (every (overlapRefusal f) (variables f) z i (omega arith)) j (omega arith) (omega arith)))
 
-record Section (f : List ℕ) (p : ℕ) : Type 0 where
+record Section (o : Profile) (f : List ℕ) (p : ℕ) : Type 0 where
   size : within 1 8192 (word f p) ≡ true
-  judged : judgeCode (part f (p + 2) (word f p)) ≡ 0
+  judged : judgeCodeFor o (part f (p + 2) (word f p)) ≡ 0
 
-section : (f : List ℕ) (p : ℕ) → sectionRefusal f p ≡ 0 → Section f p
+section : (o : Profile) (f : List ℕ) (p : ℕ) → sectionRefusal o f p ≡ 0 → Section o f p
 unfolding sectionRefusal
-section f p z =
+section o f p z =
     let a = next-zero (present f (p + 2)) _ z in
     let b = next-zero (unless (within 1 8192 (word f p)) 6) _ (a .1) in
     let c = next-zero (present f (p + 2 + word f p)) _ (b .1) in
     record { size = unless-zero _ 5 (b .0); judged = c .1 }
 
-record Codes (f : List ℕ) : Type 0 where
-  sections : first (codeRefusal f) (cores f - 0) 0 ≡ 0
+record Codes (o : Profile) (f : List ℕ) : Type 0 where
+  sections : first (codeRefusal o f) (cores f - 0) 0 ≡ 0
   ends : fileEnd f ≡ length f
 
-all-codes : (f : List ℕ) → codesRefusal f ≡ 0 → Codes f
+all-codes : (o : Profile) (f : List ℕ) → codesRefusal o f ≡ 0 → Codes o f
 unfolding codesRefusal
-all-codes f z =
-    let a = next-zero (first (codeRefusal f) (cores f - 0) 0) _ z in
+all-codes o f z =
+    let a = next-zero (first (codeRefusal o f) (cores f - 0) 0) _ z in
     record { sections = a .0; ends = eqb-true _ _ (unless-zero _ 23 (a .1)) }
 
-pub keeps-rules : (f : List ℕ) → judge f ≡ 0 → WellFormed f
-keeps-rules f z =
+pub keeps-rules-for : (o : Profile) (f : List ℕ) → judgeFor o f ≡ 0 → WellFormedFor o f
+keeps-rules-for o f z =
     record {
       mark = mark-is f (h .long) (h .mark);
       some-core = n .0;
       most-cores = n .1;
-      core-rules = λ k l. core-at f k (every (coreRefusal f) (cores f) (h .records) k l);
+      core-rules = λ k l. core-at o f k (every (coreRefusal o f) (cores f) (h .records) k l);
       most-variables = v .number;
       variable-rules = λ i l. variable-at f i (every (variableRefusal f) (variables f) (v .records) i l);
       no-overlap = pair-at f (v .pairs);
       some-code = λ k l. inside-true 1 8192 _ (at k l .size) .0;
       most-code = λ k l. inside-true 1 8192 _ (at k l .size) .1;
-      code-rules = λ k l. well-formed (codeOf f k) (at k l .judged);
+      code-rules = λ k l. well-formed o (codeOf f k) (at k l .judged);
       ends = c .ends;
     }
   where
-    s : Sound f
-    s = sound f z
+    s : Sound o f
+    s = sound o f z
 
-    h : Head f
-    h = head f (s .head)
+    h : Head o f
+    h = head o f (s .head)
 
     n : (1 ≤ cores f) × (cores f ≤ 4)
     n = inside-true 1 4 (cores f) (h .number)
@@ -162,11 +164,14 @@ keeps-rules f z =
     v : Variables f
     v = all-variables f (s .variables)
 
-    c : Codes f
-    c = all-codes f (s .codes)
+    c : Codes o f
+    c = all-codes o f (s .codes)
 
-    at : (k : ℕ) → k < cores f → Section f (codePlace f k)
-    at k l = section f (codePlace f k) (every (codeRefusal f) (cores f) (c .sections) k l)
+    at : (k : ℕ) → k < cores f → Section o f (codePlace f k)
+    at k l = section o f (codePlace f k) (every (codeRefusal o f) (cores f) (c .sections) k l)
+
+pub keeps-rules : (f : List ℕ) → judge f ≡ 0 → WellFormed f
+keeps-rules f z = keeps-rules-for Full f z
 
 -- ---- the sections of a file whose codes end where it ends lie in it
 
@@ -204,19 +209,19 @@ here f n h = yes _ 1 (le-leb _ _ h)
 pub none : (g : ℕ → ℕ) (n : ℕ) → ((i : ℕ) → i < n → g i ≡ 0) → first g (n - 0) 0 ≡ 0
 none g n h = zero-first g (n - 0) 0 (λ j a b. h j (omega arith))
 
-module _ (f : List ℕ) (w : WellFormed f) where
+module _ (o : Profile) (f : List ℕ) (w : WellFormedFor o f) where
   room : recordPlace f (variables f) ≤ length f
   room = records-inside f (w .ends)
 
-  head-none : headRefusal f ≡ 0
+  head-none : headRefusal o f ≡ 0
   unfolding headRefusal coreRefusal
   head-none =
       next-none _ _ (here f 4 (omega (arith, room)))
       (next-none _ _ (yes _ 2 (is-mark f (w .mark)))
       (next-none _ _ (here f 5 (omega (arith, room)))
       (next-none _ _ (yes _ 3 (inside 1 4 (cores f) (w .some-core) (w .most-cores)))
-      (none (coreRefusal f) (cores f)
-      (λ k h. next-none _ _ (here f (corePlace k + 6) (omega (arith, room))) (yes _ 3 (core-ok f k (w .core-rules k h))))))))
+      (none (coreRefusal o f) (cores f)
+      (λ k h. next-none _ _ (here f (corePlace k + 6) (omega (arith, room))) (yes _ 3 (core-ok o f k (w .core-rules k h))))))))
 
   pair-none : (i j : ℕ) → i < j → j < variables f → pairRefusal f i j ≡ 0
   unfolding pairRefusal
@@ -233,25 +238,32 @@ module _ (f : List ℕ) (w : WellFormed f) where
       (none (overlapRefusal f) (variables f)
       (λ i h. zero-first (pairRefusal f i) (variables f - (i + 1)) (i + 1) (λ j a b. pair-none i j (omega arith) (omega arith))))))
 
-  codes-none : codesRefusal f ≡ 0
+  codes-none : codesRefusal o f ≡ 0
   unfolding codesRefusal sectionRefusal
   codes-none =
       next-none _ _
-      (none (codeRefusal f) (cores f)
+      (none (codeRefusal o f) (cores f)
       (λ k h.
       next-none _ _ (here f (codePlace f k + 2) (omega (arith, code-inside f (w .ends) k h)))
       (next-none _ _ (yes _ 6 (inside 1 8192 (word f (codePlace f k)) (w .some-code k h) (w .most-code k h)))
-      (next-none _ _ (here f (codePlace f k + 2 + word f (codePlace f k)) (code-inside f (w .ends) k h)) (accepted-code (codeOf f k) (w .code-rules k h))))))
+      (next-none _ _ (here f (codePlace f k + 2 + word f (codePlace f k)) (code-inside f (w .ends) k h)) (accepted-code o (codeOf f k) (w .code-rules k h))))))
       (yes _ 24 (eq-eqb _ _ (w .ends)))
 
-  pub accepts : judge f ≡ 0
-  unfolding judge
+  pub accepts : judgeFor o f ≡ 0
+  unfolding judgeFor
   accepts = next-none _ _ head-none (next-none _ _ variables-none codes-none)
 
 -- the two ways together
-pub record Exactly (f : List ℕ) : Type 0 where
-  pub rules : judge f ≡ 0 → WellFormed f
-  pub accepted : WellFormed f → judge f ≡ 0
+pub record ExactlyFor (o : Profile) (f : List ℕ) : Type 0 where
+  pub rules : judgeFor o f ≡ 0 → WellFormedFor o f
+  pub accepted : WellFormedFor o f → judgeFor o f ≡ 0
+
+pub accepted-exactly-for : (o : Profile) (f : List ℕ) → ExactlyFor o f
+accepted-exactly-for o f = record { rules = keeps-rules-for o f; accepted = accepts o f }
+
+-- under the full profile
+abbrev pub Exactly : List ℕ → Type 0
+Exactly f = ExactlyFor Full f
 
 pub accepted-exactly : (f : List ℕ) → Exactly f
-accepted-exactly f = record { rules = keeps-rules f; accepted = accepts f }
+accepted-exactly f = accepted-exactly-for Full f

@@ -10,6 +10,7 @@ use lib.ListN.{length}
 use Rattle.verdict.specs.Verdict.{first}
 use Rattle.verdict.proofs.Verdict.{next-zero, unless-zero, inside-true, first-zero, Going, going-none, going-more}
 use Rattle.memory.specs.Memory.{word}
+use Rattle.code.specs.declared.Profile.{Profile}
 use Rattle.records.specs.File.{cores, countPlace, dataSize, inputSize, variables, recordPlace}
 use Rattle.records.specs.Records.{variableRefusal}
 use Rattle.taskset.specs.Judge.{headRefusal, codePlace, codeRefusal, sectionRefusal}
@@ -32,9 +33,9 @@ trace-next f t p k n w e h g = rw (h, g, e, add-one k)
 
 -- ---- an accepted head, and the records of accepted variables lie in the file
 
-pub head-cores : (f : List ℕ) → headRefusal f ≡ 0 → cores f ≤ 4
+pub head-cores : (o : Profile) (f : List ℕ) → headRefusal o f ≡ 0 → cores f ≤ 4
 unfolding headRefusal
-head-cores f e =
+head-cores o f e =
     inside-true 1 4 (cores f) (unless-zero _ 2 (next-zero _ _ (next-zero _ _ (next-zero _ _ (next-zero _ _ e .1) .1) .1) .0)) .1
 
 pub records-present : (f : List ℕ) → countPlace f + 1 ≤ length f → first (variableRefusal f) (variables f - 0) 0 ≡ 0 → recordPlace f (variables f) ≤ length f
@@ -50,27 +51,27 @@ records-present f h z = go (variables f) refl
 
 -- ---- the loop over the codes: the length of core k's code stands at p
 
-pub record Sections (f : List ℕ) (n p k : ℕ) : Type 0 where
-  pub going : Going (codeRefusal f) 0 n k
+pub record Sections (o : Profile) (f : List ℕ) (n p k : ℕ) : Type 0 where
+  pub going : Going (codeRefusal o f) 0 n k
   pub here : p ≡ codePlace f k
   pub small : p ≤ 9000 + 66000 * k
   pub upto : k ≤ n
 
-pub sections-none : (f : List ℕ) (n p : ℕ) → p ≡ codePlace f 0 → p < 9000 → Sections f n p 0
-sections-none f n p e h = record { going = going-none _ _ _; here = e; small = omega arith; upto = omega arith }
+pub sections-none : (o : Profile) (f : List ℕ) (n p : ℕ) → p ≡ codePlace f 0 → p < 9000 → Sections o f n p 0
+sections-none o f n p e h = record { going = going-none _ _ _; here = e; small = omega arith; upto = omega arith }
 
-pub sections-more : (f : List ℕ) (n p k w : ℕ) → Sections f n p k → k < n → sectionRefusal f p ≡ 0 → w ≡ word f p → w < 65536
-    → Sections f n (p + 2 + w) (k + 1)
-sections-more f n p k w r h z e l =
+pub sections-more : (o : Profile) (f : List ℕ) (n p k w : ℕ) → Sections o f n p k → k < n → sectionRefusal o f p ≡ 0 → w ≡ word f p → w < 65536
+    → Sections o f n (p + 2 + w) (k + 1)
+sections-more o f n p k w r h z e l =
     record {
-      going = going-more _ _ _ _ (r .going) h (sym (ap (sectionRefusal f) (r .here)) ∙ z);
+      going = going-more _ _ _ _ (r .going) h (sym (ap (sectionRefusal o f) (r .here)) ∙ z);
       here = code-next f p k w (r .here) e;
       small = omega (arith, r .small);
       upto = omega arith;
     }
 
-pub sections-end : (f : List ℕ) (n p k : ℕ) → Sections f n p k → n ≤ k → p ≡ codePlace f n
-sections-end f n p k r h =
+pub sections-end : (o : Profile) (f : List ℕ) (n p k : ℕ) → Sections o f n p k → n ≤ k → p ≡ codePlace f n
+sections-end o f n p k r h =
     let e : k ≡ n = omega (arith, r .upto) in
     r .here ∙ ap (codePlace f) e
 

@@ -6,5 +6,6 @@ pub mod Records
 pub mod Traced
 pub mod Transit
 pub mod Sizes
+pub mod Narrowed
 pub mod Loading
 pub mod Blank

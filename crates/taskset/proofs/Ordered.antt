@@ -1,4 +1,5 @@
--- `judged-in-order`: the number of a file is that of the first rule that is broken, in the order of `specs/Items`. In order: one item's presence;
+-- `judged-in-order-for`: the number of a file under a profile is that of the first rule that is broken, in the order of `specs/Items`; `judged-in-order` is
+-- that of the full profile. In order: one item's presence;
 -- cores; variables; overlap; codes; the file. Assumes nothing.
 use mathlib.Core.Path.{_≡_, refl}
 use mathlib.Core.Bool.{Bool, true, false}
@@ -14,14 +15,16 @@ use Rattle.verdict.specs.Items.{numbers, Item, item, forEach, inTurn, First}
 use Rattle.verdict.proofs.Verdict.{pick-false, unless-zero, zero-first, inside, inside-true}
 use Rattle.verdict.proofs.Items.{Judges, judges-one, judges-both, judges-number, judges-each, first-number, judges-end, next-both, judged}
 use Rattle.memory.specs.Memory.{word}
-use Rattle.code.specs.Rules.{codeItems}
+use Rattle.code.specs.declared.Profile.{Profile}
+use Rattle.code.specs.declared.Profile.the-variants.{Full}
+use Rattle.code.specs.Rules.{codeItemsFor}
 use Rattle.code.proofs.Exact.{code-judged}
 use Rattle.records.specs.File.{cores, corePlace, countPlace, variables, recordPlace, variableAt}
 use Rattle.records.specs.Records.{present, coreOk, coreRefusal, variableOk, variableRefusal, overlap, pairRefusal, overlapRefusal}
 use Rattle.records.proofs.Exact.{core-rules, core-ok, variable-rules, variable-ok, overlap-not}
-use Rattle.taskset.specs.Judge.{isMark, headRefusal, variablesRefusal, codePlace, fileEnd, codeIn, codeRefusal, sectionRefusal, codesRefusal, judge}
+use Rattle.taskset.specs.Judge.{isMark, headRefusal, variablesRefusal, codePlace, fileEnd, codeIn, codeRefusal, sectionRefusal, codesRefusal, judgeFor, judge}
 use Rattle.taskset.specs.Rules.{NoOverlap}
-use Rattle.taskset.specs.Items.{Present, coreItems, variableItems, lengthItems, fileItems}
+use Rattle.taskset.specs.Items.{Present, coreItems, variableItems, lengthItems, fileItemsFor, fileItems}
 use Rattle.taskset.proofs.Exact.{mark-is, is-mark, pair-at, none}
 
 -- ---- presence
@@ -31,9 +34,9 @@ there f n = judges-one 0 (leb n (length f)) (leb-true n (length f)) (le-leb n (l
 
 -- ---- cores and variables
 
-core : (f : List ℕ) (k : ℕ) → Judges (coreItems f k) (coreRefusal f k)
+core : (o : Profile) (f : List ℕ) (k : ℕ) → Judges (coreItems o f k) (coreRefusal o f k)
 unfolding coreRefusal
-core f k = judges-both (there f (corePlace k + 6)) (λ _. judges-one 2 (coreOk f k) (core-rules f k) (core-ok f k))
+core o f k = judges-both (there f (corePlace k + 6)) (λ _. judges-one 2 (coreOk o f k) (core-rules o f k) (core-ok o f k))
 
 variable : (f : List ℕ) (i : ℕ) → Judges (variableItems f i) (variableRefusal f i)
 unfolding variableRefusal
@@ -71,40 +74,43 @@ overlaps f =
 
 -- ---- codes
 
-section : (f : List ℕ) (p : ℕ) → Judges (inTurn (lengthItems f p ∷ codeItems (codeIn f p) ∷ [])) (sectionRefusal f p)
+section : (o : Profile) (f : List ℕ) (p : ℕ) → Judges (inTurn (lengthItems f p ∷ codeItemsFor o (codeIn f p) ∷ [])) (sectionRefusal o f p)
 unfolding sectionRefusal
-section f p =
+section o f p =
     judges-both (there f (p + 2))
     (λ _. judges-both (judges-one 5 (within 1 8192 (word f p)) (inside-true 1 8192 (word f p)) (λ h. inside 1 8192 (word f p) (h .0) (h .1)))
-    (λ _. judges-both (there f (p + 2 + word f p)) (λ _. judges-end (code-judged (codeIn f p)))))
+    (λ _. judges-both (there f (p + 2 + word f p)) (λ _. judges-end (code-judged o (codeIn f p)))))
 
 -- ---- the file
 
 -- the judgement, item by item
-flat : (f : List ℕ)
-    → judge f ≡ next (next (present f 4) (unless (isMark f) 2))
+flat : (o : Profile) (f : List ℕ)
+    → judgeFor o f ≡ next (next (present f 4) (unless (isMark f) 2))
     (next (next (present f 5) (unless (within 1 4 (cores f)) 3))
-    (next (first (coreRefusal f) (cores f - 0) 0)
+    (next (first (coreRefusal o f) (cores f - 0) 0)
     (next (next (present f (countPlace f + 1)) (unless (leb (variables f) 64) 4))
     (next (first (variableRefusal f) (variables f - 0) 0)
     (next (first (overlapRefusal f) (variables f - 0) 0)
-    (next (first (codeRefusal f) (cores f - 0) 0)
+    (next (first (codeRefusal o f) (cores f - 0) 0)
     (unless (eqb (fileEnd f) (length f)) 24)))))))
-unfolding judge headRefusal variablesRefusal codesRefusal
-flat f = simp next-both
+unfolding judgeFor headRefusal variablesRefusal codesRefusal
+flat o f = simp next-both
 
-pub in-order : (f : List ℕ) → Judges (fileItems f) (judge f)
-unfolding fileItems
-in-order f =
-    rw (flat f)
+pub in-order : (o : Profile) (f : List ℕ) → Judges (fileItemsFor o f) (judgeFor o f)
+unfolding fileItemsFor
+in-order o f =
+    rw (flat o f)
     (judges-both (judges-both (there f 4) (λ p. judges-one 1 (isMark f) (mark-is f (leb-true 4 (length f) (unless-zero _ 0 p))) (is-mark f)))
     (λ _. judges-both (judges-both (there f 5) (λ _. judges-one 2 (within 1 4 (cores f)) (inside-true 1 4 (cores f)) (λ h. inside 1 4 (cores f) (h .0) (h .1))))
-    (λ _. judges-both (all (coreItems f) (coreRefusal f) (cores f) (core f))
+    (λ _. judges-both (all (coreItems o f) (coreRefusal o f) (cores f) (core o f))
     (λ _. judges-both (judges-both (there f (countPlace f + 1)) (λ _. judges-one 3 (leb (variables f) 64) (leb-true (variables f) 64) (le-leb (variables f) 64)))
     (λ _. judges-both (all (variableItems f) (variableRefusal f) (variables f) (variable f))
     (λ _. judges-both (overlaps f)
-    (λ _. judges-both (all _ (codeRefusal f) (cores f) (λ k. section f (codePlace f k)))
+    (λ _. judges-both (all _ (codeRefusal o f) (cores f) (λ k. section o f (codePlace f k)))
     (λ _. judges-end (judges-one 23 (eqb (fileEnd f) (length f)) (eqb-true _ _) (eq-eqb _ _))))))))))
 
+pub judged-in-order-for : (o : Profile) (f : List ℕ) → First (fileItemsFor o f) (judgeFor o f)
+judged-in-order-for o f = judged (in-order o f)
+
 pub judged-in-order : (f : List ℕ) → First (fileItems f) (judge f)
-judged-in-order f = judged (in-order f)
+judged-in-order f = judged-in-order-for Full f

@@ -1,4 +1,4 @@
--- `in-transit`: an accepted file that is cut is 1, and one with anything behind it is 24. A file g and the file g ++ b are judged alike, item by item, as
+-- `in-transit-for`: a file that a profile accepts is 1 if it is cut, and 24 with anything behind it; `in-transit` is that of the full profile. A file g and the file g ++ b are judged alike, item by item, as
 -- far as g goes: an item that lies in g reads the same bytes in both, and one that does not is 1 in g. So the two laws are one comparison, read from either
 -- side. In order: two judgements; a file's items; bytes; mark and cores; variables; codes; the whole file; the two laws. Assumes nothing.
 use mathlib.Core.Path.{_≡_, refl, sym, ap, _∙_}
@@ -15,12 +15,14 @@ use Rattle.verdict.specs.Verdict.{pick, both, within, next, unless, first}
 use Rattle.verdict.proofs.Verdict.{skip, halt, yes, no, next-zero, unless-zero}
 use Rattle.verdict.proofs.Items.{next-both}
 use Rattle.memory.specs.Memory.{byte, word, part, readLE, valueLE}
-use Rattle.code.specs.Code.{judgeCode}
+use Rattle.code.specs.declared.Profile.{Profile}
+use Rattle.code.specs.declared.Profile.the-variants.{Full}
+use Rattle.code.specs.Code.{judgeCodeFor}
 use Rattle.protocol.specs.Variables.{Variable, local}
 use Rattle.records.specs.File.{cores, corePlace, dataSize, inputSize, countPlace, variables, recordPlace, variableAt}
 use Rattle.records.specs.Records.{present, coreOk, coreRefusal, placeOk, partOk, partsOk, variableOk, variableRefusal, overlap, pairRefusal, overlapRefusal}
-use Rattle.taskset.specs.Judge.{isMark, headRefusal, variablesRefusal, codePlace, fileEnd, codeRefusal, sectionRefusal, codesRefusal, judge}
-use Rattle.taskset.specs.Transit.{InTransit}
+use Rattle.taskset.specs.Judge.{isMark, headRefusal, variablesRefusal, codePlace, fileEnd, codeRefusal, sectionRefusal, codesRefusal, judgeFor, judge}
+use Rattle.taskset.specs.Transit.{InTransitFor, InTransit}
 use Rattle.taskset.proofs.Laws.{records-present}
 
 -- ---- judgements a of the shorter and b of the longer file: the same, or the shorter is cut
@@ -74,16 +76,16 @@ same-from g h (suc k) i e = rw (e i (omega arith) (omega arith), same-from g h k
 
 -- ---- all items of a file but the last
 
-unfoldable items : List ℕ → ℕ
-items f = next (headRefusal f) (next (variablesRefusal f) (first (codeRefusal f) (cores f - 0) 0))
+unfoldable items : Profile → List ℕ → ℕ
+items o f = next (headRefusal o f) (next (variablesRefusal f) (first (codeRefusal o f) (cores f - 0) 0))
 
-items-last : (f : List ℕ) → judge f ≡ next (items f) (unless (eqb (fileEnd f) (length f)) 24)
-unfolding judge codesRefusal items
-items-last f = simp next-both
+items-last : (o : Profile) (f : List ℕ) → judgeFor o f ≡ next (items o f) (unless (eqb (fileEnd f) (length f)) 24)
+unfolding judgeFor codesRefusal items
+items-last o f = simp next-both
 
 -- ---- bytes of g stand in g ++ b
 
-module _ (g b : List ℕ) where
+module _ (o : Profile) (g b : List ℕ) where
   byte-same : (p : ℕ) → p < length g → byte (g ++ b) p ≡ byte g p
   byte-same p h = List·getD-append g b 0 p h
 
@@ -118,22 +120,22 @@ module _ (g b : List ℕ) where
   cores-same : 5 ≤ length g → cores (g ++ b) ≡ cores g
   cores-same h = byte-same 4 (omega arith)
 
-  core-same : (k : ℕ) → corePlace k + 6 ≤ length g → coreOk (g ++ b) k ≡ coreOk g k
+  core-same : (k : ℕ) → corePlace k + 6 ≤ length g → coreOk o (g ++ b) k ≡ coreOk o g k
   unfolding coreOk
   core-same k h =
       rw (word-same (corePlace k) (omega arith), word-same (corePlace k + 2) (omega arith), word-same (corePlace k + 4) (omega arith))
 
-  kept-core : (k : ℕ) → Kept (coreRefusal g k) (coreRefusal (g ++ b) k)
+  kept-core : (k : ℕ) → Kept (coreRefusal o g k) (coreRefusal o (g ++ b) k)
   unfolding coreRefusal
   kept-core k = kept-item (corePlace k + 6) (λ h. alike (ap (λ (t : Bool). unless t 3) (sym (core-same k h))))
 
-  core-ends : (k : ℕ) → coreRefusal g k ≡ 0 → corePlace (k + 1) ≤ length g
+  core-ends : (k : ℕ) → coreRefusal o g k ≡ 0 → corePlace (k + 1) ≤ length g
   unfolding coreRefusal
   core-ends k z =
       let l : corePlace k + 6 ≤ length g = leb-true _ _ (unless-zero _ 0 (next-zero (present g (corePlace k + 6)) _ z .0)) in
       omega arith
 
-  kept-head : Kept (headRefusal g) (headRefusal (g ++ b))
+  kept-head : Kept (headRefusal o g) (headRefusal o (g ++ b))
   unfolding headRefusal
   kept-head =
       kept-item 4
@@ -141,10 +143,10 @@ module _ (g b : List ℕ) where
       (λ _. kept-item 5
       (λ five. rw (cores-same five)
       (kept-next _ _ (alike refl)
-      (λ _. kept-each (coreRefusal g) (coreRefusal (g ++ b)) (λ j. corePlace j ≤ length g) (cores g) (λ j l p. kept-core j) (λ j l p z. core-ends j z)
+      (λ _. kept-each (coreRefusal o g) (coreRefusal o (g ++ b)) (λ j. corePlace j ≤ length g) (cores g) (λ j l p. kept-core j) (λ j l p z. core-ends j z)
       (omega arith))))))
 
-  head-ends : headRefusal g ≡ 0 → countPlace g ≤ length g
+  head-ends : headRefusal o g ≡ 0 → countPlace g ≤ length g
   unfolding headRefusal
   head-ends z =
       let a = next-zero (present g 4) _ z in
@@ -152,7 +154,7 @@ module _ (g b : List ℕ) where
       let d = next-zero (present g 5) _ (c .1) in
       let e = next-zero (unless (within 1 4 (cores g)) 3) _ (d .1) in
       let five : 5 ≤ length g = leb-true _ _ (unless-zero _ 0 (d .0)) in
-      carried (coreRefusal g) (coreRefusal g) (λ j. corePlace j ≤ length g) (cores g) (λ j l p. alike refl) (λ j l p y. core-ends j y)
+      carried (coreRefusal o g) (coreRefusal o g) (λ j. corePlace j ≤ length g) (cores g) (λ j l p. alike refl) (λ j l p y. core-ends j y)
       (omega arith) (e .1)
 
   -- ---- the variables
@@ -242,15 +244,15 @@ module _ (g b : List ℕ) where
     same : codePlace (g ++ b) k ≡ codePlace g k
     inside : codePlace g k ≤ length g
 
-  kept-section : (p : ℕ) → Kept (sectionRefusal g p) (sectionRefusal (g ++ b) p)
+  kept-section : (p : ℕ) → Kept (sectionRefusal o g p) (sectionRefusal o (g ++ b) p)
   unfolding sectionRefusal
   kept-section p =
       kept-item (p + 2)
       (λ l. rw (word-same p l)
       (kept-next _ _ (alike refl)
-      (λ _. kept-item (p + 2 + word g p) (λ m. alike (ap judgeCode (sym (part-same (p + 2) (word g p) m)))))))
+      (λ _. kept-item (p + 2 + word g p) (λ m. alike (ap (judgeCodeFor o) (sym (part-same (p + 2) (word g p) m)))))))
 
-  section-ends : (p : ℕ) → sectionRefusal g p ≡ 0 → p + 2 + word g p ≤ length g
+  section-ends : (p : ℕ) → sectionRefusal o g p ≡ 0 → p + 2 + word g p ≤ length g
   unfolding sectionRefusal
   section-ends p z =
       let a = next-zero (present g (p + 2)) _ z in
@@ -258,7 +260,7 @@ module _ (g b : List ℕ) where
       let d = next-zero (present g (p + 2 + word g p)) _ (c .1) in
       leb-true _ _ (unless-zero _ 0 (d .0))
 
-  place-more : (k : ℕ) → Place k → codeRefusal g k ≡ 0 → Place (k + 1)
+  place-more : (k : ℕ) → Place k → codeRefusal o g k ≡ 0 → Place (k + 1)
   unfolding codePlace
   place-more k p z =
       let l : codePlace g k + 2 + word g (codePlace g k) ≤ length g = section-ends (codePlace g k) z in
@@ -271,12 +273,12 @@ module _ (g b : List ℕ) where
       let c : cores (g ++ b) ≡ cores g = cores-same (omega arith) in
       record { same = rw (c, byte-same (countPlace g) (omega arith)); inside = r }
 
-  kept-code : (k : ℕ) → Place k → Kept (codeRefusal g k) (codeRefusal (g ++ b) k)
+  kept-code : (k : ℕ) → Place k → Kept (codeRefusal o g k) (codeRefusal o (g ++ b) k)
   kept-code k p = rw (p .same) (kept-section (codePlace g k))
 
   -- ---- the whole file: all items but the last, and where they end
 
-  kept-all : Kept (items g) (items (g ++ b))
+  kept-all : Kept (items o g) (items o (g ++ b))
   unfolding items
   kept-all =
       kept-next _ _ kept-head
@@ -284,16 +286,16 @@ module _ (g b : List ℕ) where
       kept-next _ _ (kept-variables c)
       (λ y. let r = variables-end c y in
       rw (same-cores c)
-      (kept-each (codeRefusal g) (codeRefusal (g ++ b)) Place (cores g) (λ k l p. kept-code k p) (λ k l p z. place-more k p z) (place-none r))))
+      (kept-each (codeRefusal o g) (codeRefusal o (g ++ b)) Place (cores g) (λ k l p. kept-code k p) (λ k l p z. place-more k p z) (place-none r))))
 
-  ends-alike : items g ≡ 0 → (fileEnd (g ++ b) ≡ fileEnd g) × (fileEnd g ≤ length g)
+  ends-alike : items o g ≡ 0 → (fileEnd (g ++ b) ≡ fileEnd g) × (fileEnd g ≤ length g)
   unfolding items
   ends-alike z =
-      let a = next-zero (headRefusal g) _ z in
+      let a = next-zero (headRefusal o g) _ z in
       let d = next-zero (variablesRefusal g) _ (a .1) in
       let c = head-ends (a .0) in
       let at : Place (cores g) =
-      carried (codeRefusal g) (codeRefusal g) Place (cores g) (λ k l p. alike refl) (λ k l p y. place-more k p y) (place-none (variables-end c (d .0))) (d .1)
+      carried (codeRefusal o g) (codeRefusal o g) Place (cores g) (λ k l p. alike refl) (λ k l p y. place-more k p y) (place-none (variables-end c (d .0))) (d .1)
       in
       (ap (codePlace (g ++ b)) (same-cores c) ∙ at .same, at .inside)
 
@@ -301,22 +303,22 @@ module _ (g b : List ℕ) where
 
   module _ (more : 0 < length b) where
     -- what follows an accepted file is left over
-    followed-24 : judge g ≡ 0 → judge (g ++ b) ≡ 24
+    followed-24 : judgeFor o g ≡ 0 → judgeFor o (g ++ b) ≡ 24
     followed-24 z =
-        let a = next-zero (items g) _ (sym (items-last g) ∙ z) in
+        let a = next-zero (items o g) _ (sym (items-last o g) ∙ z) in
         let at = ends-alike (a .0) in
         let e : fileEnd g ≡ length g = eqb-true _ _ (unless-zero _ 23 (a .1)) in
-        items-last (g ++ b)
+        items-last o (g ++ b)
         ∙ sym (skip (kept-none kept-all (a .0)) (sym (no _ 24 (ne-eqb (fileEnd (g ++ b)) (length (g ++ b)) (λ y. let n : ⊥ = omega (arith, longer) in n)))))
 
     -- what an accepted file lacks is cut off
-    cut-1 : judge (g ++ b) ≡ 0 → judge g ≡ 1
-    cut-1 z = items-last g ∙ go kept-all
+    cut-1 : judgeFor o (g ++ b) ≡ 0 → judgeFor o g ≡ 1
+    cut-1 z = items-last o g ∙ go kept-all
       where
-        a : (items (g ++ b) ≡ 0) × (unless (eqb (fileEnd (g ++ b)) (length (g ++ b))) 24 ≡ 0)
-        a = next-zero (items (g ++ b)) _ (sym (items-last (g ++ b)) ∙ z)
+        a : (items o (g ++ b) ≡ 0) × (unless (eqb (fileEnd (g ++ b)) (length (g ++ b))) 24 ≡ 0)
+        a = next-zero (items o (g ++ b)) _ (sym (items-last o (g ++ b)) ∙ z)
 
-        go : Kept (items g) (items (g ++ b)) → next (items g) (unless (eqb (fileEnd g) (length g)) 24) ≡ 1
+        go : Kept (items o g) (items o (g ++ b)) → next (items o g) (unless (eqb (fileEnd g) (length g)) 24) ≡ 1
         go (cut e) = sym (halt 0 _ e)
         go (alike e) =
             let at = ends-alike (e ∙ a .0) in
@@ -324,9 +326,12 @@ module _ (g b : List ℕ) where
             absurd (let n : ⊥ = omega (arith, longer) in n)
 
 -- an accepted file on its way
-pub in-transit : (f : List ℕ) → judge f ≡ 0 → InTransit f
-in-transit f z =
+pub in-transit-for : (o : Profile) (f : List ℕ) → judgeFor o f ≡ 0 → InTransitFor o f
+in-transit-for o f z =
     record {
-      cut = λ n h. cut-1 (take n f) (drop n f) (omega (arith, length-drop n f)) (ap judge (take-append-drop n f) ∙ z);
-      followed = λ b h. followed-24 f b h z;
+      cut = λ n h. cut-1 o (take n f) (drop n f) (omega (arith, length-drop n f)) (ap (judgeFor o) (take-append-drop n f) ∙ z);
+      followed = λ b h. followed-24 o f b h z;
     }
+
+pub in-transit : (f : List ℕ) → judge f ≡ 0 → InTransit f
+in-transit f z = in-transit-for Full f z

@@ -8,9 +8,11 @@ use mathlib.Core.List.{List, [], _∷_}
 use lib.ListN.{length}
 use Rattle.verdict.specs.Items.{From, numbers, Item, item, forEach, inTurn}
 use Rattle.memory.specs.Memory.{word}
-use Rattle.code.specs.Rules.{codeItems}
+use Rattle.code.specs.declared.Profile.{Profile}
+use Rattle.code.specs.declared.Profile.the-variants.{Full}
+use Rattle.code.specs.Rules.{codeItemsFor}
 use Rattle.records.specs.File.{cores, corePlace, countPlace, variables, recordPlace, variableAt}
-use Rattle.records.specs.Rules.{CoreRules, VariableRules}
+use Rattle.records.specs.Rules.{CoreRulesFor, VariableRules}
 use Rattle.taskset.specs.Judge.{codePlace, fileEnd, codeOf}
 use Rattle.taskset.specs.Rules.{Mark, NoOverlap}
 
@@ -19,8 +21,8 @@ abbrev pub Present : List ℕ → ℕ → Type 0
 Present f n = n ≤ length f
 
 -- a core's three numbers; a variable's record; the length of a core's code, and the code
-abbrev pub coreItems : List ℕ → ℕ → List Item
-coreItems f k = item 1 (Present f (corePlace k + 6)) ∷ item 3 (CoreRules f k) ∷ []
+abbrev pub coreItems : Profile → List ℕ → ℕ → List Item
+coreItems profile f k = item 1 (Present f (corePlace k + 6)) ∷ item 3 (CoreRulesFor profile f k) ∷ []
 
 abbrev pub variableItems : List ℕ → ℕ → List Item
 variableItems f i = item 1 (Present f (recordPlace f i + 12)) ∷ item 4 (VariableRules f (variableAt f i)) ∷ []
@@ -28,15 +30,18 @@ variableItems f i = item 1 (Present f (recordPlace f i + 12)) ∷ item 4 (Variab
 abbrev pub lengthItems : List ℕ → ℕ → List Item
 lengthItems f p = item 1 (Present f (p + 2)) ∷ item 6 (From 1 8192 (word f p)) ∷ item 1 (Present f (p + 2 + word f p)) ∷ []
 
-unfoldable pub fileItems : List ℕ → List Item
-fileItems f =
+unfoldable pub fileItemsFor : Profile → List ℕ → List Item
+fileItemsFor profile f =
     inTurn
     ((item 1 (Present f 4) ∷ item 2 (Mark f) ∷ [])  -- the mark
     ∷ (item 1 (Present f 5) ∷ item 3 (From 1 4 (cores f)) ∷ [])  -- the number of cores
-    ∷ forEach (numbers (cores f) 0) (coreItems f)
+    ∷ forEach (numbers (cores f) 0) (coreItems profile f)
     ∷ (item 1 (Present f (countPlace f + 1)) ∷ item 4 (variables f ≤ 64) ∷ [])  -- the number of variables
     ∷ forEach (numbers (variables f) 0) (variableItems f)
     ∷ (item 5 (NoOverlap f) ∷ [])  -- overlap follows the last variable
-    ∷ forEach (numbers (cores f) 0) (λ k. inTurn (lengthItems f (codePlace f k) ∷ codeItems (codeOf f k) ∷ []))
+    ∷ forEach (numbers (cores f) 0) (λ k. inTurn (lengthItems f (codePlace f k) ∷ codeItemsFor profile (codeOf f k) ∷ []))
     ∷ (item 24 (fileEnd f ≡ length f) ∷ [])  -- leftover bytes come last
     ∷ [])
+
+abbrev pub fileItems : List ℕ → List Item
+fileItems f = fileItemsFor Full f

@@ -1,5 +1,5 @@
 -- Document 01, "Refusals": the number of a task set file, 0 where it is accepted. The file is judged front to back: presence of each item (1),
--- then the item. In order: mark and cores; variables; code; the whole file.
+-- then the item. A file is judged for a profile (document 02, 2.10); what is said of no profile is meant of the full one. In order: mark and cores; variables; code; the whole file.
 use Prim.Native.Nat.{ℕ, zero, suc, _+_, _-_}
 use mathlib.Core.List.{List}
 use mathlib.Core.Bool.{Bool}
@@ -7,7 +7,9 @@ use lib.ListN.{length}
 use lib.Dec.{leb, eqb}
 use Rattle.verdict.specs.Verdict.{both, within, next, unless, first}
 use Rattle.memory.specs.Memory.{byte, word, part}
-use Rattle.code.specs.Code.{judgeCode}
+use Rattle.code.specs.declared.Profile.{Profile}
+use Rattle.code.specs.declared.Profile.the-variants.{Full}
+use Rattle.code.specs.Code.{judgeCodeFor}
 use Rattle.records.specs.File.{cores, countPlace, variables, recordPlace}
 use Rattle.records.specs.Records.{present, coreRefusal, variableRefusal, overlapRefusal}
 
@@ -17,12 +19,12 @@ use Rattle.records.specs.Records.{present, coreRefusal, variableRefusal, overla
 unfoldable pub isMark : List ℕ → Bool
 isMark f = both (eqb (byte f 0) 77) (both (eqb (byte f 1) 67) (both (eqb (byte f 2) 83) (eqb (byte f 3) 49)))
 
-unfoldable pub headRefusal : List ℕ → ℕ
-headRefusal f =
+unfoldable pub headRefusal : Profile → List ℕ → ℕ
+headRefusal profile f =
     next (present f 4)
     (next (unless (isMark f) 2)
     (next (present f 5)
-    (next (unless (within 1 4 (cores f)) 3) (first (coreRefusal f) (cores f - 0) 0))))
+    (next (unless (within 1 4 (cores f)) 3) (first (coreRefusal profile f) (cores f - 0) 0))))
 
 -- ---- variables: all records, then all pairs
 
@@ -52,19 +54,22 @@ abbrev pub fileEnd : List ℕ → ℕ
 fileEnd f = codePlace f (cores f)
 
 -- a length and a code: length 1..8,192, presence, then the code itself
-unfoldable pub sectionRefusal : List ℕ → ℕ → ℕ
-sectionRefusal f p =
+unfoldable pub sectionRefusal : Profile → List ℕ → ℕ → ℕ
+sectionRefusal profile f p =
     next (present f (p + 2))
-    (next (unless (within 1 8192 (word f p)) 6) (next (present f (p + 2 + word f p)) (judgeCode (codeIn f p))))
+    (next (unless (within 1 8192 (word f p)) 6) (next (present f (p + 2 + word f p)) (judgeCodeFor profile (codeIn f p))))
 
-abbrev pub codeRefusal : List ℕ → ℕ → ℕ
-codeRefusal f k = sectionRefusal f (codePlace f k)
+abbrev pub codeRefusal : Profile → List ℕ → ℕ → ℕ
+codeRefusal profile f k = sectionRefusal profile f (codePlace f k)
 
 -- the code of each core, and then nothing follows (24, document 02, 2.2)
-unfoldable pub codesRefusal : List ℕ → ℕ
-codesRefusal f = next (first (codeRefusal f) (cores f - 0) 0) (unless (eqb (fileEnd f) (length f)) 24)
+unfoldable pub codesRefusal : Profile → List ℕ → ℕ
+codesRefusal profile f = next (first (codeRefusal profile f) (cores f - 0) 0) (unless (eqb (fileEnd f) (length f)) 24)
 
 -- ---- the whole file
 
-unfoldable pub judge : List ℕ → ℕ
-judge f = next (headRefusal f) (next (variablesRefusal f) (codesRefusal f))
+unfoldable pub judgeFor : Profile → List ℕ → ℕ
+judgeFor profile f = next (headRefusal profile f) (next (variablesRefusal f) (codesRefusal profile f))
+
+abbrev pub judge : List ℕ → ℕ
+judge f = judgeFor Full f

@@ -5,7 +5,9 @@ use lib.Dec.{ltb, eqb}
 use Rattle.verdict.specs.Verdict.{pick}
 use Rattle.memory.specs.Memory.{word}
 use Rattle.records.specs.File.{cores, dataSize, inputSize, limit, variables, recordPlace}
-use Rattle.taskset.specs.Judge.{codePlace, judge}
+use Rattle.code.specs.declared.Profile.{Profile}
+use Rattle.code.specs.declared.Profile.the-variants.{Full}
+use Rattle.taskset.specs.Judge.{codePlace, judgeFor}
 use Rattle.taskset.specs.declared.CoreLayout.{CoreLayout}
 use Rattle.taskset.specs.declared.Layout.{Layout}
 use Rattle.taskset.specs.declared.Loaded.{Loaded}
@@ -43,5 +45,8 @@ layoutOf f = record {
 abbrev pub noLayout : Layout
 noLayout = record { cores = 0; variables = 0; first = 0; core = noCore ∷ noCore ∷ noCore ∷ noCore ∷ [] }
 
-unfoldable pub loadOf : List ℕ → Loaded
-loadOf f = record { refusal = judge f; layout = pick (eqb (judge f) 0) (layoutOf f) noLayout }
+unfoldable pub loadFor : Profile → List ℕ → Loaded
+loadFor profile f = record { refusal = judgeFor profile f; layout = pick (eqb (judgeFor profile f) 0) (layoutOf f) noLayout }
+
+abbrev pub loadOf : List ℕ → Loaded
+loadOf f = loadFor Full f

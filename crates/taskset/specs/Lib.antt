@@ -3,6 +3,7 @@ pub mod Layout
 pub mod Trace
 pub mod Rules
 pub mod Items
+pub mod Profiles
 pub mod Task
 pub mod Transit
 pub mod Blank

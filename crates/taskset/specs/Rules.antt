@@ -6,9 +6,11 @@ use mathlib.Core.Logic.{_⊎_}
 use mathlib.Core.List.{List, [], _∷_, _++_}
 use lib.ListN.{length, take}
 use Rattle.memory.specs.Memory.{word}
-use Rattle.code.specs.Rules.{WellFormedCode}
+use Rattle.code.specs.declared.Profile.{Profile}
+use Rattle.code.specs.declared.Profile.the-variants.{Full}
+use Rattle.code.specs.Rules.{WellFormedCodeFor}
 use Rattle.records.specs.File.{cores, inputSize, variables, variableAt}
-use Rattle.records.specs.Rules.{CoreRules, VariableRules, Apart}
+use Rattle.records.specs.Rules.{CoreRulesFor, VariableRules, Apart}
 use Rattle.taskset.specs.Judge.{codePlace, fileEnd, codeOf}
 
 -- ---- the file. `ends` says that every section is there and that nothing follows: the places of the sections, by their counts, are those of `specs/Judge`.
@@ -21,18 +23,21 @@ Mark f = take 4 f ≡ 77 ∷ 67 ∷ 83 ∷ 49 ∷ []
 abbrev pub NoOverlap : List ℕ → Type 0
 NoOverlap f = (i j : ℕ) → i < j → j < variables f → Apart (variableAt f i) (variableAt f j)
 
-pub record WellFormed (f : List ℕ) : Type 0 where
+pub record WellFormedFor (profile : Profile) (f : List ℕ) : Type 0 where
   pub mark : Mark f
   pub some-core : 1 ≤ cores f
   pub most-cores : cores f ≤ 4
-  pub core-rules : (k : ℕ) → k < cores f → CoreRules f k
+  pub core-rules : (k : ℕ) → k < cores f → CoreRulesFor profile f k
   pub most-variables : variables f ≤ 64
   pub variable-rules : (i : ℕ) → i < variables f → VariableRules f (variableAt f i)
   pub no-overlap : NoOverlap f
   pub some-code : (k : ℕ) → k < cores f → 1 ≤ word f (codePlace f k)
   pub most-code : (k : ℕ) → k < cores f → word f (codePlace f k) ≤ 8192
-  pub code-rules : (k : ℕ) → k < cores f → WellFormedCode (codeOf f k)
+  pub code-rules : (k : ℕ) → k < cores f → WellFormedCodeFor profile (codeOf f k)
   pub ends : fileEnd f ≡ length f
+
+abbrev pub WellFormed : List ℕ → Type 0
+WellFormed f = WellFormedFor Full f
 
 -- ---- the trace of a file
 

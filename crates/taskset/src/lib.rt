@@ -1,10 +1,11 @@
 // Document 01, "The task set file" and the trace: judged front to back (refusals 1..7, 24 and 22), and where everything stands in them.
+use code::Profile;
 ghost use mathlib.Core.Path.{_≡_};
 ghost use Prim.Native.Nat.{ℕ, _+_, _*_, _-_, _<_, _≤_};
 ghost use lib.ListN.{length};
 ghost use Rattle.records.specs.File.{cores, variables};
-ghost use Rattle.taskset.specs.Judge.{isMark, headRefusal, variablesRefusal, codePlace, sectionRefusal, codesRefusal, judge};
-ghost use Rattle.taskset.specs.Layout.{basePlace, noCore, coreLayout, layoutOf, noLayout, loadOf};
+ghost use Rattle.taskset.specs.Judge.{isMark, headRefusal, variablesRefusal, codePlace, sectionRefusal, codesRefusal, judgeFor, judge};
+ghost use Rattle.taskset.specs.Layout.{basePlace, noCore, coreLayout, layoutOf, noLayout, loadFor, loadOf};
 ghost use Rattle.memory.specs.Memory.{total};
 ghost use Rattle.taskset.specs.Task.{sizesOf};
 ghost use Rattle.taskset.specs.Trace.{blank, tracePlace, traceRefusal, countOf, firstOf, loadTraceOf};
@@ -13,7 +14,7 @@ ghost use Rattle.taskset.specs.Trace.{blank, tracePlace, traceRefusal, c
 
 const MARK: [u8; 4] = *b"MCS1";
 
-pub fn is_mark(f: &[u8]) -> bool
+fn is_mark(f: &[u8]) -> bool
     requires { ⌜ 4 ≤ length (now f) ⌝ }
     ensures { λ r. ⌜ r ≡ isMark (now (f .entry)) ⌝ }
 {
@@ -30,8 +31,8 @@ pub fn is_mark(f: &[u8]) -> bool
 }
 
 // The mark, the number of cores and their records.
-fn head_refusal(f: &[u8]) -> u8
-    ensures { λ r. ⌜ r ≡ headRefusal (now (f .entry)) ⌝ }
+fn head_refusal(profile: Profile, f: &[u8]) -> u8
+    ensures { λ r. ⌜ r ≡ headRefusal profile (now (f .entry)) ⌝ }
 {
     if f.len() < 4 {
         return 1;
@@ -49,11 +50,11 @@ fn head_refusal(f: &[u8]) -> u8
     if 4 < n {
         return 3;
     }
-    records::cores_refusal(f, n)
+    records::cores_refusal(profile, f, n)
 }
 
 // The number of variables, their records and their overlap.
-pub fn variables_refusal(f: &[u8]) -> u8
+fn variables_refusal(f: &[u8]) -> u8
     ensures { λ r. ⌜ r ≡ variablesRefusal (now (f .entry)) ⌝ }
 {
     let at = 5 + 6 * memory::byte_at(f, 4) as usize;
@@ -72,9 +73,9 @@ pub fn variables_refusal(f: &[u8]) -> u8
 }
 
 // The length and the code at place p.
-fn section_refusal(f: &[u8], p: usize) -> u8
+fn section_refusal(profile: Profile, f: &[u8], p: usize) -> u8
     requires { ⌜ p < 1000000 ⌝ }
-    ensures { λ r. ⌜ r ≡ sectionRefusal (now (f .entry)) p ⌝ }
+    ensures { λ r. ⌜ r ≡ sectionRefusal profile (now (f .entry)) p ⌝ }
 {
     let a = p + 2;
     if f.len() < a {
@@ -91,18 +92,18 @@ fn section_refusal(f: &[u8], p: usize) -> u8
     if f.len() < e {
         return 1; // cut within the code
     }
-    code::judge_code(&f[a..e])
+    code::judge_code_for(profile, &f[a..e])
 }
 
 // The code of each of n cores, the first at place `from`, and what follows the last.
-fn codes_refusal(f: &[u8], n: usize, from: usize) -> u8
+fn codes_refusal(profile: Profile, f: &[u8], n: usize, from: usize) -> u8
     requires { ⌜ (n ≤ 4) × (n ≡ cores (now f)) × (from ≡ codePlace (now f) 0) × (from < 9000) ⌝ }
-    ensures { λ r. ⌜ r ≡ codesRefusal (now (f .entry)) ⌝ }
+    ensures { λ r. ⌜ r ≡ codesRefusal profile (now (f .entry)) ⌝ }
 {
     let mut p = from;
     let mut k = 0;
     while k < n {
-        let r = section_refusal(f, p);
+        let r = section_refusal(profile, f, p);
         if r != 0 {
             return r;
         }
@@ -115,11 +116,11 @@ fn codes_refusal(f: &[u8], n: usize, from: usize) -> u8
     24 // bytes follow the last section
 }
 
-// The refusal number of a task set file, 0 where it is accepted.
-pub fn judge_file(f: &[u8]) -> u8
-    ensures { λ r. ⌜ r ≡ judge (now (f .entry)) ⌝ }
+// The refusal number of a task set file under a profile, 0 where it is accepted.
+pub fn judge_file_for(profile: Profile, f: &[u8]) -> u8
+    ensures { λ r. ⌜ r ≡ judgeFor profile (now (f .entry)) ⌝ }
 {
-    let h = head_refusal(f);
+    let h = head_refusal(profile, f);
     if h != 0 {
         return h;
     }
@@ -129,7 +130,14 @@ pub fn judge_file(f: &[u8]) -> u8
     }
     let n = memory::byte_at(f, 4) as usize;
     let m = memory::byte_at(f, 5 + 6 * n);
-    codes_refusal(f, n, records::record_place(f, m))
+    codes_refusal(profile, f, n, records::record_place(f, m))
+}
+
+// Under the full profile.
+pub fn judge_file(f: &[u8]) -> u8
+    ensures { λ r. ⌜ r ≡ judge (now (f .entry)) ⌝ }
+{
+    judge_file_for(Profile::Full, f)
 }
 
 // ---- the layout of an accepted file
@@ -247,10 +255,10 @@ fn no_layout() -> Layout
 }
 
 // The refusal number and an empty layout, or 0 and the layout.
-pub fn load(f: &[u8]) -> Loaded
-    ensures { λ r. ⌜ r ≡ loadOf (now (f .entry)) ⌝ }
+pub fn load_for(profile: Profile, f: &[u8]) -> Loaded
+    ensures { λ r. ⌜ r ≡ loadFor profile (now (f .entry)) ⌝ }
 {
-    let r = judge_file(f);
+    let r = judge_file_for(profile, f);
     if r == 0 {
         let l = layout_of(f);
         return Loaded {
@@ -263,6 +271,13 @@ pub fn load(f: &[u8]) -> Loaded
         refusal: r,
         layout: e,
     }
+}
+
+// Under the full profile.
+pub fn load(f: &[u8]) -> Loaded
+    ensures { λ r. ⌜ r ≡ loadOf (now (f .entry)) ⌝ }
+{
+    load_for(Profile::Full, f)
 }
 
 // The sum of the data sizes, at most 4 times 4,096.

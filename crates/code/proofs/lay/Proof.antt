@@ -4,55 +4,69 @@ use lib.ListN.{length}
 use mathlib.Core.Path.{sym, ap, _∙_}
 use mathlib.Core.Logic.{⊎-elim}
 use mathlib.Core.Bool.{Bool}
+use borrow.Author.Tests.{not-true, not-false}
 use native.Mathlib.Omega.{arith}
 use borrow.Author.Needs.{needs}
 use Rattle.verdict.specs.Verdict.{either}
-use Rattle.code.proofs.Laws.{whole, accepted, length-taken, length-refused}
+use Rattle.code.proofs.Laws.{whole, carried-not, length-taken, length-refused}
 use Rattle.code.proofs.Laying.{Laying, laying-none, laying-more, laying-end, laying-stop}
 use Rattle.code.proofs.lay.Statement.{statement}
 use Rattle.code.proofs.lay.Tie as tie
 
 abbrev Inv-loop : tie.InvT-loop
-Inv-loop code marks₀ last₀ outside₀ p₀ marks last outside p = Laying code p last outside marks
+Inv-loop profile code marks₀ last₀ outside₀ p₀ marks last outside p = Laying profile code p last outside marks
 
 abbrev μ-loop : tie.MeasureT-loop
-μ-loop code marks₀ last₀ outside₀ p₀ marks last outside p = length code - p
+μ-loop profile code marks₀ last₀ outside₀ p₀ marks last outside p = length code - p
 
 cleared-requires : tie.Need-cleared-requires Inv-loop μ-loop
 cleared-requires c κs = search needs
 
 loop-holds : tie.Need-loop-holds Inv-loop μ-loop
-loop-holds c = laying-none _ _ (c .cleared .ensures .0) (c .cleared .ensures .1)
+loop-holds c = laying-none _ _ _ (c .cleared .ensures .0) (c .cleared .ensures .1)
 
 accepted-length-requires : tie.Need-accepted-length-requires Inv-loop μ-loop
 accepted-length-requires c κs = c .loop-test .taken
 
 returns : tie.Need-returns Inv-loop μ-loop
-returns c = laying-stop _ _ _ 6 _ _ (c .before .before .before .loop .inv) (c .before .before .loop-test .taken) (length-refused _ _ _ (c .before .accepted-length .ensures) (c .if1 .taken)) (λ z. let y : ⊥ = omega arith in y)
+returns c = laying-stop _ _ _ _ 6 _ _ (c .before .before .before .loop .inv) (c .before .before .loop-test .taken) (length-refused _ _ _ _ (c .before .accepted-length .ensures) (c .if1 .taken)) (λ z. let y : ⊥ = omega arith in y)
+
+is-carried-requires : tie.Need-is-carried-requires Inv-loop μ-loop
+is-carried-requires c κs = (c .before .before .loop-test .taken, length-taken _ _ _ (c .before .accepted-length .ensures) (c .if1 .left) .0)
+
+returns-2 : tie.Need-returns-2 Inv-loop μ-loop
+returns-2 c = laying-stop _ _ _ _ 27 _ _ (c .before .before .before .before .before .loop .inv) (c .before .before .before .before .loop-test .taken) (carried-not _ _ _ (length-taken _ _ _ (c .before .before .before .accepted-length .ensures) (c .before .before .if1 .left) .0) (sym (c .before .is-carried .ensures) ∙ not-true _ (c .if2 .taken))) (λ z. let y : ⊥ = omega arith in y)
 
 slice-aggregate-ask-target : tie.Need-slice-aggregate-ask-target Inv-loop μ-loop
 slice-aggregate-ask-target c = search needs
 
 ask-target-requires : tie.Need-ask-target-requires Inv-loop μ-loop
-ask-target-requires c κs = (c .before .before .before .loop-test .taken, whole (c .before .before .before .before .before .before .before .args .code .now) (c .before .before .before .before .loop .p) (accepted _ _ (length-taken _ _ _ (c .before .before .accepted-length .ensures) (c .before .if1 .left) .0)) .fixed)
+ask-target-requires c κs = (c .before .before .before .before .before .loop-test .taken, whole (c .before .before .before .before .before .before .before .before .before .args .code .now) (c .before .before .before .before .before .before .loop .p) (length-taken _ _ _ (c .before .before .before .before .accepted-length .ensures) (c .before .before .before .if1 .left) .0) .fixed)
 
 array-write-marks : tie.Need-array-write-marks Inv-loop μ-loop
-array-write-marks c = omega (arith, c .before .before .before .before .before .before .before .before .before .before .pre)
+array-write-marks c = omega (arith, c .before .before .before .before .before .before .before .before .before .before .before .before .pre)
 
 shared-slice-read-last : tie.Need-shared-slice-read-last Inv-loop μ-loop
 shared-slice-read-last c = search needs
 
 add-p : tie.Need-add-p Inv-loop μ-loop
-add-p c = omega (arith, length-taken _ _ _ (c .before .before .before .before .before .before .accepted-length .ensures) (c .before .before .before .before .before .if1 .left) .1, whole (c .before .before .before .before .before .before .before .before .before .before .before .args .code .now) (c .before .before .before .before .before .before .before .before .loop .p) (accepted _ _ (length-taken _ _ _ (c .before .before .before .before .before .before .accepted-length .ensures) (c .before .before .before .before .before .if1 .left) .0)), c .before .before .before .before .before .before .before .before .before .before .before .pre)
+add-p c =
+    let taken = length-taken _ _ _ (c .before .before .before .before .before .before .before .before .accepted-length .ensures) (c .before .before .before .before .before .before .before .if1 .left) in
+    omega (arith, taken .1, whole (c .before .before .before .before .before .before .before .before .before .before .before .before .before .args .code .now) (c .before .before .before .before .before .before .before .before .before .before .loop .p) (taken .0), c .before .before .before .before .before .before .before .before .before .before .before .before .before .pre)
 
 loop-less : tie.Need-loop-less Inv-loop μ-loop
-loop-less c = omega (arith, length-taken _ _ _ (c .before .before .before .before .before .before .accepted-length .ensures) (c .before .before .before .before .before .if1 .left) .1, whole (c .before .before .before .before .before .before .before .before .before .before .before .args .code .now) (c .before .before .before .before .before .before .before .before .loop .p) (accepted _ _ (length-taken _ _ _ (c .before .before .before .before .before .before .accepted-length .ensures) (c .before .before .before .before .before .if1 .left) .0)))
+loop-less c =
+    let taken = length-taken _ _ _ (c .before .before .before .before .before .before .before .before .accepted-length .ensures) (c .before .before .before .before .before .before .before .if1 .left) in
+    omega (arith, taken .1, whole (c .before .before .before .before .before .before .before .before .before .before .before .before .before .args .code .now) (c .before .before .before .before .before .before .before .before .before .before .loop .p) (taken .0))
 
 loop-again : tie.Need-loop-again Inv-loop μ-loop
-loop-again c = laying-more _ _ _ _ _ (c .before .before .before .before .before .before .before .before .before .before .before .pre) (c .before .before .before .before .before .before .before .before .loop .inv) (c .before .before .before .before .before .before .before .loop-test .taken) _ (c .before .before .before .before .before .before .accepted-length .ensures) (c .before .before .before .before .before .if1 .left) _ _ (c .before .before .before .ask-target .ensures) _ (⊎-elim (λ w. w .1 ∙ ap (λ (x : Bool). either x (c .before .before .before .before .before .before .before .before .loop .outside)) (sym (w .0 .taken))) (λ w. w .1 ∙ ap (λ (x : Bool). either x (c .before .before .before .before .before .before .before .before .loop .outside)) (sym (w .0 .left))) (c .before .if2 .came))
+loop-again c =
+    let outside = c .before .before .before .before .before .before .before .before .before .before .loop .outside in
+    laying-more _ _ _ _ _ _ (c .before .before .before .before .before .before .before .before .before .before .before .before .before .pre) (c .before .before .before .before .before .before .before .before .before .before .loop .inv) (c .before .before .before .before .before .before .before .before .before .loop-test .taken) _ (c .before .before .before .before .before .before .before .before .accepted-length .ensures) (c .before .before .before .before .before .before .before .if1 .left) (sym (c .before .before .before .before .before .before .is-carried .ensures) ∙ not-false _ (c .before .before .before .before .before .if2 .left)) _ _ (c .before .before .before .ask-target .ensures) _
+    (⊎-elim (λ w. w .1 ∙ ap (λ (x : Bool). either x outside) (sym (w .0 .taken))) (λ w. w .1 ∙ ap (λ (x : Bool). either x outside) (sym (w .0 .left))) (c .before .if3 .came))
 
-returns-2 : tie.Need-returns-2 Inv-loop μ-loop
-returns-2 c = laying-end _ _ _ _ _ (c .before .loop .inv) (c .loop-test .left)
+returns-3 : tie.Need-returns-3 Inv-loop μ-loop
+returns-3 c = laying-end _ _ _ _ _ _ (c .before .loop .inv) (c .loop-test .left)
 
 pub lay-spec : {M : Type 1} → statement M
 lay-spec =
@@ -64,6 +78,8 @@ lay-spec =
     loop-holds
     accepted-length-requires
     returns
+    is-carried-requires
+    returns-2
     slice-aggregate-ask-target
     ask-target-requires
     array-write-marks
@@ -71,4 +87,4 @@ lay-spec =
     add-p
     loop-less
     loop-again
-    returns-2)
+    returns-3)

@@ -1,7 +1,7 @@
 -- Accepted code is laid, so the marks are its starts.
 use mathlib.Core.Path.{_∙_}
 use Rattle.verdict.proofs.Verdict.{next-zero}
-use Rattle.code.specs.Code.{judgeCode}
+use Rattle.code.specs.Code.{judgeCodeFor}
 use borrow.Author.Needs.{needs}
 use Rattle.code.proofs.starts.Statement.{statement}
 use Rattle.code.proofs.starts.Tie as tie
@@ -10,7 +10,7 @@ lay-requires : tie.Need-lay-requires
 lay-requires c κs = search needs
 
 returns : tie.Need-returns
-unfolding judgeCode
+unfolding judgeCodeFor
 returns c = (c .before .lay .ensures .size, c .before .lay .ensures .marked (c .before .lay .ensures .right ∙ next-zero _ _ (c .before .before .before .pre .1) .0))
 
 pub starts-spec : {M : Type 1} → statement M

@@ -19,9 +19,12 @@ returns : tie.Need-returns
 unfolding coreOk
 returns c = rw (sym (c .before .word-at .ensures .0), lt-leb _ _ (c .if1 .taken))
 
+most-data-requires : tie.Need-most-data-requires
+most-data-requires c κs = search needs
+
 returns-2 : tie.Need-returns-2
 unfolding coreOk
-returns-2 c = rw (sym (c .before .before .word-at .ensures .0), le-leb _ _ (c .before .if1 .left), lt-leb _ _ (c .if2 .taken))
+returns-2 c = rw (sym (c .before .before .before .word-at .ensures .0), le-leb _ _ (c .before .before .if1 .left), sym (c .before .most-data .ensures), lt-leb _ _ (c .if2 .taken))
 
 add-word-at : tie.Need-add-word-at
 add-word-at c = search needs
@@ -31,7 +34,7 @@ word-at-requires-2 c κs = search needs
 
 returns-3 : tie.Need-returns-3
 unfolding coreOk
-returns-3 c = rw (sym (c .before .before .before .before .word-at .ensures .0), le-leb _ _ (c .before .before .before .if1 .left), le-leb _ _ (c .before .before .if2 .left), sym (c .before .word-at2 .ensures .0), lt-leb _ _ (c .if3 .taken))
+returns-3 c = rw (sym (c .before .before .before .before .before .word-at .ensures .0), le-leb _ _ (c .before .before .before .before .if1 .left), sym (c .before .before .before .most-data .ensures), le-leb _ _ (c .before .before .if2 .left), sym (c .before .word-at2 .ensures .0), lt-leb _ _ (c .if3 .taken))
 
 add-word-at-2 : tie.Need-add-word-at-2
 add-word-at-2 c = search needs
@@ -41,7 +44,7 @@ word-at-requires-3 c κs = search needs
 
 returns-4 : tie.Need-returns-4
 unfolding coreOk
-returns-4 c = rw (sym (c .before .before .before .before .before .word-at .ensures .0), le-leb _ _ (c .before .before .before .before .if1 .left), le-leb _ _ (c .before .before .before .if2 .left), sym (c .before .before .word-at2 .ensures .0), le-leb _ _ (c .before .if3 .left), sym (c .word-at3 .ensures .0))
+returns-4 c = rw (sym (c .before .before .before .before .before .before .word-at .ensures .0), le-leb _ _ (c .before .before .before .before .before .if1 .left), sym (c .before .before .before .before .most-data .ensures), le-leb _ _ (c .before .before .before .if2 .left), sym (c .before .before .word-at2 .ensures .0), le-leb _ _ (c .before .if3 .left), sym (c .word-at3 .ensures .0))
 
 pub core-ok-spec : {M : Type 1} → statement M
 core-ok-spec =
@@ -51,6 +54,7 @@ core-ok-spec =
     add-p
     word-at-requires
     returns
+    most-data-requires
     returns-2
     add-word-at
     word-at-requires-2

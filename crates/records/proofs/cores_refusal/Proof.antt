@@ -8,10 +8,10 @@ use Rattle.records.proofs.cores_refusal.Statement.{statement}
 use Rattle.records.proofs.cores_refusal.Tie as tie
 
 abbrev Inv-loop : tie.InvT-loop
-Inv-loop f n k₀ k = Going (coreRefusal f) 0 n k
+Inv-loop profile f n k₀ k = Going (coreRefusal profile f) 0 n k
 
 abbrev μ-loop : tie.MeasureT-loop
-μ-loop f n k₀ k = n - k
+μ-loop profile f n k₀ k = n - k
 
 loop-holds : tie.Need-loop-holds Inv-loop μ-loop
 loop-holds c = going-none _ _ _

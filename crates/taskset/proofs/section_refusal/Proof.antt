@@ -6,7 +6,7 @@ use borrow.Author.Tests.{le-leb, lt-leb}
 use lib.ListN.{take, drop}
 use Rattle.verdict.proofs.Verdict.{skip, halt, yes, no}
 use Rattle.memory.specs.Memory.{word, part}
-use Rattle.code.specs.Code.{judgeCode}
+use Rattle.code.specs.Code.{judgeCodeFor}
 use Rattle.taskset.specs.Judge.{sectionRefusal}
 use borrow.Author.Needs.{needs}
 use Rattle.taskset.proofs.section_refusal.Statement.{statement}
@@ -37,17 +37,17 @@ returns-4 : tie.Need-returns-4
 unfolding sectionRefusal
 returns-4 c = skip (yes _ _ (le-leb _ _ (c .before .before .before .before .if1 .left))) (skip (yes _ _ (rw (sym (c .before .before .before .word-at .ensures .0), le-leb _ _ (c .before .before .if2 .left), le-leb _ _ (c .before .if3 .left)))) (halt 0 _ (no _ _ (rw (sym (c .before .before .before .word-at .ensures .0), lt-leb _ _ (c .if4 .taken))))))
 
-sub-judge-code : tie.Need-sub-judge-code
-sub-judge-code c = search needs
+sub-judge-code-for : tie.Need-sub-judge-code-for
+sub-judge-code-for c = search needs
 
-part-judge-code-start : tie.Need-part-judge-code-start
-part-judge-code-start c = search needs
+part-judge-code-for-start : tie.Need-part-judge-code-for-start
+part-judge-code-for-start c = search needs
 
-part-judge-code-end : tie.Need-part-judge-code-end
-part-judge-code-end c = search needs
+part-judge-code-for-end : tie.Need-part-judge-code-for-end
+part-judge-code-for-end c = search needs
 
-judge-code-requires : tie.Need-judge-code-requires
-judge-code-requires c κs = search needs
+judge-code-for-requires : tie.Need-judge-code-for-requires
+judge-code-for-requires c κs = search needs
 
 returns-5 : tie.Need-returns-5
 unfolding sectionRefusal part
@@ -56,7 +56,7 @@ returns-5 c = let s = c .before .before .before .before .before .before .before 
     skip (yes _ _ (le-leb _ _ (c .before .before .before .before .before .before .if1 .left)))
     (skip (yes _ _ (rw (sym (c .before .before .before .before .before .word-at .ensures .0), le-leb _ _ (c .before .before .before .before .if2 .left), le-leb _ _ (c .before .before .before .if3 .left))))
     (skip (yes _ _ (rw (sym (c .before .before .before .before .before .word-at .ensures .0), le-leb _ _ (c .before .before .if4 .left))))
-    (c .judge-code .ensures ∙ ap (λ (n : ℕ). judgeCode (take n (drop (s .p + 2) (s .f .now)))) e)))
+    (c .judge-code-for .ensures ∙ ap (λ (n : ℕ). judgeCodeFor (s .profile) (take n (drop (s .p + 2) (s .f .now)))) e)))
 
 pub section-refusal-spec : {M : Type 1} → statement M
 section-refusal-spec =
@@ -69,8 +69,8 @@ section-refusal-spec =
     returns-3
     add-e
     returns-4
-    sub-judge-code
-    part-judge-code-start
-    part-judge-code-end
-    judge-code-requires
+    sub-judge-code-for
+    part-judge-code-for-start
+    part-judge-code-for-end
+    judge-code-for-requires
     returns-5)

@@ -2,11 +2,11 @@
 use mathlib.Core.Path.{sym, _∙_}
 use borrow.Author.Tests.{le-ltb, lt-ltb, not-true, not-false}
 use Rattle.verdict.proofs.Verdict.{skip, halt, yes, no}
-use Rattle.code.specs.Code.{judgeCode}
+use Rattle.code.specs.Code.{judgeCodeFor}
 use Rattle.code.proofs.Laying.{targets-wanted, targets-right, first-refused, first-none}
 use borrow.Author.Needs.{needs}
-use Rattle.code.proofs.judge_code.Statement.{statement}
-use Rattle.code.proofs.judge_code.Tie as tie
+use Rattle.code.proofs.judge_code_for.Statement.{statement}
+use Rattle.code.proofs.judge_code_for.Tie as tie
 
 lay-requires : tie.Need-lay-requires
 lay-requires c κs = search needs
@@ -27,14 +27,14 @@ all-met-requires : tie.Need-all-met-requires
 all-met-requires c κs = search needs
 
 returns-2 : tie.Need-returns-2
-unfolding judgeCode
+unfolding judgeCodeFor
 returns-2 c =
     let pass = c .before .before .before .before .before .before .before .lay .ensures in
     let first = first-none _ _ _ _ _ pass _ _ (c .before .before .before .before .before .before .outside-refusal .ensures) (c .before .before .before .before .before .first-refusal .ensures) (c .before .before .before .before .if1 .left) in
     skip (sym (pass .right) ∙ first .0) (halt 6 _ (no _ _ (targets-wanted _ _ _ _ _ _ pass (first .0) (c .before .all-met .ensures) (not-true _ (c .if2 .taken)))))
 
 returns-3 : tie.Need-returns-3
-unfolding judgeCode
+unfolding judgeCodeFor
 returns-3 c =
     let pass = c .before .before .before .before .before .before .before .before .before .lay .ensures in
     let first = first-none _ _ _ _ _ pass _ _ (c .before .before .before .before .before .before .before .before .outside-refusal .ensures) (c .before .before .before .before .before .before .before .first-refusal .ensures) (c .before .before .before .before .before .before .if1 .left) in
@@ -43,7 +43,7 @@ returns-3 c =
     (sym (no _ _ (rw (sym (pass .latest (first .0))) (le-ltb _ _ (c .if3 .taken))))))
 
 returns-4 : tie.Need-returns-4
-unfolding judgeCode
+unfolding judgeCodeFor
 returns-4 c =
     let pass = c .before .before .before .before .before .before .before .before .before .lay .ensures in
     let first = first-none _ _ _ _ _ pass _ _ (c .before .before .before .before .before .before .before .before .outside-refusal .ensures) (c .before .before .before .before .before .before .before .first-refusal .ensures) (c .before .before .before .before .before .before .if1 .left) in
@@ -51,8 +51,8 @@ returns-4 c =
     (skip (yes _ _ (targets-right _ _ _ _ _ _ pass (first .0) (first .1) (c .before .before .before .all-met .ensures) (not-false _ (c .before .before .if2 .left))))
     (sym (yes _ _ (rw (sym (pass .latest (first .0))) (lt-ltb _ _ (c .if3 .left))))))
 
-pub judge-code-spec : {M : Type 1} → statement M
-judge-code-spec =
+pub judge-code-for-spec : {M : Type 1} → statement M
+judge-code-for-spec =
     tie.close
     (tie.spec
     lay-requires

@@ -5,24 +5,24 @@ use native.Mathlib.Omega.{arith}
 use lib.ListN.{getD}
 use Rattle.verdict.proofs.Verdict.{skip, stop}
 use Rattle.records.specs.File.{recordPlace}
-use Rattle.taskset.specs.Judge.{codePlace, judge}
+use Rattle.taskset.specs.Judge.{codePlace, judgeFor}
 use Rattle.taskset.proofs.Laws.{head-cores}
 use borrow.Author.Needs.{needs}
-use Rattle.taskset.proofs.judge_file.Statement.{statement}
-use Rattle.taskset.proofs.judge_file.Tie as tie
+use Rattle.taskset.proofs.judge_file_for.Statement.{statement}
+use Rattle.taskset.proofs.judge_file_for.Tie as tie
 
 head-refusal-requires : tie.Need-head-refusal-requires
 head-refusal-requires c κs = search needs
 
 returns : tie.Need-returns
-unfolding judge
+unfolding judgeFor
 returns c = stop _ (c .before .head-refusal .ensures) (c .if1 .taken)
 
 variables-refusal-requires : tie.Need-variables-refusal-requires
 variables-refusal-requires c κs = search needs
 
 returns-2 : tie.Need-returns-2
-unfolding judge
+unfolding judgeFor
 returns-2 c = skip (sym (c .before .before .before .head-refusal .ensures) ∙ c .before .before .if1 .left) (stop _ (c .before .variables-refusal .ensures) (c .if2 .taken))
 
 byte-at-requires : tie.Need-byte-at-requires
@@ -46,15 +46,15 @@ record-place-requires c κs = search needs
 codes-refusal-requires : tie.Need-codes-refusal-requires
 unfolding codePlace
 codes-refusal-requires c κs = let f = c .before .before .before .before .before .before .before .before .args .f .now in
-    let n = head-cores f (sym (c .before .before .before .before .before .before .head-refusal .ensures) ∙ c .before .before .before .before .before .if1 .left) in
+    let n = head-cores (c .before .before .before .before .before .before .before .before .args .profile) f (sym (c .before .before .before .before .before .before .head-refusal .ensures) ∙ c .before .before .before .before .before .if1 .left) in
     (omega (arith, c .before .before .byte-at .ensures, n), c .before .before .byte-at .ensures, c .record-place .ensures .0 ∙ ap (recordPlace f) (c .before .byte-at2 .ensures ∙ ap (λ (k : ℕ). getD f (5 + 6 * k) 0) (c .before .before .byte-at .ensures)), omega (arith, c .record-place .ensures .1))
 
 returns-3 : tie.Need-returns-3
-unfolding judge
+unfolding judgeFor
 returns-3 c = skip (sym (c .before .before .before .before .before .before .before .head-refusal .ensures) ∙ c .before .before .before .before .before .before .if1 .left) (skip (sym (c .before .before .before .before .before .variables-refusal .ensures) ∙ c .before .before .before .before .if2 .left) (c .codes-refusal .ensures))
 
-pub judge-file-spec : {M : Type 1} → statement M
-judge-file-spec =
+pub judge-file-for-spec : {M : Type 1} → statement M
+judge-file-for-spec =
     tie.close
     (tie.spec
     head-refusal-requires

@@ -1,0 +1,65 @@
+-- The test by the code byte is that of the types which the instruction names.
+use mathlib.Core.Path.{sym, ap, _∙_}
+use mathlib.Core.Bool.{not}
+use native.Mathlib.Omega.{arith}
+use borrow.Author.Needs.{needs}
+use Rattle.code.proofs.Types.{types-low, types-time, type-inside, types-wide, types-both, types-one}
+use Rattle.code.proofs.is_small.Statement.{statement}
+use Rattle.code.proofs.is_small.Tie as tie
+
+shared-slice-read-b : tie.Need-shared-slice-read-b
+shared-slice-read-b c = search needs
+
+returns : tie.Need-returns
+returns c = sym (types-low _ _ (c .before .before .before .pre .1) (c .if1 .taken))
+
+inside-requires : tie.Need-inside-requires
+inside-requires c κs = search needs
+
+returns-2 : tie.Need-returns-2
+returns-2 c = sym (types-time _ _ (sym (c .before .inside .ensures) ∙ c .if2 .taken))
+
+add-is-wide : tie.Need-add-is-wide
+add-is-wide c = search needs
+
+shared-slice-read-is-wide : tie.Need-shared-slice-read-is-wide
+shared-slice-read-is-wide c = omega (arith, type-inside (c .before .before .before .before .before .before .args .code .now) (c .before .before .before .before .before .before .args .p) (c .before .before .before .before .before .before .pre .1) (c .before .before .before .if1 .left) (sym (c .before .before .inside .ensures) ∙ c .before .if2 .left))
+
+is-wide-requires : tie.Need-is-wide-requires
+is-wide-requires c κs = search needs
+
+returns-3 : tie.Need-returns-3
+returns-3 c = sym (types-wide _ _ (c .before .before .before .before .before .before .before .before .pre .1) (c .before .before .before .before .before .if1 .left) (sym (c .before .before .before .before .inside .ensures) ∙ c .before .before .before .if2 .left) (sym (c .before .is-wide .ensures) ∙ c .if3 .taken))
+
+add-is-wide-2 : tie.Need-add-is-wide-2
+add-is-wide-2 c = search needs
+
+shared-slice-read-is-wide-2 : tie.Need-shared-slice-read-is-wide-2
+shared-slice-read-is-wide-2 c = omega (arith, type-inside (c .before .before .before .before .before .before .before .before .before .before .args .code .now) (c .before .before .before .before .before .before .before .before .before .before .args .p) (c .before .before .before .before .before .before .before .before .before .before .pre .1) (c .before .before .before .before .before .before .before .if1 .left) (sym (c .before .before .before .before .before .before .inside .ensures) ∙ c .before .before .before .before .before .if2 .left))
+
+is-wide-requires-2 : tie.Need-is-wide-requires-2
+is-wide-requires-2 c κs = search needs
+
+returns-4 : tie.Need-returns-4
+returns-4 c = ap not (c .is-wide2 .ensures) ∙ sym (types-both _ _ (c .before .before .before .before .before .before .before .before .before .before .before .pre .1) (c .before .before .before .before .before .before .before .before .if1 .left) (sym (c .before .before .before .before .before .before .before .inside .ensures) ∙ c .before .before .before .before .before .before .if2 .left) (sym (c .before .before .before .before .is-wide .ensures) ∙ c .before .before .before .if3 .left) (c .before .before .if4 .taken))
+
+returns-5 : tie.Need-returns-5
+returns-5 c = sym (types-one _ _ (c .before .before .before .before .before .before .before .before .before .pre .1) (c .before .before .before .before .before .before .if1 .left) (sym (c .before .before .before .before .before .inside .ensures) ∙ c .before .before .before .before .if2 .left) (sym (c .before .before .is-wide .ensures) ∙ c .before .if3 .left) (c .if4 .left))
+
+pub is-small-spec : {M : Type 1} → statement M
+is-small-spec =
+    tie.close
+    (tie.spec
+    shared-slice-read-b
+    returns
+    inside-requires
+    returns-2
+    add-is-wide
+    shared-slice-read-is-wide
+    is-wide-requires
+    returns-3
+    add-is-wide-2
+    shared-slice-read-is-wide-2
+    is-wide-requires-2
+    returns-4
+    returns-5)
