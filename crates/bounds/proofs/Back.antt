@@ -17,6 +17,7 @@ use Rattle.code.specs.declared.Instruction.the-variants.{Return, Jump, JumpZero
 use Rattle.code.specs.Commands.{lengthOf}
 use Rattle.code.specs.Instructions.{instructionAt}
 use Rattle.code.specs.Flow.{Kind, kindOf, targetOf, kind, goesTo, after, target}
+use Rattle.code.specs.declared.Profile.the-variants.{Full}
 use Rattle.code.specs.Code.{laid, startFrom, isStart, allFrom, judgeCode, Marked}
 use Rattle.code.proofs.Sound.{Sound, sound, start-zero, inside-code, each-passes, judged, next-starts}
 use Rattle.code.proofs.Passes.{all-one, all-end}
@@ -75,7 +76,7 @@ unfolding isStart
 within-none c p t w h l = within (length c) c 0 p t w h l
 
 -- a test that each start passes
-all-from : (test : ℕ → Bool) (k : ℕ) (c : List ℕ) (q : ℕ) → laid (length c) c 0 ≡ 0 → ((p : ℕ) → Start c p → test p ≡ true) → (q < length c → Start c q)
+all-from : (test : ℕ → Bool) (k : ℕ) (c : List ℕ) (q : ℕ) → laid Full (length c) c 0 ≡ 0 → ((p : ℕ) → Start c p → test p ≡ true) → (q < length c → Start c q)
     → allFrom test k c q ≡ true
 unfolding allFrom pick
 all-from test zero c q l f s = refl

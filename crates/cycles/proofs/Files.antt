@@ -22,10 +22,10 @@ use Rattle.protocol.specs.Laws.{Between}
 use Rattle.protocol.specs.Cycles.{readsFrom, lineBetween, oneWay, noRing, cycle}
 use Rattle.code.specs.Commands.{layoutOf, lengthOf}
 use Rattle.code.specs.Instructions.{typedAt, instructionAt, instructionLength}
-use Rattle.code.specs.Code.{instructionOk, instructionRefusal, laid, startFrom, isStart, allFrom, targetOk, lastFrom, judgeCode}
+use Rattle.code.specs.Code.{instructionOk, instructionRefusal, laid, startFrom, isStart, allFrom, targetOk, lastFrom, judgeCodeFor}
 use Rattle.processor.specs.Processor.{placeOf, dataPart, meaning, executed}
 use Rattle.records.specs.Records.{coreOk, coreRefusal, oneWriter, placeOk, partOk, partsOk, variableOk, variableRefusal, meets, meetsShared, meetsIn, overlap, pairRefusal, overlapRefusal}
-use Rattle.taskset.specs.Judge.{isMark, headRefusal, variablesRefusal, codePlace, sectionRefusal, codesRefusal, judge}
+use Rattle.taskset.specs.Judge.{isMark, headRefusal, variablesRefusal, codePlace, sectionRefusal, codesRefusal, judgeFor, judge}
 use Rattle.taskset.specs.Trace.{tracePlace, traceRefusal}
 use Rattle.taskset.specs.Task.{listed, sizesOf, variablesOf, sampleAt, samplesOf}
 use Rattle.states.specs.Task.{taskOf}
@@ -42,7 +42,7 @@ files = tt
 
 -- a file and a trace are judged
 judging : Unit {0}
-unfolding files pick next unless first part valueLE readLE takes layoutOf lengthOf typedAt instructionAt instructionLength instructionOk instructionRefusal laid startFrom isStart allFrom targetOk lastFrom judgeCode readsIt writesIt coreOk coreRefusal oneWriter placeOk partOk partsOk variableOk variableRefusal meets meetsShared meetsIn overlap pairRefusal overlapRefusal isMark headRefusal variablesRefusal codePlace sectionRefusal codesRefusal judge tracePlace traceRefusal
+unfolding files pick next unless first part valueLE readLE takes layoutOf lengthOf typedAt instructionAt instructionLength instructionOk instructionRefusal laid startFrom isStart allFrom targetOk lastFrom judgeCodeFor readsIt writesIt coreOk coreRefusal oneWriter placeOk partOk partsOk variableOk variableRefusal meets meetsShared meetsIn overlap pairRefusal overlapRefusal isMark headRefusal variablesRefusal codePlace sectionRefusal codesRefusal judgeFor tracePlace traceRefusal
 judging = tt
 
 -- the cores move, with NOT and RETURN for instructions

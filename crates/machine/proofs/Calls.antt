@@ -18,7 +18,9 @@ use Rattle.records.specs.File.{cores, dataSize}
 use Rattle.records.proofs.Laws.{both-alone}
 use Rattle.taskset.specs.declared.Layout.{Layout}
 use Rattle.taskset.specs.declared.Loaded.{Loaded}
-use Rattle.taskset.specs.Judge.{judge}
+use Rattle.code.specs.declared.Profile.{Profile}
+use Rattle.code.specs.declared.Profile.the-variants.{Full}
+use Rattle.taskset.specs.Judge.{judgeFor, judge}
 use Rattle.taskset.specs.Layout.{noCore, coreAt, coreLayout, layoutOf, noLayout, loadOf}
 use Rattle.taskset.specs.Trace.{traceRefusal}
 use Rattle.taskset.specs.Task.{listed, sizesOf}
@@ -30,7 +32,7 @@ use Rattle.states.specs.Tasks.{tasksOf}
 use Rattle.states.specs.Preparing.{heldRefusal, prepared}
 use Rattle.runner.specs.declared.Ran.{Ran}
 use Rattle.runner.specs.Runs.{allBelow, Left, left, ranCall}
-use Rattle.machine.specs.Calls.{lentFits, setRefusal, callRefusal, answerOf, tableOf, freshRefusal, freshCall, runRefusal, runCall}
+use Rattle.machine.specs.Calls.{lentFits, setRefusal, callRefusal, answerOf, tableOf, freshRefusalFor, freshRefusal, freshCallFor, freshCall, runRefusal, runCall}
 
 -- ---- loading
 
@@ -179,26 +181,33 @@ module _ (f t : List ℕ) (h : State) (d sh order list : List ℕ) where
   unfolding runCall
   run-granted x e q = q ∙ sym (pick-true _ _ _ (eq-eqb _ _ e))
 
-module _ (f : List ℕ) (d sh : List ℕ) where
-  pub fresh-file : {r : ℕ} → r ≡ judge f → r ≢ 0 → r ≡ freshRefusal f (length d) (length sh)
-  unfolding freshRefusal
-  fresh-file e n = stop _ e n
+-- the fresh state, under a profile
+module _ (o : Profile) (f : List ℕ) (d sh : List ℕ) where
+  pub fresh-file-for : {r : ℕ} → r ≡ judgeFor o f → r ≢ 0 → r ≡ freshRefusalFor o f (length d) (length sh)
+  fresh-file-for e n = stop _ e n
 
-  pub fresh-lent : judge f ≡ 0 → lentFits f (length d) (length sh) ≡ false → 21 ≡ freshRefusal f (length d) (length sh)
-  unfolding freshRefusal
-  fresh-lent z e = skip z (sym (no _ 21 e))
+  pub fresh-lent-for : judgeFor o f ≡ 0 → lentFits f (length d) (length sh) ≡ false → 21 ≡ freshRefusalFor o f (length d) (length sh)
+  fresh-lent-for z e = skip z (sym (no _ 21 e))
 
-  pub fresh-none : judge f ≡ 0 → lentFits f (length d) (length sh) ≡ true → freshRefusal f (length d) (length sh) ≡ 0
-  unfolding freshRefusal
-  fresh-none z e = next-none _ _ z (yes _ 21 e)
+  pub fresh-none-for : judgeFor o f ≡ 0 → lentFits f (length d) (length sh) ≡ true → freshRefusalFor o f (length d) (length sh) ≡ 0
+  fresh-none-for z e = next-none _ _ z (yes _ 21 e)
 
-  pub fresh-refused : {r : ℕ} (x : Ran) → r ≡ freshRefusal f (length d) (length sh) → r ≢ 0 → x ≡ answerOf r (tableOf 0 0) → left x d sh [] ≡ freshCall f d sh
-  unfolding freshCall
-  fresh-refused x e n q =
+  pub fresh-refused-for : {r : ℕ} (x : Ran) → r ≡ freshRefusalFor o f (length d) (length sh) → r ≢ 0 → x ≡ answerOf r (tableOf 0 0) → left x d sh [] ≡ freshCallFor o f d sh
+  unfolding freshCallFor
+  fresh-refused-for x e n q =
       ap (λ (y : Ran). left y d sh []) (q ∙ ap (λ (m : ℕ). answerOf m (tableOf 0 0)) e)
       ∙ sym (pick-false _ _ _ (ne-eqb _ _ (λ w. n (e ∙ w))))
 
-  pub fresh-granted : (x : Ran) (d′ sh′ : List ℕ) → freshRefusal f (length d) (length sh) ≡ 0 → x ≡ answerOf 0 (tableOf (cores f) 4) → d′ ≡ replicate (length d) 0 → sh′ ≡ replicate (length sh) 0
-      → left x d′ sh′ [] ≡ freshCall f d sh
-  unfolding freshCall
-  fresh-granted x d′ sh′ e q a b = ap₂ (λ (y : Ran) (l : List ℕ). left y l sh′ []) q a ∙ ap (λ (l : List ℕ). left (answerOf 0 (tableOf (cores f) 4)) (replicate (length d) 0) l []) b ∙ sym (pick-true _ _ _ (eq-eqb _ _ e))
+  pub fresh-granted-for : (x : Ran) (d′ sh′ : List ℕ) → freshRefusalFor o f (length d) (length sh) ≡ 0 → x ≡ answerOf 0 (tableOf (cores f) 4) → d′ ≡ replicate (length d) 0 → sh′ ≡ replicate (length sh) 0
+      → left x d′ sh′ [] ≡ freshCallFor o f d sh
+  unfolding freshCallFor
+  fresh-granted-for x d′ sh′ e q a b = ap₂ (λ (y : Ran) (l : List ℕ). left y l sh′ []) q a ∙ ap (λ (l : List ℕ). left (answerOf 0 (tableOf (cores f) 4)) (replicate (length d) 0) l []) b ∙ sym (pick-true _ _ _ (eq-eqb _ _ e))
+
+-- under the full one
+pub fresh-none : (f d sh : List ℕ) → judge f ≡ 0 → lentFits f (length d) (length sh) ≡ true → freshRefusal f (length d) (length sh) ≡ 0
+unfolding freshRefusal
+fresh-none f d sh z e = fresh-none-for Full f d sh z e
+
+pub fresh-full : (f d sh : List ℕ) → freshCallFor Full f d sh ≡ freshCall f d sh
+unfolding freshCallFor freshCall freshRefusal
+fresh-full f d sh = refl

@@ -8,3 +8,4 @@ pub mod Back
 pub mod Calling
 pub mod Fair
 pub mod Blank
+pub mod Profiles

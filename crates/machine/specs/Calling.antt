@@ -102,11 +102,15 @@ pub record RunIsSteps (f t : List ℕ) (h : State) (d sh order list : List ℕ) 
   pub listed : runCall f t h d sh order list .order ≡ splice list 0 (map encoded (takings (taskOf f t) order (stateOf f h d sh)))
   pub counted : runCall f t h d sh order list .answer .taken ≡ length (takings (taskOf f t) order (stateOf f h d sh))
 
--- The calls cs, from what the call for the fresh state left that was lent the memories d and sh
-pub record CallsInterleaved (f t d sh : List ℕ) (cs : List Call) : Type 0 where
+-- The calls cs, from what a call left that made the fresh state
+pub record InterleavedFrom (f t : List ℕ) (x : Left) (cs : List Call) : Type 0 where
   -- what they leave is what the steps that they count as make of the fresh state
-  pub steps : wholeOf f (calls f t cs (freshCall f d sh)) ≡ run (taskOf f t) (stepsOf f t cs (freshCall f d sh)) (freshOf f)
+  pub steps : wholeOf f (calls f t cs x) ≡ run (taskOf f t) (stepsOf f t cs x) (freshOf f)
   -- they count the takings of those steps
-  pub taken : takenOf f t cs (freshCall f d sh) ≡ length (takings (taskOf f t) (stepsOf f t cs (freshCall f d sh)) (freshOf f))
+  pub taken : takenOf f t cs x ≡ length (takings (taskOf f t) (stepsOf f t cs x) (freshOf f))
   -- and of those steps demand 3 holds, both parts
-  pub interleaved : MachineInterleaved f t (stepsOf f t cs (freshCall f d sh))
+  pub interleaved : MachineInterleaved f t (stepsOf f t cs x)
+
+-- from the call for the fresh state that was lent the memories d and sh
+abbrev pub CallsInterleaved : List ℕ → List ℕ → List ℕ → List ℕ → List Call → Type 0
+CallsInterleaved f t d sh cs = InterleavedFrom f t (freshCall f d sh) cs

@@ -10,7 +10,9 @@ use Rattle.memory.specs.Memory.{total}
 use Rattle.protocol.specs.State.{cleared}
 use Rattle.protocol.specs.Step.{step, takingOf}
 use Rattle.records.specs.File.{cores}
-use Rattle.taskset.specs.Judge.{judge}
+use Rattle.code.specs.declared.Profile.{Profile}
+use Rattle.code.specs.declared.Profile.the-variants.{Full}
+use Rattle.taskset.specs.Judge.{judgeFor, judge}
 use Rattle.taskset.specs.Task.{sizesOf}
 use Rattle.states.specs.declared.State.{State}
 use Rattle.states.specs.Task.{taskOf}
@@ -59,15 +61,26 @@ tableOf n flags = record {
   offsets = replicate 64 0;
 }
 
-unfoldable pub freshRefusal : List ℕ → ℕ → ℕ → ℕ
-freshRefusal f buffer shared = next (judge f) (unless (lentFits f buffer shared) 21)
+-- "The caller names the full or the small profile when loading." (document 02, 2.10)
+abbrev pub freshRefusalFor : Profile → List ℕ → ℕ → ℕ → ℕ
+freshRefusalFor profile f buffer shared = next (judgeFor profile f) (unless (lentFits f buffer shared) 21)
 
--- memories zero, mode 0, all registers 0, flags 4, semaphore free; a refused call gives a table of no cores
-unfoldable pub freshCall : List ℕ → List ℕ → List ℕ → Left
-freshCall f d sh =
-    pick (eqb (freshRefusal f (length d) (length sh)) 0)
+-- what a call with this refusal number leaves. Memories zero, mode 0, all registers 0, flags 4, semaphore free; a refused call gives a table of no cores
+abbrev pub freshLeft : ℕ → List ℕ → List ℕ → List ℕ → Left
+freshLeft r f d sh =
+    pick (eqb r 0)
     (left (answerOf 0 (tableOf (cores f) 4)) (replicate (length d) 0) (replicate (length sh) 0) [])
-    (left (answerOf (freshRefusal f (length d) (length sh)) (tableOf 0 0)) d sh [])
+    (left (answerOf r (tableOf 0 0)) d sh [])
+
+unfoldable pub freshCallFor : Profile → List ℕ → List ℕ → List ℕ → Left
+freshCallFor profile f d sh = freshLeft (freshRefusalFor profile f (length d) (length sh)) f d sh
+
+-- under the full profile
+unfoldable pub freshRefusal : List ℕ → ℕ → ℕ → ℕ
+freshRefusal f buffer shared = freshRefusalFor Full f buffer shared
+
+unfoldable pub freshCall : List ℕ → List ℕ → List ℕ → Left
+freshCall f d sh = freshLeft (freshRefusal f (length d) (length sh)) f d sh
 
 -- ---- a run: the steps of an order, which is judged whole before the first; its takings go to the front of the order list
 

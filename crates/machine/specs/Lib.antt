@@ -3,3 +3,4 @@ pub mod Calls
 pub mod Calling
 pub mod Fair
 pub mod Blank
+pub mod Profiles

@@ -1,5 +1,6 @@
 // The machine that users call, by value. No call requires anything: each gives the refusal number of document 01 that fits, in the order
 // file, 21, 22, 23, 20, and then changes no lent byte.
+use code::Profile;
 use exchange::Cursor;
 use protocol::Registers;
 use runner::Ran;
@@ -17,7 +18,7 @@ ghost use Rattle.verdict.specs.Verdict.{both, next, unless};
 ghost use Rattle.memory.specs.Memory.{total};
 ghost use Rattle.protocol.specs.State.{cleared as clearedTo};
 ghost use Rattle.records.specs.File.{cores, recordPlace, variables};
-ghost use Rattle.taskset.specs.Judge.{judge};
+ghost use Rattle.taskset.specs.Judge.{judgeFor, judge};
 ghost use Rattle.taskset.specs.Layout.{layoutOf};
 ghost use Rattle.taskset.specs.Task.{sizesOf};
 ghost use Rattle.states.specs.Machine.{none, stateOf};
@@ -26,7 +27,7 @@ ghost use Rattle.states.specs.Tasks.{tasksOf};
 ghost use Rattle.states.specs.Fit.{Fit};
 ghost use Rattle.steps.specs.Moving.{Aimed};
 ghost use Rattle.runner.specs.Runs.{allBelow, left, ranCall};
-ghost use Rattle.machine.specs.Calls.{bufferSize, lentFits, setRefusal, answerOf, tableOf, freshCall, runRefusal, runCall, stepCall, nextCall, nextSays, nextSaid};
+ghost use Rattle.machine.specs.Calls.{bufferSize, lentFits, setRefusal, answerOf, tableOf, freshCallFor, freshCall, runRefusal, runCall, stepCall, nextCall, nextSays, nextSaid};
 
 // Bytes of shared memory.
 const SHARED: usize = 1024;
@@ -39,11 +40,18 @@ const COLD_START: u8 = 4;
 
 // ---- checks
 
-// The refusal number of a task set file alone.
+// The refusal number of a task set file alone, under the profile that the caller names.
+pub fn check_file_for(profile: Profile, file: &[u8]) -> u8
+    ensures { λ r. ⌜ r ≡ judgeFor profile (now (file .entry)) ⌝ }
+{
+    taskset::judge_file_for(profile, file)
+}
+
+// Under the full profile.
 pub fn check_file(file: &[u8]) -> u8
     ensures { λ r. ⌜ r ≡ judge (now (file .entry)) ⌝ }
 {
-    taskset::judge_file(file)
+    check_file_for(Profile::Full, file)
 }
 
 // The refusal number of a state, with its file and trace.
@@ -124,11 +132,11 @@ fn table_of(n: u8, flags: u8) -> State
     }
 }
 
-// The fresh state of a file: memories zeroed, mode 0, registers 0, flags 4, semaphore free, nobody in line. A refused call gives a table of no cores.
-pub fn fresh(file: &[u8], buffer: &mut [u8], shared: &mut [u8]) -> Ran
-    ensures { λ r. ⌜ left r (now (buffer .exit)) (now (shared .exit)) [] ≡ freshCall (now (file .entry)) (now (buffer .entry)) (now (shared .entry)) ⌝ }
+// The fresh state of a file that is loaded under a profile: memories zeroed, mode 0, registers 0, flags 4, semaphore free, nobody in line. A refused call gives a table of no cores.
+pub fn fresh_for(profile: Profile, file: &[u8], buffer: &mut [u8], shared: &mut [u8]) -> Ran
+    ensures { λ r. ⌜ left r (now (buffer .exit)) (now (shared .exit)) [] ≡ freshCallFor profile (now (file .entry)) (now (buffer .entry)) (now (shared .entry)) ⌝ }
 {
-    let loaded = taskset::load(file);
+    let loaded = taskset::load_for(profile, file);
     if loaded.refusal != 0 {
         return answer(loaded.refusal, table_of(0, 0));
     }
@@ -138,6 +146,13 @@ pub fn fresh(file: &[u8], buffer: &mut [u8], shared: &mut [u8]) -> Ran
     memory::zero(buffer);
     memory::zero(shared);
     answer(0, table_of(loaded.layout.cores as u8, COLD_START))
+}
+
+// Under the full profile.
+pub fn fresh(file: &[u8], buffer: &mut [u8], shared: &mut [u8]) -> Ran
+    ensures { λ r. ⌜ left r (now (buffer .exit)) (now (shared .exit)) [] ≡ freshCall (now (file .entry)) (now (buffer .entry)) (now (shared .entry)) ⌝ }
+{
+    fresh_for(Profile::Full, file, buffer, shared)
 }
 
 // ---- a run and a step

@@ -1,53 +1,12 @@
--- `machine::fresh` meets its contract: the file is judged, then the lent memory, which is zeroed. Assumes nothing.
-use mathlib.Core.Path.{refl, sym, ap, _∙_}
-use mathlib.Core.Bool.{not}
-use native.Mathlib.Omega.{arith}
+-- `machine::fresh` meets its contract: it is the call under the full profile. Assumes nothing.
+use mathlib.Core.Path.{_∙_}
 use borrow.Author.Needs.{needs}
-use borrow.Author.Tests.{not-true, not-false}
-use Rattle.taskset.proofs.Exact.{keeps-rules}
-use Rattle.taskset.proofs.Loading.{file-judged, file-accepted, file-laid}
-use Rattle.machine.proofs.Calls.{fresh-file, fresh-lent, fresh-none, fresh-refused, fresh-granted}
+use Rattle.machine.proofs.Calls.{fresh-full}
 use Rattle.machine.proofs.fresh.Statement.{statement}
 use Rattle.machine.proofs.fresh.Tie as tie
 
-load-requires : tie.Need-load-requires
-load-requires c κs = search needs
-
-table-of-requires : tie.Need-table-of-requires
-table-of-requires c κs = search needs
-
-answer-requires : tie.Need-answer-requires
-answer-requires c κs = search needs
-
-returns : tie.Need-returns
-returns c = fresh-refused (c .before .before .before .before .before .before .before .before .args .file .now) (c .before .before .before .before .before .before .before .before .args .buffer .now) (c .before .before .before .before .before .before .before .before .args .shared .now) _ (fresh-file (c .before .before .before .before .before .before .before .before .args .file .now) (c .before .before .before .before .before .before .before .before .args .buffer .now) (c .before .before .before .before .before .before .before .before .args .shared .now) (file-judged (c .before .before .before .before .before .before .before .before .args .file .now) _ (c .before .before .before .before .load .ensures)) (c .before .before .if1 .taken)) (c .before .before .if1 .taken) (rw (sym (c .before .table-of .ensures)) (c .answer .ensures))
-
-lent-fits-requires : tie.Need-lent-fits-requires
-lent-fits-requires c κs = (file-accepted (c .before .before .before .before .before .before .args .file .now) _ (c .before .before .load .ensures) (c .if1 .left), file-laid (c .before .before .before .before .before .before .args .file .now) _ (c .before .before .load .ensures) (c .if1 .left))
-
-table-of-requires-2 : tie.Need-table-of-requires-2
-table-of-requires-2 c κs = search needs
-
-answer-requires-2 : tie.Need-answer-requires-2
-answer-requires-2 c κs = search needs
-
-returns-2 : tie.Need-returns-2
-returns-2 c = fresh-refused (c .before .before .before .before .before .before .before .before .before .before .args .file .now) (c .before .before .before .before .before .before .before .before .before .before .args .buffer .now) (c .before .before .before .before .before .before .before .before .before .before .args .shared .now) _ (fresh-lent (c .before .before .before .before .before .before .before .before .before .before .args .file .now) (c .before .before .before .before .before .before .before .before .before .before .args .buffer .now) (c .before .before .before .before .before .before .before .before .before .before .args .shared .now) (file-accepted (c .before .before .before .before .before .before .before .before .before .before .args .file .now) _ (c .before .before .before .before .before .before .load .ensures) (c .before .before .before .before .if1 .left)) (sym (c .before .before .before .lent-fits .ensures) ∙ not-true _ (c .before .before .if2 .taken))) (λ e. absurd (omega arith)) (rw (sym (c .before .table-of2 .ensures)) (c .answer2 .ensures))
-
-zero-requires : tie.Need-zero-requires
-zero-requires c κs = search needs
-
-zero-requires-2 : tie.Need-zero-requires-2
-zero-requires-2 c κs = search needs
-
-cast-table-of : tie.Need-cast-table-of
-cast-table-of c = rw (file-laid (c .before .before .before .before .before .before .before .before .before .before .before .before .before .before .before .before .before .args .file .now) _ (c .before .before .before .before .before .before .before .before .before .before .before .before .before .load .ensures) (c .before .before .before .before .before .before .before .before .before .before .before .if1 .left)) (omega (arith, keeps-rules (c .before .before .before .before .before .before .before .before .before .before .before .before .before .before .before .before .before .args .file .now) (file-accepted (c .before .before .before .before .before .before .before .before .before .before .before .before .before .before .before .before .before .args .file .now) _ (c .before .before .before .before .before .before .before .before .before .before .before .before .before .load .ensures) (c .before .before .before .before .before .before .before .before .before .before .before .if1 .left)) .most-cores))
-
-table-of-requires-3 : tie.Need-table-of-requires-3
-table-of-requires-3 c κs = search needs
-
-answer-requires-3 : tie.Need-answer-requires-3
-answer-requires-3 c κs = search needs
+fresh-for-requires : tie.Need-fresh-for-requires
+fresh-for-requires c κs = search needs
 
 same-length : tie.Need-same-length
 same-length c = search needs
@@ -55,14 +14,9 @@ same-length c = search needs
 same-length-2 : tie.Need-same-length-2
 same-length-2 c = search needs
 
-returns-3 : tie.Need-returns-3
-returns-3 c =
-    fresh-granted (c .before .before .before .before .before .before .before .before .before .before .before .before .before .before .before .before .before .before .before .args .file .now) (c .before .before .before .before .before .before .before .before .before .before .before .before .before .before .before .before .before .before .before .args .buffer .now) (c .before .before .before .before .before .before .before .before .before .before .before .before .before .before .before .before .before .before .before .args .shared .now) _ _ _
-    (fresh-none (c .before .before .before .before .before .before .before .before .before .before .before .before .before .before .before .before .before .before .before .args .file .now) (c .before .before .before .before .before .before .before .before .before .before .before .before .before .before .before .before .before .before .before .args .buffer .now) (c .before .before .before .before .before .before .before .before .before .before .before .before .before .before .before .before .before .before .before .args .shared .now) (file-accepted (c .before .before .before .before .before .before .before .before .before .before .before .before .before .before .before .before .before .before .before .args .file .now) _ (c .before .before .before .before .before .before .before .before .before .before .before .before .before .before .before .load .ensures) (c .before .before .before .before .before .before .before .before .before .before .before .before .before .if1 .left)) (sym (c .before .before .before .before .before .before .before .before .before .before .before .before .lent-fits .ensures) ∙ not-false _ (c .before .before .before .before .before .before .before .before .before .before .before .if2 .left)))
-    (rw (c .answer3 .ensures, c .before .table-of3 .ensures, file-laid (c .before .before .before .before .before .before .before .before .before .before .before .before .before .before .before .before .before .before .before .args .file .now) _ (c .before .before .before .before .before .before .before .before .before .before .before .before .before .before .before .load .ensures) (c .before .before .before .before .before .before .before .before .before .before .before .before .before .if1 .left)) refl)
-    (c .before .before .before .before .before .before .before .before .before .zero .ensures)
-    (c .before .before .before .before .before .zero2 .ensures)
+returns : tie.Need-returns
+returns c = let a = c .before .before .before .before .before .before .before .before .before .before .args in
+    c .before .before .before .before .fresh-for .ensures ∙ fresh-full (a .file .now) (a .buffer .now) (a .shared .now)
 
 pub fresh-spec : {M : Type 1} → statement M
-fresh-spec =
-    tie.close (tie.spec load-requires table-of-requires answer-requires returns lent-fits-requires table-of-requires-2 answer-requires-2 returns-2 zero-requires zero-requires-2 cast-table-of table-of-requires-3 answer-requires-3 same-length same-length-2 returns-3)
+fresh-spec = tie.close (tie.spec fresh-for-requires same-length same-length-2 returns)
