@@ -2,7 +2,7 @@
 //!
 //! `reference` is the machine; it shares no code with the proved one. `interface` says what a machine offers and `linked` is the proved one behind
 //! its C interface. `draft` writes task set files, `random` makes cases from them, `comparison` runs two machines on the cases. `holding` has the
-//! lowest reading over the holding time, `lines` the lines between cores and `bounds` what a task will take; they stand beside the machine, each with
+//! lowest reading over the holding time, `lines` the lines between cores `profiles` the small profile and `bounds` what a task will take; they stand beside the machine, each with
 //! its own comparison.
 
 pub mod bounds;
@@ -13,6 +13,7 @@ pub mod interface;
 pub mod lines;
 #[cfg(feature = "linked")]
 pub mod linked;
+pub mod profiles;
 pub mod random;
 pub mod reference;
 pub mod window;

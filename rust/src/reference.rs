@@ -23,10 +23,11 @@ pub mod refusal {
     pub const TRACE: u8 = 22;
     pub const UNFIT: u8 = 23;
     pub const LEFT_OVER: u8 = 24;
+    pub const WIDE_TYPE: u8 = 27;
 
     /// Whether a task set file is refused with this number.
     pub fn of_file(number: u8) -> bool {
-        matches!(number, FILE_END..=TARGET | LEFT_OVER)
+        matches!(number, FILE_END..=TARGET | LEFT_OVER | WIDE_TYPE)
     }
 }
 
@@ -176,6 +177,25 @@ const fn types_taken() -> [u16; 256] {
 /// Whether the command `code` exists with the type byte `kind`.
 pub fn takes_type(code: u8, kind: u8) -> bool {
     kind <= TIME && TYPES[code as usize] >> kind & 1 == 1
+}
+
+/// What the machine carries that loads a file: all of document 01, or what the smallest controller does (document 02, 2.10).
+#[derive(Clone, Copy, PartialEq, Eq, Debug)]
+pub enum Profile {
+    Full,
+    Small,
+}
+
+/// The most data of a core under the small profile.
+pub const SMALL_DATA: usize = 1_024;
+
+/// The type bytes of an instruction.
+fn types_named(instruction: &[u8]) -> &[u8] {
+    match instruction[0] {
+        ADD..=NE | PACK | UNPACK => &instruction[1..2],
+        CONVERT => &instruction[1..3],
+        _ => &[],
+    }
 }
 
 // ---- the state that a caller lends
@@ -349,8 +369,12 @@ fn demand(kept: bool, number: u8) -> Judged<()> {
 }
 
 impl<'f> TaskSet<'f> {
-    /// Judges the file front to back: presence of each item, then the item.
     fn load(file: &'f [u8]) -> Judged<TaskSet<'f>> {
+        TaskSet::load_for(Profile::Full, file)
+    }
+
+    /// Judges the file front to back: presence of each item, then the item.
+    fn load_for(profile: Profile, file: &'f [u8]) -> Judged<TaskSet<'f>> {
         let mut reader = Reader(file);
         demand(reader.bytes(FILE_MARK.len())? == FILE_MARK, refusal::MARK)?;
         let count = reader.byte()? as usize;
@@ -359,14 +383,14 @@ impl<'f> TaskSet<'f> {
             Task { data_size: 0, input_size: 0, limit: 0, code: &[], starts: CodePlaces::NONE, reads: Moves::NONE, writes: Moves::NONE };
         let mut set = TaskSet { count, tasks: [EMPTY; MOST_CORES] };
         for task in &mut set.tasks[..count] {
-            load_core(&mut reader, task)?;
+            load_core(profile, &mut reader, task)?;
         }
         set.load_variables(&mut reader)?;
         for task in &mut set.tasks[..count] {
             let length = word(reader.bytes(2)?, 0) as usize;
             demand((1..=MOST_CODE).contains(&length), refusal::CODE)?;
             task.code = reader.bytes(length)?;
-            judge_code(task.code, &mut task.starts)?;
+            judge_code(profile, task.code, &mut task.starts)?;
         }
         demand(reader.0.is_empty(), refusal::LEFT_OVER)?;
         Ok(set)
@@ -407,12 +431,13 @@ impl<'f> TaskSet<'f> {
     }
 }
 
-fn load_core(reader: &mut Reader, task: &mut Task) -> Judged<()> {
+fn load_core(profile: Profile, reader: &mut Reader, task: &mut Task) -> Judged<()> {
     let record = reader.bytes(6)?;
     task.data_size = word(record, 0) as usize;
     task.input_size = word(record, 2) as usize;
     task.limit = word(record, 4);
-    demand((1..=MOST_DATA).contains(&task.data_size), refusal::CORE_RECORD)?;
+    let most = if profile == Profile::Small { SMALL_DATA } else { MOST_DATA };
+    demand((1..=most).contains(&task.data_size), refusal::CORE_RECORD)?;
     demand(task.input_size <= task.data_size, refusal::CORE_RECORD)?;
     demand(task.limit >= 1, refusal::CORE_RECORD)
 }
@@ -427,8 +452,8 @@ fn judge_attribute(attribute: u8, cores: usize) -> Judged<u8> {
     Ok(named)
 }
 
-/// All instructions first (6), then targets and the last instruction (7).
-fn judge_code(code: &[u8], starts: &mut CodePlaces) -> Judged<()> {
+/// All instructions first (6, and right after it 27 by the profile), then targets and the last instruction (7).
+fn judge_code(profile: Profile, code: &[u8], starts: &mut CodePlaces) -> Judged<()> {
     let mut targets = CodePlaces::NONE;
     let mut outside = false;
     let mut target = |place: u16| {
@@ -461,6 +486,9 @@ fn judge_code(code: &[u8], starts: &mut CodePlaces) -> Judged<()> {
             PACK | UNPACK => demand(matches!(instruction[1], BYTE | WORD | DWORD | LWORD), refusal::CODE)?,
             CONVERT => demand(instruction[1..3].iter().all(|kind| (SINT..=LREAL).contains(kind)), refusal::CODE)?,
             _ => {}
+        }
+        if profile == Profile::Small {
+            demand(!types_named(instruction).iter().any(|kind| (LINT..=LREAL).contains(kind)), refusal::WIDE_TYPE)?;
         }
         starts.add(at);
         at += length;
@@ -769,13 +797,17 @@ impl Number {
             (LREAL, Number::Whole(number)) => (number as f64).put(bytes),
             (LREAL, Number::Float(number)) => number.put(bytes),
             _ => {
-                return wholes!(kind, T, match self.whole().map(T::try_from) {
-                    Some(Ok(number)) => {
-                        number.put(bytes);
-                        true
+                return wholes!(
+                    kind,
+                    T,
+                    match self.whole().map(T::try_from) {
+                        Some(Ok(number)) => {
+                            number.put(bytes);
+                            true
+                        }
+                        _ => false,
                     }
-                    _ => false,
-                })
+                )
             }
         }
         true
@@ -1134,7 +1166,11 @@ fn number(judged: Judged<()>) -> u8 {
 }
 
 pub fn check_file(file: &[u8]) -> u8 {
-    number(TaskSet::load(file).map(|_| ()))
+    check_file_for(Profile::Full, file)
+}
+
+pub fn check_file_for(profile: Profile, file: &[u8]) -> u8 {
+    number(TaskSet::load_for(profile, file).map(|_| ()))
 }
 
 pub fn check_trace(file: &[u8], trace: &[u8]) -> u8 {
@@ -1151,7 +1187,12 @@ fn judge_sizes(set: &TaskSet, buffer: &[u8], shared: &[u8]) -> Judged<()> {
 
 /// Makes the fresh state in the first n records of the table, which may be longer.
 pub fn fresh(file: &[u8], table: &mut [Core], semaphore: &mut Semaphore, buffer: &mut [u8], shared: &mut [u8]) -> u8 {
-    number(TaskSet::load(file).and_then(|set| {
+    fresh_for(Profile::Full, file, table, semaphore, buffer, shared)
+}
+
+/// The same under a profile.
+pub fn fresh_for(profile: Profile, file: &[u8], table: &mut [Core], semaphore: &mut Semaphore, buffer: &mut [u8], shared: &mut [u8]) -> u8 {
+    number(TaskSet::load_for(profile, file).and_then(|set| {
         judge_sizes(&set, buffer, shared)?;
         table.get_mut(..set.count).ok_or(refusal::SIZES)?.fill(Core::fresh());
         *semaphore = Semaphore::default();
