@@ -2,12 +2,13 @@
 use mathlib.Core.Path.{_≡_, ap, _∙_}
 use mathlib.Core.List.{List, []}
 use Prim.Native.Nat.{ℕ}
+use Rattle.code.specs.declared.Profile.{Profile}
 use Rattle.semaphore.specs.declared.Semaphore.{Semaphore}
 use Rattle.snapshot.specs.declared.Core.{Core}
 use Rattle.snapshot.specs.declared.Table.{Table}
 use Rattle.snapshot.specs.declared.After.{After}
-use Rattle.snapshot.specs.Snapshot.{tableLeft, stepTable, runTable, takenTable, freshTable}
-use Rattle.lent.specs.Lent.{loaded, saved, lent, written, stepLent, runLent, takenLent, freshLent}
+use Rattle.snapshot.specs.Snapshot.{tableLeft, stepTable, runTable, takenTable, freshTableFor, freshTable}
+use Rattle.lent.specs.Lent.{loaded, saved, lent, written, stepLent, runLent, takenLent, freshLent, freshLentFor}
 
 pub step-written : (f t : List ℕ) (ys : List Core) (p : Semaphore) (d sh : List ℕ) (k : ℕ) (x : Table) (y : After) (ys′ : List Core) (d′ sh′ : List ℕ)
     → x ≡ loaded ys → tableLeft y d′ sh′ [] ≡ stepTable f t x p d sh k → ys′ ≡ saved ys y
@@ -34,3 +35,10 @@ pub fresh-written : (f : List ℕ) (ys : List Core) (p : Semaphore) (d sh : List
 unfolding freshLent
 fresh-written f ys p d sh x y ys′ d′ sh′ e₁ e₂ e₃ =
     ap (λ (l : List Core). lent (y .refusal) l (y .semaphore) d′ sh′ []) e₃ ∙ ap (written ys) (e₂ ∙ ap (λ (z : Table). freshTable f z p d sh) e₁)
+
+pub fresh-written-for : (o : Profile) (f : List ℕ) (ys : List Core) (p : Semaphore) (d sh : List ℕ) (x : Table) (y : After) (ys′ : List Core) (d′ sh′ : List ℕ)
+    → x ≡ loaded ys → tableLeft y d′ sh′ [] ≡ freshTableFor o f x p d sh → ys′ ≡ saved ys y
+    → lent (y .refusal) ys′ (y .semaphore) d′ sh′ [] ≡ freshLentFor o f ys p d sh
+unfolding freshLentFor
+fresh-written-for o f ys p d sh x y ys′ d′ sh′ e₁ e₂ e₃ =
+    ap (λ (l : List Core). lent (y .refusal) l (y .semaphore) d′ sh′ []) e₃ ∙ ap (written ys) (e₂ ∙ ap (λ (z : Table). freshTableFor o f z p d sh) e₁)

@@ -11,11 +11,12 @@ use Rattle.table.specs.declared.Moving.{Moving}
 use Rattle.table.specs.declared.Moving.the-variants.{Core as moving, Nothing}
 use Rattle.table.specs.Table.{nextMoving}
 use Rattle.machine.specs.Calls.{nextRefusal}
+use Rattle.code.specs.declared.Profile.{Profile}
 use Rattle.snapshot.specs.declared.Core.{Core}
 use Rattle.snapshot.specs.declared.Table.{Table}
 use Rattle.snapshot.specs.declared.After.{After}
 use Rattle.snapshot.specs.declared.Ring.{Ring}
-use Rattle.snapshot.specs.Snapshot.{noCore, tableFrom, held, TableLeft, stepTable, runTable, takenTable, freshTable, placeAfter, recordMoves, Answered, answered}
+use Rattle.snapshot.specs.Snapshot.{noCore, tableFrom, held, TableLeft, stepTable, runTable, takenTable, freshTableFor, freshTable, placeAfter, recordMoves, Answered, answered}
 
 -- ---- a table copied out
 
@@ -63,6 +64,10 @@ takenLent f t ys p d sh order list taken = takenTable f t (loaded ys) p d sh ord
 
 unfoldable pub freshLent : List ℕ → List Core → Semaphore → List ℕ → List ℕ → Lent
 freshLent f ys p d sh = written ys (freshTable f (loaded ys) p d sh)
+
+-- the same under the profile that the caller names
+unfoldable pub freshLentFor : Profile → List ℕ → List Core → Semaphore → List ℕ → List ℕ → Lent
+freshLentFor profile f ys p d sh = written ys (freshTableFor profile f (loaded ys) p d sh)
 
 -- ---- the next core to move: the lent records are scanned round the ring
 

@@ -2,6 +2,7 @@
 // records, one for each core; the semaphore is a lent record beside it. A refused call changes nothing.
 //
 // The functions that start with `rikzord_` are the C interface too: a slice is a pointer and a length there.
+use code::Profile;
 use protocol::Registers;
 use runner::Ran;
 use semaphore::Semaphore;
@@ -14,7 +15,8 @@ use window::Shown;
 ghost use mathlib.Core.Path.{_≡_};
 ghost use mathlib.Core.List.{[]};
 ghost use lib.ListN.{length, getD, set};
-ghost use Rattle.taskset.specs.Judge.{judge};
+ghost use Rattle.code.specs.declared.Profile.the-variants.{Small};
+ghost use Rattle.taskset.specs.Judge.{judgeFor, judge};
 ghost use Rattle.runner.specs.Runs.{left};
 ghost use Rattle.cycles.specs.Check.{linesOf, linesRefusal, linesByte};
 ghost use Rattle.window.specs.declared.Shown.the-variants.{Code, Data};
@@ -22,7 +24,7 @@ ghost use Rattle.window.specs.Window.{windowAt, windowCall};
 ghost use Rattle.bounds.specs.Outputs.{outputs, takesLent};
 ghost use Rattle.holding.specs.Holding.{lowestRefusal, answersAfter};
 ghost use Rattle.snapshot.specs.Snapshot.{answered, registersAfter, stepRegisters};
-ghost use Rattle.lent.specs.Lent.{loaded, saved, lent, stepLent, runLent, takenLent, freshLent, scanned, nextLent};
+ghost use Rattle.lent.specs.Lent.{loaded, saved, lent, stepLent, runLent, takenLent, freshLent, freshLentFor, scanned, nextLent};
 
 // ---- the lent table
 
@@ -161,6 +163,24 @@ pub extern "C" fn rikzord_fresh(
     x.refusal
 }
 
+// The same under the small profile (document 02, 2.10).
+#[no_mangle]
+pub extern "C" fn rikzord_fresh_small(
+    file: &[u8],
+    table: &mut [Core],
+    semaphore: &mut Semaphore,
+    buffer: &mut [u8],
+    shared: &mut [u8],
+) -> u8
+    ensures { λ r. ⌜ lent r (now (table .exit)) (now (semaphore .exit)) (now (buffer .exit)) (now (shared .exit)) [] ≡ freshLentFor Small (now (file .entry)) (now (table .entry)) (now (semaphore .entry)) (now (buffer .entry)) (now (shared .entry)) ⌝ }
+{
+    let t = load(table);
+    let x = snapshot::fresh_small_table(file, t, *semaphore, buffer, shared);
+    save(table, x);
+    *semaphore = x.semaphore;
+    x.refusal
+}
+
 // The first core after `given`, round the ring and that one last, whose step would change something, goes to `found`; 255 for none.
 #[no_mangle]
 pub extern "C" fn rikzord_next_core(
@@ -185,6 +205,14 @@ pub extern "C" fn rikzord_check_file(file: &[u8]) -> u8
     ensures { λ r. ⌜ r ≡ judge (now (file .entry)) ⌝ }
 {
     machine::check_file(file)
+}
+
+// The same under the small profile.
+#[no_mangle]
+pub extern "C" fn rikzord_check_file_small(file: &[u8]) -> u8
+    ensures { λ r. ⌜ r ≡ judgeFor Small (now (file .entry)) ⌝ }
+{
+    machine::check_file_for(Profile::Small, file)
 }
 
 // ---- the registers of one core

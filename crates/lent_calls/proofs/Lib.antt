@@ -1,3 +1,4 @@
 pub mod Unchanged
 pub mod Back
 pub mod Calling
+pub mod Profiles

@@ -14,15 +14,18 @@ use Rattle.memory.specs.Memory.{splice, part}
 use Rattle.memory.proofs.Laws.{splice-is}
 use Rattle.verdict.proofs.Verdict.{pick-true, pick-false}
 use Rattle.records.specs.File.{cores}
-use Rattle.taskset.specs.Judge.{judge}
+use Rattle.code.specs.declared.Profile.{Profile}
+use Rattle.code.specs.declared.Profile.the-variants.{Full}
+use Rattle.taskset.specs.Judge.{judgeFor, judge}
 use Rattle.semaphore.specs.declared.Semaphore.{Semaphore}
 use Rattle.states.specs.declared.State.{State}
 use Rattle.runner.specs.declared.Ran.{Ran}
 use Rattle.runner.specs.Runs.{Left, left}
-use Rattle.machine.specs.Calls.{answerOf, tableOf, freshCall, runCall, stepCall}
+use Rattle.machine.specs.Calls.{answerOf, tableOf, freshCallFor, runCall, stepCall}
+use Rattle.machine.proofs.Calls.{fresh-full}
 use Rattle.snapshot.specs.declared.Table.{Table}
 use Rattle.snapshot.specs.declared.After.{After}
-use Rattle.snapshot.specs.Snapshot.{held, acceptedOf, refusedOf, afterOf, takenAfter, tableLeft, onTable, stepTable, runTable, takenTable, freshTable}
+use Rattle.snapshot.specs.Snapshot.{held, acceptedOf, refusedOf, afterOf, takenAfter, tableLeft, onTable, stepTable, runTable, takenTable, freshOn, freshTableFor, freshTable}
 
 -- ---- whole stretches
 
@@ -88,22 +91,27 @@ module _ (f t : List ℕ) (x : Table) (p : Semaphore) (d sh order list : List �
     sym (pick-true _ _ _ (eq-eqb (r .refusal) 0 z)) ∙ taken-on,
   )
 
-module _ (f : List ℕ) (x : Table) (p : Semaphore) (d sh : List ℕ) (n : ℕ) (en : n ≡ cores f) where
-  pub fresh-short : (r : ℕ) (y : After) → x .count < n → r ≡ next (judge f) 21 → y ≡ refusedOf x p r → tableLeft y d sh [] ≡ freshTable f x p d sh
-  unfolding freshTable
+module _ (o : Profile) (f : List ℕ) (x : Table) (p : Semaphore) (d sh : List ℕ) (n : ℕ) (en : n ≡ cores f) where
+  pub fresh-short : (r : ℕ) (y : After) → x .count < n → r ≡ next (judgeFor o f) 21 → y ≡ refusedOf x p r → tableLeft y d sh [] ≡ freshTableFor o f x p d sh
+  unfolding freshTableFor
   fresh-short r y h er ey =
-      let q = next (judge f) 21 in
+      let q = next (judgeFor o f) 21 in
       ap (λ (z : After). tableLeft z d sh []) (ey ∙ ap (refusedOf x p) er)
-      ∙ sym (on-refused x p (answerOf q (tableOf 0 0)) d sh [] (short-refused (judge f)))
+      ∙ sym (on-refused x p (answerOf q (tableOf 0 0)) d sh [] (short-refused (judgeFor o f)))
       ∙ ap (onTable x p) (sym (pick-false _ _ _ (lt-leb (cores f) (x .count) (omega (arith, en, h)))))
 
-  module _ (r : Ran) (y : After) (d′ sh′ : List ℕ) (h : n ≤ x .count) (e : left r d′ sh′ [] ≡ freshCall f d sh) where
-    freshened : onTable x p (left r d′ sh′ []) ≡ freshTable f x p d sh
-    unfolding freshTable
+  module _ (r : Ran) (y : After) (d′ sh′ : List ℕ) (h : n ≤ x .count) (e : left r d′ sh′ [] ≡ freshCallFor o f d sh) where
+    freshened : onTable x p (left r d′ sh′ []) ≡ freshTableFor o f x p d sh
+    unfolding freshTableFor
     freshened = ap (onTable x p) (e ∙ sym (pick-true _ _ _ (le-leb (cores f) (x .count) (omega (arith, en, h)))))
 
-    pub fresh-stays : r .refusal ≢ 0 → y ≡ refusedOf x p (r .refusal) → tableLeft y d′ sh′ [] ≡ freshTable f x p d sh
+    pub fresh-stays : r .refusal ≢ 0 → y ≡ refusedOf x p (r .refusal) → tableLeft y d′ sh′ [] ≡ freshTableFor o f x p d sh
     fresh-stays ne ey = ap (λ (z : After). tableLeft z d′ sh′ []) ey ∙ sym (on-refused x p r d′ sh′ [] ne) ∙ freshened
 
-    pub fresh-moves : r .refusal ≡ 0 → y ≡ acceptedOf x (r .state) → tableLeft y d′ sh′ [] ≡ freshTable f x p d sh
+    pub fresh-moves : r .refusal ≡ 0 → y ≡ acceptedOf x (r .state) → tableLeft y d′ sh′ [] ≡ freshTableFor o f x p d sh
     fresh-moves z ey = ap (λ (z : After). tableLeft z d′ sh′ []) ey ∙ sym (on-accepted x p r d′ sh′ [] z) ∙ freshened
+
+-- the call without a profile is that of the full one
+pub full-table : (f : List ℕ) (x : Table) (p : Semaphore) (d sh : List ℕ) → freshTableFor Full f x p d sh ≡ freshTable f x p d sh
+unfolding freshTableFor freshTable
+full-table f x p d sh = ap (λ (l : Left). freshOn (judge f) l f x p d sh) (fresh-full f d sh)

@@ -11,7 +11,8 @@ use Rattle.verdict.specs.Verdict.{pick, next}
 use Rattle.memory.specs.Memory.{splice, part}
 use Rattle.protocol.specs.declared.Registers.{Registers}
 use Rattle.records.specs.File.{cores}
-use Rattle.taskset.specs.Judge.{judge}
+use Rattle.code.specs.declared.Profile.{Profile}
+use Rattle.taskset.specs.Judge.{judgeFor, judge}
 use Rattle.semaphore.specs.declared.Semaphore.{Semaphore}
 use Rattle.semaphore.specs.Line.{semaphoreOf}
 use Rattle.states.specs.declared.State.{State}
@@ -20,7 +21,7 @@ use Rattle.states.specs.Tasks.{taskAt}
 use Rattle.runner.specs.declared.Ran.{Ran}
 use Rattle.runner.specs.Runs.{Left, left}
 use Rattle.table.specs.Table.{canMove, roundFrom}
-use Rattle.machine.specs.Calls.{answerOf, tableOf, freshCall, runCall, stepCall, nextRefusal}
+use Rattle.machine.specs.Calls.{answerOf, tableOf, freshCallFor, freshCall, runCall, stepCall, nextRefusal}
 use Rattle.snapshot.specs.declared.Core.{Core}
 use Rattle.snapshot.specs.declared.Table.{Table}
 use Rattle.snapshot.specs.declared.After.{After}
@@ -157,10 +158,17 @@ runTable f t x p d sh order list = onTable x p (runCall f t (held x p) d sh orde
 unfoldable pub takenTable : List ℕ → List ℕ → Table → Semaphore → List ℕ → List ℕ → List ℕ → List ℕ → ℕ → ℕ
 takenTable f t x p d sh order list taken = takenAfter taken (runCall f t (held x p) d sh order list .answer)
 
--- the fresh state needs a table of at least n records (21), and writes the first n
+-- the fresh state needs a table of at least n records (21, after the file's number), and writes the first n of what the call by value makes
+abbrev pub freshOn : ℕ → Left → List ℕ → Table → Semaphore → List ℕ → List ℕ → TableLeft
+freshOn judged made f x p d sh =
+    onTable x p (pick (leb (cores f) (x .count)) made (left (answerOf (next judged 21) (tableOf 0 0)) d sh []))
+
+unfoldable pub freshTableFor : Profile → List ℕ → Table → Semaphore → List ℕ → List ℕ → TableLeft
+freshTableFor profile f x p d sh = freshOn (judgeFor profile f) (freshCallFor profile f d sh) f x p d sh
+
+-- under the full profile
 unfoldable pub freshTable : List ℕ → Table → Semaphore → List ℕ → List ℕ → TableLeft
-freshTable f x p d sh =
-    onTable x p (pick (leb (cores f) (x .count)) (freshCall f d sh) (left (answerOf (next (judge f) 21) (tableOf 0 0)) d sh []))
+freshTable f x p d sh = freshOn (judge f) (freshCall f d sh) f x p d sh
 
 -- ---- the next core to move: what a scan of the records round the ring needs, each tested as by value (crate table, specs/Table)
 

@@ -1,5 +1,6 @@
 // The machine's calls on a snapshot of the core table: its first four records copied out, by value. The calls on a lent table (crate lent) copy it out,
 // call these, and store what they leave.
+use code::Profile;
 use protocol::Registers;
 use runner::Ran;
 use semaphore::Semaphore;
@@ -10,9 +11,10 @@ ghost use Prim.Native.Nat.{_+_, _*_, _<_, _≤_};
 ghost use lib.ListN.{length, set};
 ghost use Rattle.verdict.specs.Verdict.{next};
 ghost use Rattle.memory.specs.Memory.{splice, part};
-ghost use Rattle.taskset.specs.Judge.{judge};
+ghost use Rattle.code.specs.declared.Profile.the-variants.{Small};
+ghost use Rattle.taskset.specs.Judge.{judgeFor};
 ghost use Rattle.runner.specs.Runs.{left};
-ghost use Rattle.snapshot.specs.Snapshot.{noCore, tableFrom, entries, counted, registersIn, recordWith, heldPlaces, heldOffsets, held, coreOf, recordAfter, acceptedOf, refusedOf, tableLeft, stepTable, runTable, takenTable, freshTable, ringOf, noRing, placeAfter, recordMoves, answered, ringAnswer, withRegisters, registersAfter, stepRegisters};
+ghost use Rattle.snapshot.specs.Snapshot.{noCore, tableFrom, entries, counted, registersIn, recordWith, heldPlaces, heldOffsets, held, coreOf, recordAfter, acceptedOf, refusedOf, tableLeft, stepTable, runTable, takenTable, freshTableFor, freshTable, ringOf, noRing, placeAfter, recordMoves, answered, ringAnswer, withRegisters, registersAfter, stepRegisters};
 
 // A record of the core table: a core's registers and call stack, in 84 bytes of which each belongs to a field, so that what a call says of the
 // fields it says of every byte. Spare bytes are never judged, and a record that a call writes has zeros there.
@@ -280,7 +282,28 @@ pub fn run_table(
     accepted(t, ran.state)
 }
 
-// The fresh state. A table of fewer than n records is too short.
+// The fresh state under a profile. A table of fewer than n records is too short.
+fn fresh_table_for(
+    profile: Profile,
+    file: &[u8],
+    t: Table,
+    semaphore: Semaphore,
+    buffer: &mut [u8],
+    shared: &mut [u8],
+) -> After
+    ensures { λ r. ⌜ tableLeft r (now (buffer .exit)) (now (shared .exit)) [] ≡ freshTableFor profile (now (file .entry)) t semaphore (now (buffer .entry)) (now (shared .entry)) ⌝ }
+{
+    if t.count < memory::byte_at(file, 4) {
+        return refused(t, semaphore, short_refusal(profile, file));
+    }
+    let made = machine::fresh_for(profile, file, buffer, shared);
+    if made.refusal != 0 {
+        return refused(t, semaphore, made.refusal);
+    }
+    accepted(t, made.state)
+}
+
+// Under the full profile.
 pub fn fresh_table(
     file: &[u8],
     t: Table,
@@ -290,21 +313,27 @@ pub fn fresh_table(
 ) -> After
     ensures { λ r. ⌜ tableLeft r (now (buffer .exit)) (now (shared .exit)) [] ≡ freshTable (now (file .entry)) t semaphore (now (buffer .entry)) (now (shared .entry)) ⌝ }
 {
-    if t.count < memory::byte_at(file, 4) {
-        return refused(t, semaphore, short_refusal(file));
-    }
-    let made = machine::fresh(file, buffer, shared);
-    if made.refusal != 0 {
-        return refused(t, semaphore, made.refusal);
-    }
-    accepted(t, made.state)
+    fresh_table_for(Profile::Full, file, t, semaphore, buffer, shared)
+}
+
+// Under the small one.
+pub fn fresh_small_table(
+    file: &[u8],
+    t: Table,
+    semaphore: Semaphore,
+    buffer: &mut [u8],
+    shared: &mut [u8],
+) -> After
+    ensures { λ r. ⌜ tableLeft r (now (buffer .exit)) (now (shared .exit)) [] ≡ freshTableFor Small (now (file .entry)) t semaphore (now (buffer .entry)) (now (shared .entry)) ⌝ }
+{
+    fresh_table_for(Profile::Small, file, t, semaphore, buffer, shared)
 }
 
 // The refusal where the table is too short: the file is judged first.
-fn short_refusal(file: &[u8]) -> u8
-    ensures { λ r. ⌜ r ≡ next (judge (now (file .entry))) 21 ⌝ }
+fn short_refusal(profile: Profile, file: &[u8]) -> u8
+    ensures { λ r. ⌜ r ≡ next (judgeFor profile (now (file .entry))) 21 ⌝ }
 {
-    let r = taskset::judge_file(file);
+    let r = taskset::judge_file_for(profile, file);
     if r != 0 {
         return r;
     }
