@@ -131,6 +131,13 @@ turned c p m r n b q = go (goesTo (kind c p)) refl
           right = λ _ _ _. rw e;
         }
 
+pub asked-size : (c : List ℕ) (p : ℕ) (m : List ℕ) (r : Bool) (n : List ℕ) → TargetAsked c p m r n → length n ≡ length m
+asked-size c p m r n q = go (goesTo (kind c p)) refl
+  where
+    go : (x : Bool) → goesTo (kind c p) ≡ x → length n ≡ length m
+    go true e = q .asked e .size
+    go false e = ap length (q .none e .1)
+
 -- ---- the pass
 
 -- a mark at p is one more start
@@ -273,12 +280,13 @@ laid-stop : (o : Profile) (k : ℕ) (c : List ℕ) (p r : ℕ) → length c ≤ 
 laid-stop o zero c p r e h q nz = absurd (let x : ⊥ = omega arith in x)
 laid-stop o (suc k) c p r e h q nz = stop _ q nz ∙ sym (laid-one o k c p h)
 
+-- where the pass stops at p, whatever it has written by then
 pub laying-stop : (x : Profile) (c : List ℕ) (p last r : ℕ) (outside : Bool) (m : List ℕ) → Laying x c p last outside m → p < length c → r ≡ instructionRefusal x c p
-    → (r ≡ 0 → ⊥) → Pass x c r last outside m
-laying-stop x c p last r outside m w h q nz =
+    → (r ≡ 0 → ⊥) → (last′ : ℕ) (outside′ : Bool) (m′ : List ℕ) → length m′ ≡ 8192 → Pass x c r last′ outside′ m′
+laying-stop x c p last r outside m w h q nz last′ outside′ m′ e =
     record {
       right = laid-stop x (w .left) c p r (w .enough) h q nz ∙ sym (w .laid-rest);
-      size = w .size;
+      size = e;
       marked = λ z. absurd (nz z);
       latest = λ z. absurd (nz z);
       met = λ z. absurd (nz z);

@@ -758,6 +758,10 @@ fn lay(profile: Profile, code: &[u8]) -> Laid
                 marks,
             };
         }
+        if ask_target(code, p, &mut marks) {
+            outside = true;
+        }
+        // Behind the target: the compiler joins the two matches on the code byte that come before, and no test stands between them.
         if !is_carried(profile, code, p) {
             return Laid {
                 refusal: 27,
@@ -765,9 +769,6 @@ fn lay(profile: Profile, code: &[u8]) -> Laid
                 outside,
                 marks,
             };
-        }
-        if ask_target(code, p, &mut marks) {
-            outside = true;
         }
         marks[p] = 1;
         last = code[p];

@@ -9,7 +9,7 @@ use native.Mathlib.Omega.{arith}
 use borrow.Author.Needs.{needs}
 use Rattle.verdict.specs.Verdict.{either}
 use Rattle.code.proofs.Laws.{whole, carried-not, length-taken, length-refused}
-use Rattle.code.proofs.Laying.{Laying, laying-none, laying-more, laying-end, laying-stop}
+use Rattle.code.proofs.Laying.{Laying, laying-none, asked-size, laying-more, laying-end, laying-stop}
 use Rattle.code.proofs.lay.Statement.{statement}
 use Rattle.code.proofs.lay.Tie as tie
 
@@ -29,19 +29,22 @@ accepted-length-requires : tie.Need-accepted-length-requires Inv-loop μ-loop
 accepted-length-requires c κs = c .loop-test .taken
 
 returns : tie.Need-returns Inv-loop μ-loop
-returns c = laying-stop _ _ _ _ 6 _ _ (c .before .before .before .loop .inv) (c .before .before .loop-test .taken) (length-refused _ _ _ _ (c .before .accepted-length .ensures) (c .if1 .taken)) (λ z. let y : ⊥ = omega arith in y)
-
-is-carried-requires : tie.Need-is-carried-requires Inv-loop μ-loop
-is-carried-requires c κs = (c .before .before .loop-test .taken, length-taken _ _ _ (c .before .accepted-length .ensures) (c .if1 .left) .0)
-
-returns-2 : tie.Need-returns-2 Inv-loop μ-loop
-returns-2 c = laying-stop _ _ _ _ 27 _ _ (c .before .before .before .before .before .loop .inv) (c .before .before .before .before .loop-test .taken) (carried-not _ _ _ (length-taken _ _ _ (c .before .before .before .accepted-length .ensures) (c .before .before .if1 .left) .0) (sym (c .before .is-carried .ensures) ∙ not-true _ (c .if2 .taken))) (λ z. let y : ⊥ = omega arith in y)
+returns c = laying-stop _ _ _ _ 6 _ _ (c .before .before .before .loop .inv) (c .before .before .loop-test .taken) (length-refused _ _ _ _ (c .before .accepted-length .ensures) (c .if1 .taken)) (λ z. let y : ⊥ = omega arith in y) _ _ _ (c .before .before .before .loop .inv .size)
 
 slice-aggregate-ask-target : tie.Need-slice-aggregate-ask-target Inv-loop μ-loop
 slice-aggregate-ask-target c = search needs
 
 ask-target-requires : tie.Need-ask-target-requires Inv-loop μ-loop
-ask-target-requires c κs = (c .before .before .before .before .before .loop-test .taken, whole (c .before .before .before .before .before .before .before .before .before .args .code .now) (c .before .before .before .before .before .before .loop .p) (length-taken _ _ _ (c .before .before .before .before .accepted-length .ensures) (c .before .before .before .if1 .left) .0) .fixed)
+ask-target-requires c κs = (c .before .before .before .loop-test .taken, whole (c .before .before .before .before .before .before .before .args .code .now) (c .before .before .before .before .loop .p) (length-taken _ _ _ (c .before .before .accepted-length .ensures) (c .before .if1 .left) .0) .fixed)
+
+is-carried-requires : tie.Need-is-carried-requires Inv-loop μ-loop
+is-carried-requires c κs = (c .before .before .before .before .before .before .loop-test .taken, length-taken _ _ _ (c .before .before .before .before .before .accepted-length .ensures) (c .before .before .before .before .if1 .left) .0)
+
+returns-2 : tie.Need-returns-2 Inv-loop μ-loop
+returns-2 c =
+    laying-stop _ _ _ _ 27 _ _ (c .before .before .before .before .before .before .before .before .before .loop .inv) (c .before .before .before .before .before .before .before .before .loop-test .taken)
+    (carried-not _ _ _ (length-taken _ _ _ (c .before .before .before .before .before .before .before .accepted-length .ensures) (c .before .before .before .before .before .before .if1 .left) .0) (sym (c .before .is-carried .ensures) ∙ not-true _ (c .if3 .taken))) (λ z. let y : ⊥ = omega arith in y) _ _ _
+    (asked-size _ _ _ _ _ (c .before .before .before .before .ask-target .ensures) ∙ c .before .before .before .before .before .before .before .before .before .loop .inv .size)
 
 array-write-marks : tie.Need-array-write-marks Inv-loop μ-loop
 array-write-marks c = omega (arith, c .before .before .before .before .before .before .before .before .before .before .before .before .pre)
@@ -62,8 +65,8 @@ loop-less c =
 loop-again : tie.Need-loop-again Inv-loop μ-loop
 loop-again c =
     let outside = c .before .before .before .before .before .before .before .before .before .before .loop .outside in
-    laying-more _ _ _ _ _ _ (c .before .before .before .before .before .before .before .before .before .before .before .before .before .pre) (c .before .before .before .before .before .before .before .before .before .before .loop .inv) (c .before .before .before .before .before .before .before .before .before .loop-test .taken) _ (c .before .before .before .before .before .before .before .before .accepted-length .ensures) (c .before .before .before .before .before .before .before .if1 .left) (sym (c .before .before .before .before .before .before .is-carried .ensures) ∙ not-false _ (c .before .before .before .before .before .if2 .left)) _ _ (c .before .before .before .ask-target .ensures) _
-    (⊎-elim (λ w. w .1 ∙ ap (λ (x : Bool). either x outside) (sym (w .0 .taken))) (λ w. w .1 ∙ ap (λ (x : Bool). either x outside) (sym (w .0 .left))) (c .before .if3 .came))
+    laying-more _ _ _ _ _ _ (c .before .before .before .before .before .before .before .before .before .before .before .before .before .pre) (c .before .before .before .before .before .before .before .before .before .before .loop .inv) (c .before .before .before .before .before .before .before .before .before .loop-test .taken) _ (c .before .before .before .before .before .before .before .before .accepted-length .ensures) (c .before .before .before .before .before .before .before .if1 .left) (sym (c .before .before .is-carried .ensures) ∙ not-false _ (c .before .if3 .left)) _ _ (c .before .before .before .before .before .ask-target .ensures) _
+    (⊎-elim (λ w. w .1 ∙ ap (λ (x : Bool). either x outside) (sym (w .0 .taken))) (λ w. w .1 ∙ ap (λ (x : Bool). either x outside) (sym (w .0 .left))) (c .before .before .before .if2 .came))
 
 returns-3 : tie.Need-returns-3 Inv-loop μ-loop
 returns-3 c = laying-end _ _ _ _ _ _ (c .before .loop .inv) (c .loop-test .left)
@@ -78,10 +81,10 @@ lay-spec =
     loop-holds
     accepted-length-requires
     returns
-    is-carried-requires
-    returns-2
     slice-aggregate-ask-target
     ask-target-requires
+    is-carried-requires
+    returns-2
     array-write-marks
     shared-slice-read-last
     add-p
