@@ -1,6 +1,6 @@
 #!/bin/sh
 # Builds the archive, compiles the examples against it and compares what they print: document 01's listing; the line at the semaphore, what a task takes, the
-# lowest readings and the windows of document 02, 2.4, 2.7, 2.11 and 2.14.
+# lowest readings, the windows and the small profile of document 02, 2.4, 2.7, 2.11, 2.14 and 2.10.
 set -e
 cd "$(dirname "$0")/.."
 rt staticlib lent
@@ -35,3 +35,7 @@ cat > target/c/expected <<'END'
 END
 target/c/fair | diff - target/c/expected
 echo "c: the line at the semaphore is that of document 02"
+gcc -std=c99 -Wall -Wextra -Werror -Iinclude -o target/c/small c/small.c target/staticlib/liblent.a
+printf '0 0, 0 0\n0 3, 0 3\n0 0, 0 0\n0 27, 0 27\n0 0, 0 0\n0 27, 0 27\n27 27 a5 a5 a5 a5\n' > target/c/expected
+target/c/small | diff - target/c/expected
+echo "c: the small profile is that of document 02"

@@ -9,7 +9,7 @@
  * - Nothing else reads or writes that memory during the call.
  *
  * Each call answers the refusal number of document 01 or 02, 0 for none: 1 to 7 and 24 for the task set file (1: it is cut; 24: bytes follow its last
- * section), 21 lent memory, 22 the trace (one of no bytes means one record of zeros for every core), 23 the state, 20 a core number; they are tried in this order. A refused call changes nothing. Any bytes may be lent: nothing is required of their values. The
+ * section; 27 besides, where it is loaded as small), 21 lent memory, 22 the trace (one of no bytes means one record of zeros for every core), 23 the state, 20 a core number; they are tried in this order. A refused call changes nothing. Any bytes may be lent: nothing is required of their values. The
  * definitions are in crates/lent/specs/Lent.antt. */
 #ifndef RIKZORD_H
 #define RIKZORD_H
@@ -52,13 +52,21 @@ struct rikzord_semaphore {
 _Static_assert(sizeof(struct rikzord_semaphore) == 6, "a semaphore has 6 bytes, and no padding");
 #endif
 
-/* Judges a task set file. */
+/* Judges a task set file. The second judges it for the smallest controller, which carries no 64-bit numbers and no floats: a data size above 1,024 is 3
+ * there, and an instruction that names one of the types 7 to 10 (LINT, LWORD, REAL, LREAL) is 27, tested at that instruction right after 6. */
 uint8_t rikzord_check_file(const uint8_t *file, size_t file_length);
+
+uint8_t rikzord_check_file_small(const uint8_t *file, size_t file_length);
 
 /* Makes the fresh state: both memories zero, each core in mode 0 with registers 0 and flags 4, the semaphore free and nobody in line. The table needs at least n
  * records (21); the first n are written. The data buffer has the sum of the data sizes, shared memory 1,024 bytes. */
 uint8_t rikzord_fresh(const uint8_t *file, size_t file_length, struct rikzord_core *table, size_t table_length, struct rikzord_semaphore *semaphore,
                       uint8_t *buffer, size_t buffer_length, uint8_t *shared, size_t shared_length);
+
+/* The same of a file that is loaded as small: it answers the number of rikzord_check_file_small first. Where that is 0 the call leaves what rikzord_fresh
+ * leaves, and every later call, which knows no profile, runs the file step for step as it does otherwise. */
+uint8_t rikzord_fresh_small(const uint8_t *file, size_t file_length, struct rikzord_core *table, size_t table_length,
+                            struct rikzord_semaphore *semaphore, uint8_t *buffer, size_t buffer_length, uint8_t *shared, size_t shared_length);
 
 /* One step of a core. The table has n records here and below (23); all n are written. */
 uint8_t rikzord_step(const uint8_t *file, size_t file_length, const uint8_t *trace, size_t trace_length, struct rikzord_core *table,

@@ -5,7 +5,8 @@
 
 use crate::interface::{Machine, Next};
 use crate::lines::Lines;
-use crate::reference::{mode, refusal, Core, Semaphore, WRITING_MARK};
+use crate::profiles::Loader;
+use crate::reference::{mode, refusal, Core, Profile, Semaphore, WRITING_MARK};
 use crate::window::{Asked, Shown};
 
 const NOTHING: u8 = 255;
@@ -14,6 +15,20 @@ extern "C" {
     fn rikzord_check_file(file: *const u8, file_len: usize) -> u8;
 
     fn rikzord_fresh(
+        file: *const u8,
+        file_len: usize,
+        table: *mut Core,
+        table_len: usize,
+        semaphore: *mut Semaphore,
+        buffer: *mut u8,
+        buffer_len: usize,
+        shared: *mut u8,
+        shared_len: usize,
+    ) -> u8;
+
+    fn rikzord_check_file_small(file: *const u8, file_len: usize) -> u8;
+
+    fn rikzord_fresh_small(
         file: *const u8,
         file_len: usize,
         table: *mut Core,
@@ -233,6 +248,29 @@ impl Machine for Linked {
             (number, _) => Next::Refused(number),
         }
     }
+}
+
+/// The check of a file and the fresh state under each profile, of `liblent.a`.
+pub const LOADER: Loader = Loader { check, fresh };
+
+fn check(profile: Profile, file: &[u8]) -> u8 {
+    let call = match profile {
+        Profile::Full => rikzord_check_file,
+        Profile::Small => rikzord_check_file_small,
+    };
+    // Safety: as above.
+    unsafe { call(file.as_ptr(), file.len()) }
+}
+
+fn fresh(profile: Profile, file: &[u8], table: &mut [Core], semaphore: &mut Semaphore, buffer: &mut [u8], shared: &mut [u8]) -> u8 {
+    let call = match profile {
+        Profile::Full => rikzord_fresh,
+        Profile::Small => rikzord_fresh_small,
+    };
+    let (file_len, table_len, buffer_len, shared_len) = (file.len(), table.len(), buffer.len(), shared.len());
+    let (table, buffer, shared) = (table.as_mut_ptr(), buffer.as_mut_ptr(), shared.as_mut_ptr());
+    // Safety: as above.
+    unsafe { call(file.as_ptr(), file_len, table, table_len, semaphore, buffer, buffer_len, shared, shared_len) }
 }
 
 /// The lowest reading over the holding time, of `liblent.a`.

@@ -70,10 +70,13 @@ fn both(name: &[u8], size: u16, code: &[u8]) {
 
 // ---- data sizes
 
-fn sizes() {
+fn sizes_about_1024() {
     both(b"data of 1 byte", 1, b"\x00");
     both(b"data of 1,024 bytes", 1024, b"\x00");
     both(b"data of 1,025 bytes", 1025, b"\x00");
+}
+
+fn sizes_about_4096() {
     both(b"data of 4,096 bytes", 4096, b"\x00");
     both(b"data of 4,097 bytes", 4097, b"\x00");
     both(b"no data", 0, b"\x00");
@@ -91,22 +94,20 @@ fn typed(code: u8, t: u8) -> u8 {
     judged(Profile::Small, 64, &c)
 }
 
+fn typed_four(code: u8, a: u8, b: u8, c: u8, d: u8) {
+    number(typed(code, a));
+    number(typed(code, b));
+    number(typed(code, c));
+    number(typed(code, d));
+}
+
 fn typed_row(code: u8) {
     text(b"command ");
     io::print_decimal(1, code as u64);
     text(b":");
-    number(typed(code, 0));
-    number(typed(code, 1));
-    number(typed(code, 2));
-    number(typed(code, 3));
-    number(typed(code, 4));
-    number(typed(code, 5));
-    number(typed(code, 6));
-    number(typed(code, 7));
-    number(typed(code, 8));
-    number(typed(code, 9));
-    number(typed(code, 10));
-    number(typed(code, 11));
+    typed_four(code, 0, 1, 2, 3);
+    typed_four(code, 4, 5, 6, 7);
+    typed_four(code, 8, 9, 10, 11);
     text(b"\n");
 }
 
@@ -116,22 +117,20 @@ fn conversion(from: u8, to: u8) -> u8 {
     judged(Profile::Small, 64, &c)
 }
 
+fn conversion_four(from: u8, a: u8, b: u8, c: u8, d: u8) {
+    number(conversion(from, a));
+    number(conversion(from, b));
+    number(conversion(from, c));
+    number(conversion(from, d));
+}
+
 fn conversion_row(from: u8) {
     text(b"conversion from ");
     io::print_decimal(1, from as u64);
     text(b":");
-    number(conversion(from, 0));
-    number(conversion(from, 1));
-    number(conversion(from, 2));
-    number(conversion(from, 3));
-    number(conversion(from, 4));
-    number(conversion(from, 5));
-    number(conversion(from, 6));
-    number(conversion(from, 7));
-    number(conversion(from, 8));
-    number(conversion(from, 9));
-    number(conversion(from, 10));
-    number(conversion(from, 11));
+    conversion_four(from, 0, 1, 2, 3);
+    conversion_four(from, 4, 5, 6, 7);
+    conversion_four(from, 8, 9, 10, 11);
     text(b"\n");
 }
 
@@ -141,22 +140,20 @@ fn packed(code: u8, t: u8) -> u8 {
     judged(Profile::Small, 64, &c)
 }
 
+fn packed_four(code: u8, a: u8, b: u8, c: u8, d: u8) {
+    number(packed(code, a));
+    number(packed(code, b));
+    number(packed(code, c));
+    number(packed(code, d));
+}
+
 fn packed_row(code: u8) {
     text(b"packed ");
     io::print_decimal(1, code as u64);
     text(b":");
-    number(packed(code, 0));
-    number(packed(code, 1));
-    number(packed(code, 2));
-    number(packed(code, 3));
-    number(packed(code, 4));
-    number(packed(code, 5));
-    number(packed(code, 6));
-    number(packed(code, 7));
-    number(packed(code, 8));
-    number(packed(code, 9));
-    number(packed(code, 10));
-    number(packed(code, 11));
+    packed_four(code, 0, 1, 2, 3);
+    packed_four(code, 4, 5, 6, 7);
+    packed_four(code, 8, 9, 10, 11);
     text(b"\n");
 }
 
@@ -168,11 +165,14 @@ fn arithmetic() {
     typed_row(20);
 }
 
-fn logic_and_shifts() {
+fn logic() {
     typed_row(24);
     typed_row(25);
     typed_row(26);
     typed_row(27);
+}
+
+fn shifts() {
     typed_row(28);
     typed_row(29);
     typed_row(30);
@@ -188,15 +188,21 @@ fn comparisons() {
     typed_row(37);
 }
 
-fn conversions() {
+fn conversions_from_0() {
     conversion_row(0);
     conversion_row(1);
     conversion_row(2);
     conversion_row(3);
+}
+
+fn conversions_from_4() {
     conversion_row(4);
     conversion_row(5);
     conversion_row(6);
     conversion_row(7);
+}
+
+fn conversions_from_8() {
     conversion_row(8);
     conversion_row(9);
     conversion_row(10);
@@ -205,7 +211,7 @@ fn conversions() {
 
 // ---- instructions that name no type, and the order of the numbers
 
-fn untyped() {
+fn moves() {
     both(
         b"MCD of eight bytes",
         64,
@@ -226,6 +232,9 @@ fn untyped() {
         64,
         b"\x09\x00\x00\x08\x00\x30\x00\x08\x04\x00\x00",
     );
+}
+
+fn others() {
     both(
         b"cycle time and flag byte",
         64,
@@ -234,7 +243,7 @@ fn untyped() {
     both(b"JZ to RETURN", 64, b"\x02\x08\x08\x05\x00\x00");
 }
 
-fn orders() {
+fn types_and_6() {
     both(
         b"a type, then an unknown code",
         64,
@@ -255,6 +264,9 @@ fn orders() {
         64,
         b"\x10\x07\x00\x00\x08",
     );
+}
+
+fn types_and_7() {
     both(
         b"a type, and a target that starts no instruction",
         64,
@@ -270,6 +282,9 @@ fn orders() {
         64,
         b"\x10\x05\x00\x00\x08\x00\x10\x00\x01\x01\x00",
     );
+}
+
+fn types_and_3() {
     both(
         b"data of 1,025 bytes, and a type",
         1025,
@@ -339,15 +354,22 @@ fn wide_under(name: &[u8], profile: Profile) {
 }
 
 fn main() {
-    sizes();
+    sizes_about_1024();
+    sizes_about_4096();
     arithmetic();
-    logic_and_shifts();
+    logic();
+    shifts();
     comparisons();
-    conversions();
+    conversions_from_0();
+    conversions_from_4();
+    conversions_from_8();
     packed_row(44);
     packed_row(45);
-    untyped();
-    orders();
+    moves();
+    others();
+    types_and_6();
+    types_and_7();
+    types_and_3();
     run_under(b"a run under the full profile", Profile::Full);
     run_under(b"a run under the small profile", Profile::Small);
     wide_under(b"a wide type under the full profile", Profile::Full);

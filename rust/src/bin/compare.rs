@@ -7,6 +7,7 @@ use rikzord_comparison::comparison::compare;
 use rikzord_comparison::holding;
 use rikzord_comparison::interface::{Reference, Stepwise};
 use rikzord_comparison::lines;
+use rikzord_comparison::profiles;
 use rikzord_comparison::window;
 
 fn main() {
@@ -40,7 +41,12 @@ fn main() {
     #[cfg(not(feature = "linked"))]
     let takes = bounds::compare(bounds::takes, bounds::takes, seed as u64, 2 * rounds);
     takes.print();
-    let missing = [tally.missing(), lowest.missing(), lines.missing(), windows.missing(), takes.missing()].concat();
+    #[cfg(feature = "linked")]
+    let loaded = profiles::compare(profiles::REFERENCE, rikzord_comparison::linked::LOADER, seed as u64, 4 * rounds);
+    #[cfg(not(feature = "linked"))]
+    let loaded = profiles::compare(profiles::REFERENCE, profiles::REFERENCE, seed as u64, 4 * rounds);
+    loaded.print();
+    let missing = [tally.missing(), lowest.missing(), lines.missing(), windows.missing(), takes.missing(), loaded.missing()].concat();
     assert!(missing.is_empty(), "never came: {missing:?}");
     println!("{rounds} rounds: the reference and {second} agree");
 }
