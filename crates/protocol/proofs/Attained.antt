@@ -11,10 +11,10 @@ use Rattle.protocol.specs.Registers.{readAcquired, readReleased}
 use Rattle.protocol.specs.State.{Core, Task}
 use Rattle.protocol.specs.Step.{readTaken, readDone, step}
 use Rattle.protocol.specs.Instruction.{Executed, instructionBy}
-use Rattle.protocol.specs.Fresh.{fresh}
+use Rattle.protocol.specs.Fresh.{freshZero}
 use Rattle.protocol.specs.Laws.{Laws}
 use Rattle.protocol.specs.Fair.{Attained}
-use Rattle.protocol.proofs.Instance.{obeys, fresh-is}
+use Rattle.protocol.proofs.Instance.{obeys, zero-is}
 
 -- every core has one record, and returns at once
 answer : ℕ → Core → Executed
@@ -37,9 +37,9 @@ unfolding answer task step readTaken readDone readAcquired readReleased splice p
 attained = record {
   two = record {
     task = task;
-    start = fresh (1 ∷ 1 ∷ []);
+    start = freshZero (1 ∷ 1 ∷ []);
     lawful = lawful;
-    fresh = fresh-is (1 ∷ 1 ∷ []);
+    fresh = zero-is (1 ∷ 1 ∷ []);
     table = refl;
     order = 0 ∷ 1 ∷ 0 ∷ [];
     core-in-line = 1;
@@ -48,9 +48,9 @@ attained = record {
   };
   three = record {
     task = task;
-    start = fresh (1 ∷ 1 ∷ 1 ∷ []);
+    start = freshZero (1 ∷ 1 ∷ 1 ∷ []);
     lawful = lawful;
-    fresh = fresh-is (1 ∷ 1 ∷ 1 ∷ []);
+    fresh = zero-is (1 ∷ 1 ∷ 1 ∷ []);
     table = refl;
     order = 0 ∷ 1 ∷ 2 ∷ 0 ∷ 1 ∷ 1 ∷ [];
     core-in-line = 2;
@@ -59,9 +59,9 @@ attained = record {
   };
   four = record {
     task = task;
-    start = fresh (1 ∷ 1 ∷ 1 ∷ 1 ∷ []);
+    start = freshZero (1 ∷ 1 ∷ 1 ∷ 1 ∷ []);
     lawful = lawful;
-    fresh = fresh-is (1 ∷ 1 ∷ 1 ∷ 1 ∷ []);
+    fresh = zero-is (1 ∷ 1 ∷ 1 ∷ 1 ∷ []);
     table = refl;
     order = 0 ∷ 1 ∷ 2 ∷ 3 ∷ 0 ∷ 1 ∷ 1 ∷ 2 ∷ 2 ∷ [];
     core-in-line = 3;

@@ -16,7 +16,7 @@ use Rattle.protocol.specs.Variables.{Variable, local, writesIt, readsIt,
 use Rattle.protocol.specs.Laws.{Laws}
 use Rattle.protocol.specs.Interleaving.{Interleaved}
 use Rattle.protocol.proofs.Runs.{temperature, flow, variables, answer, task, start}
-use Rattle.protocol.proofs.Instance.{KeepsLength, obeys, fresh-is}
+use Rattle.protocol.proofs.Instance.{KeepsLength, obeys, zero-is}
 use Rattle.protocol.proofs.Interleaving.{interleaved}
 
 -- ---- the instruction
@@ -87,4 +87,4 @@ accepted = record {
 
 pub all-lists : (ks : List ℕ) → Interleaved task variables start ks
 unfolding task start
-all-lists ks = interleaved task variables start refl refl lawful (fresh-is (8 ∷ 4 ∷ [])) accepted ks
+all-lists ks = interleaved task variables start refl refl lawful (zero-is (8 ∷ 4 ∷ [])) accepted ks

@@ -15,7 +15,7 @@ use Rattle.protocol.specs.Registers.{advanced, called, returned, cycleEn
 use Rattle.protocol.specs.State.{Core, Task, absent, mode}
 use Rattle.protocol.specs.Instruction.{Executed, backFrom, appliedBy, applied, halted, limited, instructionBy}
 use Rattle.protocol.specs.Laws.{Laws, Fresh}
-use Rattle.protocol.specs.Fresh.{freshCore, fresh}
+use Rattle.protocol.specs.Fresh.{freshCore, fresh, zeros, freshZero}
 
 -- ---- the one duty of an instruction
 
@@ -89,10 +89,14 @@ obeys t execute h e = rw e record {
 
 -- ---- the fresh state
 
-between : (sizes : List ℕ) (k : ℕ) → (mode (getD (map freshCore sizes) k absent) ≡ 0) ⊎ (mode (getD (map freshCore sizes) k absent) ≡ 5)
+between : (memories : List (List ℕ)) (k : ℕ) → (mode (getD (map freshCore memories) k absent) ≡ 0) ⊎ (mode (getD (map freshCore memories) k absent) ≡ 5)
 between [] k = inr refl
-between (n ∷ ns) zero = inl refl
-between (n ∷ ns) (suc k) = between ns k
+between (m ∷ ms) zero = inl refl
+between (m ∷ ms) (suc k) = between ms k
 
-pub fresh-is : (sizes : List ℕ) → Fresh (fresh sizes)
-fresh-is sizes = record { free = refl; between = between sizes; empty = refl }
+-- whatever its memories hold
+pub fresh-is : (memories : List (List ℕ)) (shared : List ℕ) → Fresh (fresh memories shared)
+fresh-is memories shared = record { free = refl; between = between memories; empty = refl }
+
+pub zero-is : (sizes : List ℕ) → Fresh (freshZero sizes)
+zero-is sizes = fresh-is (map zeros sizes) (zeros 1024)

@@ -18,7 +18,8 @@ use Rattle.protocol.proofs.Whole.{as-whole, between-still}
 use Rattle.protocol.proofs.Pairing.{byteOf, as-published}
 use Rattle.protocol.proofs.Bytes.{sound, moves-in}
 
-value-eq : (n : ℕ) (l l′ : List ℕ) (i j : ℕ) → ((m : ℕ) → m < n → getD l (i + m) 0 ≡ getD l′ (j + m) 0) → value l i n ≡ value l′ j n
+-- bytes alike are values alike
+pub value-eq : (n : ℕ) (l l′ : List ℕ) (i j : ℕ) → ((m : ℕ) → m < n → getD l (i + m) 0 ≡ getD l′ (j + m) 0) → value l i n ≡ value l′ j n
 value-eq zero l l′ i j h = refl
 value-eq (suc n) l l′ i j h =
     let x : getD l i 0 ≡ getD l′ j 0 = rw (add-zero i, add-zero j) at (h 0 (omega arith)) in

@@ -21,7 +21,7 @@ use Rattle.protocol.specs.Instruction.{Executed, applied, halted, limite
 use Rattle.protocol.specs.Variables.{Variable, writesIt, readsIt, readsOf, writesOf, value}
 use Rattle.protocol.specs.History.{latest, Finished, brought}
 use Rattle.protocol.specs.Laws.{Between}
-use Rattle.protocol.specs.Fresh.{fresh}
+use Rattle.protocol.specs.Fresh.{freshZero}
 
 -- ---- the task set
 
@@ -52,7 +52,7 @@ unfoldable pub task : Task
 task = record { samples = samples; reads = readsOf variables; writes = writesOf variables; limit = λ k. 9; instruction = instructionBy (λ k. 9) answer }
 
 unfoldable pub start : State
-start = fresh (8 ∷ 4 ∷ [])
+start = freshZero (8 ∷ 4 ∷ [])
 
 -- ---- lists of steps
 
