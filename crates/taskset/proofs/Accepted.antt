@@ -1,22 +1,22 @@
 -- What a machine rests on once a file is accepted. In order: tables of numbered items; each core's data and code, the layout; the fresh state and the
 -- variables as crate `protocol` asks for them. Assumes nothing.
 use mathlib.Core.Path.{_≡_, refl, sym, ap, _∙_, subst}
-use mathlib.Core.List.{List, _∷_, map}
+use mathlib.Core.List.{List, [], _∷_, map}
 use mathlib.Core.Logic.{inl, inr}
 use Prim.Native.Nat.{ℕ, zero, suc, _+_, _≤_, _<_}
 use native.Mathlib.Nat.{add-zero, zero-add, suc-add, add-suc}
 use native.Mathlib.Omega.{arith}
 use borrow.Author.Tests.{lt-ltb, ne-eqb}
 use lib.Dec.{T}
-use lib.ListN.{length, getD, length-replicate}
+use lib.ListN.{length, getD, set, length-replicate, length-set}
 use Rattle.verdict.specs.Verdict.{pick}
 use Rattle.verdict.proofs.Verdict.{pick-true}
-use Rattle.memory.specs.Memory.{word, start}
-use Rattle.memory.proofs.Laws.{length-part}
+use Rattle.memory.specs.Memory.{byte, word, part, start}
+use Rattle.memory.proofs.Laws.{length-part, length-splice}
 use Rattle.protocol.specs.State.{Core, absent, core}
 use Rattle.protocol.specs.Variables.{Variable, local, readsIt, writesIt, In, Pairwise, Accepted}
 use Rattle.protocol.specs.Laws.{Fresh}
-use Rattle.protocol.specs.Fresh.{freshCore}
+use Rattle.protocol.specs.Fresh.{freshCore, zeros}
 use Rattle.protocol.proofs.Instance.{fresh-is}
 use Rattle.code.specs.declared.Profile.the-variants.{Full}
 use Rattle.code.specs.Code.{judgeCode}
@@ -25,10 +25,11 @@ use Rattle.records.specs.File.{cores, dataSize, variables, recordPlace, variabl
 use Rattle.records.specs.Records.{named}
 use Rattle.records.specs.Rules.{CoreRules, VariableRules}
 use Rattle.verdict.proofs.Truth.{either-left}
-use Rattle.taskset.specs.Judge.{codePlace, codeOf, judge}
+use Rattle.taskset.specs.Judge.{codePlace, codeOf, startPlace, judge}
 use Rattle.taskset.specs.Layout.{basePlace, coreAt, coreLayout, layoutOf, noLayout, loadFor, loadOf}
 use Rattle.taskset.specs.Rules.{WellFormed}
 use Rattle.taskset.specs.Task.{listed, sizesOf, variablesOf}
+use Rattle.taskset.specs.Starts.{startCount, withPairs, startData, writerOf, withWritten, startShared, startsOf}
 use Rattle.taskset.specs.Fresh.{freshOf}
 use Rattle.taskset.proofs.Exact.{keeps-rules, code-inside, records-inside}
 
@@ -49,7 +50,7 @@ listed-from g (suc n) i (suc k) d h = listed-from g n (suc i) k d (omega arith) 
 pub listed-at : {A : Type 0} (g : ℕ → A) (n k : ℕ) (d : A) → k < n → getD (listed g n 0) k d ≡ g k
 listed-at g n k d h = listed-from g n 0 k d h ∙ ap g (zero-add k)
 
-map-listed : {A B : Type 0} (h : A → B) (g : ℕ → A) (n i : ℕ) → map h (listed g n i) ≡ listed (λ k. h (g k)) n i
+pub map-listed : {A B : Type 0} (h : A → B) (g : ℕ → A) (n i : ℕ) → map h (listed g n i) ≡ listed (λ k. h (g k)) n i
 unfolding listed
 map-listed h g zero i = refl
 map-listed h g (suc n) i = ap (λ (l : List _). h (g i) ∷ l) (map-listed h g n (suc i))
@@ -144,22 +145,42 @@ record-in-file f z i h = omega (arith, records-inside f (keeps-rules f z .ends))
 
 -- the fresh state is one that every list of steps may start from
 pub fresh-of : (f : List ℕ) → Fresh (freshOf f)
-fresh-of f = fresh-is (sizesOf f)
+fresh-of f = fresh-is (startsOf f) (startShared f)
 
--- the fresh data of core k have its data size
+-- core k of it has its start values
+pub fresh-core : (f : List ℕ) (k : ℕ) → k < cores f → core (freshOf f .plant) k ≡ freshCore (startData f k)
+fresh-core f k h =
+    ap (λ (l : List Core). getD l k absent) (map-listed freshCore (startData f) (cores f) 0)
+    ∙ listed-at (λ i. freshCore (startData f i)) (cores f) k absent h
+
+-- its memories have their sizes
+length-pairs : (f : List ℕ) (q n : ℕ) (d : List ℕ) → length (withPairs f q n d) ≡ length d
+unfolding withPairs
+length-pairs f q zero d = refl
+length-pairs f q (suc n) d = length-pairs f (q + 3) n (set d (word f q) (byte f (q + 2))) ∙ length-set d (word f q) (byte f (q + 2))
+
+pub length-start : (f : List ℕ) (k : ℕ) → length (startData f k) ≡ dataSize f k
+unfolding startData
+length-start f k = length-pairs f (startPlace f k + 2) (startCount f k) (zeros (dataSize f k)) ∙ length-replicate {A = ℕ} (dataSize f k) 0
+
+length-written : (dataOf : ℕ → List ℕ) (vs : List Variable) (s : List ℕ) → length (withWritten dataOf vs s) ≡ length s
+unfolding withWritten
+length-written dataOf [] s = refl
+length-written dataOf (v ∷ vs) s = length-written dataOf vs _ ∙ length-splice s (v .place) (part (dataOf (writerOf v)) (local (writerOf v) v) (v .width))
+
+pub length-shared : (f : List ℕ) → length (startShared f) ≡ 1024
+unfolding startShared
+length-shared f = length-written (startData f) (variablesOf f) (zeros 1024) ∙ length-replicate {A = ℕ} 1024 0
+
 pub fresh-data : (f : List ℕ) (k : ℕ) → k < cores f → length (core (freshOf f .plant) k .memory) ≡ dataSize f k
-unfolding sizesOf
-fresh-data f k h =
-    ap (λ (l : List Core). length (getD l k absent .memory)) (map-listed freshCore (dataSize f) (cores f) 0)
-    ∙ ap (λ (c : Core). length (c .memory)) (listed-at (λ i. freshCore (dataSize f i)) (cores f) k absent h)
-    ∙ length-replicate {A = ℕ} (dataSize f k) 0
+fresh-data f k h = ap (λ (c : Core). length (c .memory)) (fresh-core f k h) ∙ length-start f k
 
 pub variables-accepted : (f : List ℕ) → judge f ≡ 0 → Accepted (variablesOf f) (freshOf f)
 unfolding variablesOf
 variables-accepted f z =
     record {
       one-writer = λ v m j k a b. let r = rules v m .writer in r .only j a ∙ sym (r .only k b);
-      fits-shared = λ v m. subst (λ (n : ℕ). v .place + v .width ≤ n) (sym (length-replicate {A = ℕ} 1024 0)) (rules v m .in-shared);
+      fits-shared = λ v m. subst (λ (n : ℕ). v .place + v .width ≤ n) (sym (length-shared f)) (rules v m .in-shared);
       fits-local = λ v m k t.
           let r = rules v m in
           let n : T (named k v) = either-left (readsIt k v) (writesIt k v) t in

@@ -1,53 +1,75 @@
 -- `accepted-exactly-for`: under each profile a file's number is 0 exactly if it keeps the rules of `specs/Rules`; `accepted-exactly` under the full one. In order: the mark; from acceptance to the rules;
 -- the sections of a file that keeps them lie in it; from the rules to acceptance. Assumes nothing.
-use mathlib.Core.Path.{_≡_, ap, _∙_}
-use mathlib.Core.Bool.{true}
+use mathlib.Core.Path.{_≡_, refl, sym, ap, _∙_, subst}
+use mathlib.Core.Bool.{Bool, true, false}
+use mathlib.Core.Logic.{inl, inr}
 use mathlib.Core.List.{List, [], _∷_}
-use Prim.Native.Nat.{ℕ, zero, suc, _+_, _-_, _≤_, _<_}
+use Prim.Native.Nat.{ℕ, zero, suc, _+_, _-_, _*_, _≤_, _<_}
 use native.Mathlib.Omega.{arith}
-use borrow.Author.Tests.{le-leb, leb-true, eq-eqb, eqb-true}
-use lib.Dec.{leb, eqb}
+use borrow.Author.Tests.{le-leb, leb-true, lt-ltb, ltb-true, eq-eqb, eqb-true, ne-eqb}
+use lib.Dec.{ltb, leb, eqb}
 use lib.ListN.{length, take}
-use Rattle.verdict.specs.Verdict.{within, unless, first}
-use Rattle.verdict.proofs.Verdict.{pick-false, yes, next-zero, next-none, unless-zero, pick-zero, both-true, inside, inside-true, first-zero, zero-first}
-use Rattle.memory.specs.Memory.{word, part}
+use Rattle.verdict.specs.Verdict.{either, within, unless, first}
+use Rattle.verdict.proofs.Verdict.{pick-false, yes, next-zero, next-none, unless-zero, pick-zero, both-true, either-true, inside, inside-true, first-zero, zero-first}
+use Rattle.memory.specs.Memory.{byte, word, part}
 use Rattle.code.specs.declared.Profile.{Profile}
 use Rattle.code.specs.declared.Profile.the-variants.{Full}
 use Rattle.code.specs.Code.{judgeCodeFor}
 use Rattle.code.proofs.Exact.{well-formed, accepted-code}
-use Rattle.records.specs.File.{cores, corePlace, countPlace, variables, recordPlace, variableAt}
+use Rattle.records.specs.File.{cores, corePlace, dataSize, countPlace, variables, recordPlace, variableAt}
 use Rattle.records.specs.Records.{present, coreRefusal, variableRefusal, overlap, pairRefusal, overlapRefusal}
 use Rattle.records.specs.Rules.{CoreRulesFor, VariableRules, Apart}
 use Rattle.records.proofs.Exact.{core-rules, core-ok, variable-rules, variable-ok, apart, overlap-not}
-use Rattle.taskset.specs.Judge.{isMark, headRefusal, variablesRefusal, codePlace, fileEnd, codeOf, codeRefusal, sectionRefusal, codesRefusal, judgeFor, judge}
-use Rattle.taskset.specs.Rules.{WellFormedFor, WellFormed}
+use Rattle.taskset.specs.Judge.{marked, isOld, isNew, isMark, headRefusal, variablesRefusal, codePlace, codeOf, codeRefusal, sectionRefusal, startSections, startPlace, pairPlace, startIn, leastIn, pairOk, startPairRefusal, pairsRefusal, startRefusal, fileEnd, startsRefusal, codesRefusal, judgeFor, judge}
+use Rattle.taskset.specs.Rules.{Mark, PairRules, WellFormedFor, WellFormed}
 
 -- ---- the mark
 
-pub mark-is : (f : List ℕ) → 4 ≤ length f → isMark f ≡ true → take 4 f ≡ 77 ∷ 67 ∷ 83 ∷ 49 ∷ []
-unfolding isMark
-mark-is [] h z = absurd (let y : ⊥ = omega arith in y)
-mark-is (a ∷ []) h z = absurd (let y : ⊥ = omega arith in y)
-mark-is (a ∷ b ∷ []) h z = absurd (let y : ⊥ = omega arith in y)
-mark-is (a ∷ b ∷ c ∷ []) h z = absurd (let y : ⊥ = omega arith in y)
-mark-is (a ∷ b ∷ c ∷ d ∷ f) h z =
-    let p = both-true (eqb a 77) _ z in
-    let q = both-true (eqb b 67) _ (p .1) in
-    let r = both-true (eqb c 83) _ (q .1) in
-    rw (eqb-true a 77 (p .0), eqb-true b 67 (q .0), eqb-true c 83 (r .0), eqb-true d 49 (r .1))
+module _ (m n o p : ℕ) where
+  pub marked-is : (f : List ℕ) → 4 ≤ length f → marked (m ∷ n ∷ o ∷ p ∷ []) f ≡ true → take 4 f ≡ m ∷ n ∷ o ∷ p ∷ []
+  unfolding marked
+  marked-is [] h z = absurd (let y : ⊥ = omega arith in y)
+  marked-is (a ∷ []) h z = absurd (let y : ⊥ = omega arith in y)
+  marked-is (a ∷ b ∷ []) h z = absurd (let y : ⊥ = omega arith in y)
+  marked-is (a ∷ b ∷ c ∷ []) h z = absurd (let y : ⊥ = omega arith in y)
+  marked-is (a ∷ b ∷ c ∷ d ∷ f) h z =
+      let x = both-true (eqb a m) _ z in
+      let y = both-true (eqb b n) _ (x .1) in
+      let w = both-true (eqb c o) _ (y .1) in
+      rw (eqb-true a m (x .0), eqb-true b n (y .0), eqb-true c o (w .0), eqb-true d p (w .1))
 
-pub is-mark : (f : List ℕ) → take 4 f ≡ 77 ∷ 67 ∷ 83 ∷ 49 ∷ [] → isMark f ≡ true
-unfolding isMark
-is-mark [] e = absurd (let y : _≡_ {A = ℕ} 0 1 = cc in let z : ⊥ = omega arith in z)
-is-mark (a ∷ []) e = absurd (let y : _≡_ {A = ℕ} 0 1 = cc in let z : ⊥ = omega arith in z)
-is-mark (a ∷ b ∷ []) e = absurd (let y : _≡_ {A = ℕ} 0 1 = cc in let z : ⊥ = omega arith in z)
-is-mark (a ∷ b ∷ c ∷ []) e = absurd (let y : _≡_ {A = ℕ} 0 1 = cc in let z : ⊥ = omega arith in z)
-is-mark (a ∷ b ∷ c ∷ d ∷ f) e =
-    let p : a ≡ 77 = cc in
-    let q : b ≡ 67 = cc in
-    let r : c ≡ 83 = cc in
-    let s : d ≡ 49 = cc in
-    rw (p, q, r, s)
+  pub is-marked : (f : List ℕ) → take 4 f ≡ m ∷ n ∷ o ∷ p ∷ [] → marked (m ∷ n ∷ o ∷ p ∷ []) f ≡ true
+  unfolding marked
+  is-marked [] e = absurd (let y : _≡_ {A = ℕ} 0 1 = cc in let z : ⊥ = omega arith in z)
+  is-marked (a ∷ []) e = absurd (let y : _≡_ {A = ℕ} 0 1 = cc in let z : ⊥ = omega arith in z)
+  is-marked (a ∷ b ∷ []) e = absurd (let y : _≡_ {A = ℕ} 0 1 = cc in let z : ⊥ = omega arith in z)
+  is-marked (a ∷ b ∷ c ∷ []) e = absurd (let y : _≡_ {A = ℕ} 0 1 = cc in let z : ⊥ = omega arith in z)
+  is-marked (a ∷ b ∷ c ∷ d ∷ f) e =
+      let x : a ≡ m = cc in
+      let y : b ≡ n = cc in
+      let z : c ≡ o = cc in
+      let w : d ≡ p = cc in
+      rw (eq-eqb a m x, eq-eqb b n y, eq-eqb c o z, eq-eqb d p w)
+
+pub mark-is : (f : List ℕ) → 4 ≤ length f → isMark f ≡ true → Mark f
+mark-is f h z = go (isOld f) refl
+  where
+    go : (b : Bool) → isOld f ≡ b → Mark f
+    go true e = inl (marked-is 77 67 83 49 f h e)
+    go false e = inr (marked-is 77 67 83 50 f h (ap (λ (b : Bool). either b (isNew f)) (sym e) ∙ z))
+
+pub is-mark : (f : List ℕ) → Mark f → isMark f ≡ true
+is-mark f (inl e) = rw (is-marked 77 67 83 49 f e)
+is-mark f (inr e) = rw (is-marked 77 67 83 50 f e, either-true (isOld f))
+
+-- no file has both
+pub old-not-new : (f : List ℕ) → isOld f ≡ true → isNew f ≡ false
+unfolding marked
+old-not-new f e =
+    let a = both-true (eqb (byte f 0) 77) _ e in
+    let b = both-true (eqb (byte f 1) 67) _ (a .1) in
+    let c = both-true (eqb (byte f 2) 83) _ (b .1) in
+    rw (a .0, b .0, c .0, ne-eqb (byte f 3) 50 (λ x. let n : ⊥ = omega (arith, eqb-true (byte f 3) 49 (c .1)) in n))
 
 -- ---- from acceptance to the rules
 
@@ -128,13 +150,35 @@ section o f p z =
 
 record Codes (o : Profile) (f : List ℕ) : Type 0 where
   sections : first (codeRefusal o f) (cores f - 0) 0 ≡ 0
+  starts : first (startRefusal f) (startSections f - 0) 0 ≡ 0
   ends : fileEnd f ≡ length f
 
 all-codes : (o : Profile) (f : List ℕ) → codesRefusal o f ≡ 0 → Codes o f
-unfolding codesRefusal
+unfolding codesRefusal startsRefusal
 all-codes o f z =
     let a = next-zero (first (codeRefusal o f) (cores f - 0) 0) _ z in
-    record { sections = a .0; ends = eqb-true _ _ (unless-zero _ 23 (a .1)) }
+    let b = next-zero (first (startRefusal f) (startSections f - 0) 0) _ (a .1) in
+    record { sections = a .0; starts = b .0; ends = eqb-true _ _ (unless-zero _ 23 (b .1)) }
+
+-- one start value, and the test of it
+
+pub pair-rules : (f : List ℕ) (size p i : ℕ) → pairOk f size p i ≡ true → PairRules f size p i
+unfolding pairOk leastIn
+pair-rules f size p i z =
+    let a = both-true (ltb (startIn f p i) size) _ z in
+    record { in-data = ltb-true _ _ (a .0); rising = λ j e. let h = leb-true (startIn f p j + 1) (startIn f p i) (subst (λ (n : ℕ). leb (leastIn f p n) (startIn f p i) ≡ true) e (a .1)) in omega (arith, h) }
+
+pub pair-ok : (f : List ℕ) (size p i : ℕ) → PairRules f size p i → pairOk f size p i ≡ true
+unfolding pairOk leastIn
+pair-ok f size p zero r = rw (lt-ltb _ _ (r .in-data)) (le-leb 0 (startIn f p 0) (omega arith))
+pair-ok f size p (suc i) r = rw (lt-ltb _ _ (r .in-data)) (le-leb (startIn f p i + 1) (startIn f p (suc i)) (omega (arith, r .rising i refl)))
+
+-- the start values after the count at p
+pairs-at : (f : List ℕ) (size p : ℕ) → pairsRefusal f size p ≡ 0 → (i : ℕ) → i < word f p → PairRules f size p i
+unfolding pairsRefusal startPairRefusal
+pairs-at f size p z i h =
+    let a = next-zero (present f (p + 2)) _ z in
+    pair-rules f size p i (unless-zero _ 30 (next-zero (present f (pairPlace p i + 3)) _ (every (startPairRefusal f size p) (word f p) (a .1) i h) .1))
 
 pub keeps-rules-for : (o : Profile) (f : List ℕ) → judgeFor o f ≡ 0 → WellFormedFor o f
 keeps-rules-for o f z =
@@ -149,6 +193,7 @@ keeps-rules-for o f z =
       some-code = λ k l. inside-true 1 8192 _ (at k l .size) .0;
       most-code = λ k l. inside-true 1 8192 _ (at k l .size) .1;
       code-rules = λ k l. well-formed o (codeOf f k) (at k l .judged);
+      start-rules = λ k l. pairs-at f (dataSize f k) (startPlace f k) (every (startRefusal f) (startSections f) (c .starts) k l);
       ends = c .ends;
     }
   where
@@ -173,7 +218,7 @@ keeps-rules-for o f z =
 pub keeps-rules : (f : List ℕ) → judge f ≡ 0 → WellFormed f
 keeps-rules f z = keeps-rules-for Full f z
 
--- ---- the sections of a file whose codes end where it ends lie in it
+-- ---- the sections of a file whose last one ends where it ends lie in it
 
 code-up : (f : List ℕ) (k d : ℕ) → codePlace f k ≤ codePlace f (k + d)
 unfolding codePlace
@@ -183,13 +228,35 @@ code-up f k (suc d) =
     let e : k + suc d ≡ suc (k + d) = omega arith in
     rw e (omega arith)
 
+start-up : (f : List ℕ) (k d : ℕ) → startPlace f k ≤ startPlace f (k + d)
+unfolding startPlace
+start-up f k zero = rw (let e : k + 0 ≡ k = omega arith in e) (omega arith)
+start-up f k (suc d) =
+    let ih = start-up f k d in
+    let e : k + suc d ≡ suc (k + d) = omega arith in
+    rw e (omega arith)
+
 module _ (f : List ℕ) (e : fileEnd f ≡ length f) where
+  -- the start values of core k begin in the file, and end in it
+  pub starts-begin : (k : ℕ) → k ≤ startSections f → startPlace f k ≤ length f
+  starts-begin k h =
+      let d : k + (startSections f - k) ≡ startSections f = omega arith in
+      let u : startPlace f k ≤ startPlace f (k + (startSections f - k)) = start-up f k (startSections f - k) in
+      let w : startPlace f (k + (startSections f - k)) ≡ length f = ap (startPlace f) d ∙ e in
+      omega arith
+
+  pub starts-inside : (k : ℕ) → k < startSections f → startPlace f k + 2 + 3 * word f (startPlace f k) ≤ length f
+  unfolding startPlace
+  starts-inside k h = starts-begin (suc k) h
+
   -- core k's code begins in the file, and ends in it
   pub code-starts : (k : ℕ) → k ≤ cores f → codePlace f k ≤ length f
+  unfolding startPlace
   code-starts k h =
       let d : k + (cores f - k) ≡ cores f = omega arith in
       let u : codePlace f k ≤ codePlace f (k + (cores f - k)) = code-up f k (cores f - k) in
-      let w : codePlace f (k + (cores f - k)) ≡ length f = ap (codePlace f) d ∙ e in
+      let w : codePlace f (k + (cores f - k)) ≡ codePlace f (cores f) = ap (codePlace f) d in
+      let l : codePlace f (cores f) ≤ length f = starts-begin 0 (omega arith) in
       omega arith
 
   pub code-inside : (k : ℕ) → k < cores f → codePlace f k + 2 + word f (codePlace f k) ≤ length f
@@ -238,6 +305,18 @@ module _ (o : Profile) (f : List ℕ) (w : WellFormedFor o f) where
       (none (overlapRefusal f) (variables f)
       (λ i h. zero-first (pairRefusal f i) (variables f - (i + 1)) (i + 1) (λ j a b. pair-none i j (omega arith) (omega arith))))))
 
+  starts-none : startsRefusal f ≡ 0
+  unfolding startsRefusal pairsRefusal startPairRefusal
+  starts-none =
+      next-none _ _
+      (none (startRefusal f) (startSections f)
+      (λ k h.
+      let l = starts-inside f (w .ends) k h in
+      next-none _ _ (here f (startPlace f k + 2) (omega (arith, l)))
+      (none (startPairRefusal f (dataSize f k) (startPlace f k)) (word f (startPlace f k))
+      (λ i m. next-none _ _ (here f (pairPlace (startPlace f k) i + 3) (omega (arith, l))) (yes _ 31 (pair-ok f (dataSize f k) (startPlace f k) i (w .start-rules k h i m)))))))
+      (yes _ 24 (eq-eqb _ _ (w .ends)))
+
   codes-none : codesRefusal o f ≡ 0
   unfolding codesRefusal sectionRefusal
   codes-none =
@@ -247,7 +326,7 @@ module _ (o : Profile) (f : List ℕ) (w : WellFormedFor o f) where
       next-none _ _ (here f (codePlace f k + 2) (omega (arith, code-inside f (w .ends) k h)))
       (next-none _ _ (yes _ 6 (inside 1 8192 (word f (codePlace f k)) (w .some-code k h) (w .most-code k h)))
       (next-none _ _ (here f (codePlace f k + 2 + word f (codePlace f k)) (code-inside f (w .ends) k h)) (accepted-code o (codeOf f k) (w .code-rules k h))))))
-      (yes _ 24 (eq-eqb _ _ (w .ends)))
+      starts-none
 
   pub accepts : judgeFor o f ≡ 0
   unfolding judgeFor

@@ -9,3 +9,4 @@ pub mod Sizes
 pub mod Narrowed
 pub mod Loading
 pub mod Blank
+pub mod Starts

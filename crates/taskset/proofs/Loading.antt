@@ -1,15 +1,25 @@
--- What loading answers, where the file is refused and where it is accepted, under any profile and under the full one. Assumes nothing.
-use mathlib.Core.Path.{_≡_, sym, ap, _∙_}
+-- What loading answers, where the file is refused and where it is accepted, under any profile and under the full one; core k of a layout. Assumes nothing.
+use mathlib.Core.Path.{_≡_, refl, sym, ap, _∙_}
 use mathlib.Core.List.{List}
-use Prim.Native.Nat.{ℕ}
+use Prim.Native.Nat.{ℕ, zero, suc, _<_}
+use native.Mathlib.Omega.{arith}
+use lib.ListN.{getD}
 use borrow.Author.Tests.{eq-eqb}
 use Rattle.verdict.proofs.Verdict.{pick-true}
 use Rattle.code.specs.declared.Profile.{Profile}
 use Rattle.code.specs.declared.Profile.the-variants.{Full}
 use Rattle.taskset.specs.declared.Loaded.{Loaded}
 use Rattle.taskset.specs.Judge.{judgeFor, judge}
-use Rattle.taskset.specs.Layout.{layoutOf, loadFor, loadOf}
+use Rattle.taskset.specs.Layout.{noCore, coreLayout, layoutOf, loadFor, loadOf}
 use Rattle.taskset.proofs.Narrowed.{any-is-full}
+
+-- core k of a layout
+pub core-of : (f : List ℕ) (k : ℕ) → k < 4 → getD (layoutOf f .core) k noCore ≡ coreLayout f k
+core-of f zero h = refl
+core-of f (suc zero) h = refl
+core-of f (suc (suc zero)) h = refl
+core-of f (suc (suc (suc zero))) h = refl
+core-of f (suc (suc (suc (suc k)))) h = absurd (omega arith)
 
 module _ (o : Profile) (f : List ℕ) (x : Loaded) (e : x ≡ loadFor o f) where
   pub file-judged-for : x .refusal ≡ judgeFor o f

@@ -152,6 +152,7 @@ small-accepted f z s = accepts Small f small
           code-rules = λ k h.
               let r = w .code-rules k h in
               record { instructions = r .instructions; carried = λ _. s .types k h; targets = r .targets; last = r .last };
+          start-rules = w .start-rules;
           ends = w .ends;
         }
 

@@ -1,6 +1,6 @@
 -- `judged-in-order-for`: the number of a file under a profile is that of the first rule that is broken, in the order of `specs/Items`; `judged-in-order` is
 -- that of the full profile. In order: one item's presence;
--- cores; variables; overlap; codes; the file. Assumes nothing.
+-- cores; variables; overlap; codes; start values; the file. Assumes nothing.
 use mathlib.Core.Path.{_≡_, refl}
 use mathlib.Core.Bool.{Bool, true, false}
 use mathlib.Core.Logic.{_⊎_, inl, inr}
@@ -19,13 +19,13 @@ use Rattle.code.specs.declared.Profile.{Profile}
 use Rattle.code.specs.declared.Profile.the-variants.{Full}
 use Rattle.code.specs.Rules.{codeItemsFor}
 use Rattle.code.proofs.Exact.{code-judged}
-use Rattle.records.specs.File.{cores, corePlace, countPlace, variables, recordPlace, variableAt}
+use Rattle.records.specs.File.{cores, corePlace, dataSize, countPlace, variables, recordPlace, variableAt}
 use Rattle.records.specs.Records.{present, coreOk, coreRefusal, variableOk, variableRefusal, overlap, pairRefusal, overlapRefusal}
 use Rattle.records.proofs.Exact.{core-rules, core-ok, variable-rules, variable-ok, overlap-not}
-use Rattle.taskset.specs.Judge.{isMark, headRefusal, variablesRefusal, codePlace, fileEnd, codeIn, codeRefusal, sectionRefusal, codesRefusal, judgeFor, judge}
+use Rattle.taskset.specs.Judge.{isMark, headRefusal, variablesRefusal, codePlace, codeIn, codeRefusal, sectionRefusal, startSections, startPlace, pairPlace, pairOk, startPairRefusal, pairsRefusal, startRefusal, fileEnd, startsRefusal, codesRefusal, judgeFor, judge}
 use Rattle.taskset.specs.Rules.{NoOverlap}
-use Rattle.taskset.specs.Items.{Present, coreItems, variableItems, lengthItems, fileItemsFor, fileItems}
-use Rattle.taskset.proofs.Exact.{mark-is, is-mark, pair-at, none}
+use Rattle.taskset.specs.Items.{Present, coreItems, variableItems, lengthItems, pairItems, startItems, fileItemsFor, fileItems}
+use Rattle.taskset.proofs.Exact.{mark-is, is-mark, pair-at, pair-rules, pair-ok, none}
 
 -- ---- presence
 
@@ -81,6 +81,16 @@ section o f p =
     (λ _. judges-both (judges-one 5 (within 1 8192 (word f p)) (inside-true 1 8192 (word f p)) (λ h. inside 1 8192 (word f p) (h .0) (h .1)))
     (λ _. judges-both (there f (p + 2 + word f p)) (λ _. judges-end (code-judged o (codeIn f p)))))
 
+-- ---- start values
+
+pairs : (f : List ℕ) (size p : ℕ) → Judges (startItems f size p) (pairsRefusal f size p)
+unfolding pairsRefusal startPairRefusal
+pairs f size p =
+    judges-both (there f (p + 2))
+    (λ _. judges-end
+    (all (pairItems f size p) (startPairRefusal f size p) (word f p)
+    (λ i. judges-both (there f (pairPlace p i + 3)) (λ _. judges-one 30 (pairOk f size p i) (pair-rules f size p i) (pair-ok f size p i)))))
+
 -- ---- the file
 
 -- the judgement, item by item
@@ -92,8 +102,9 @@ flat : (o : Profile) (f : List ℕ)
     (next (first (variableRefusal f) (variables f - 0) 0)
     (next (first (overlapRefusal f) (variables f - 0) 0)
     (next (first (codeRefusal o f) (cores f - 0) 0)
-    (unless (eqb (fileEnd f) (length f)) 24)))))))
-unfolding judgeFor headRefusal variablesRefusal codesRefusal
+    (next (first (startRefusal f) (startSections f - 0) 0)
+    (unless (eqb (fileEnd f) (length f)) 24))))))))
+unfolding judgeFor headRefusal variablesRefusal codesRefusal startsRefusal
 flat o f = simp next-both
 
 pub in-order : (o : Profile) (f : List ℕ) → Judges (fileItemsFor o f) (judgeFor o f)
@@ -107,7 +118,8 @@ in-order o f =
     (λ _. judges-both (all (variableItems f) (variableRefusal f) (variables f) (variable f))
     (λ _. judges-both (overlaps f)
     (λ _. judges-both (all _ (codeRefusal o f) (cores f) (λ k. section o f (codePlace f k)))
-    (λ _. judges-end (judges-one 23 (eqb (fileEnd f) (length f)) (eqb-true _ _) (eq-eqb _ _))))))))))
+    (λ _. judges-both (all _ (startRefusal f) (startSections f) (λ k. pairs f (dataSize f k) (startPlace f k)))
+    (λ _. judges-end (judges-one 23 (eqb (fileEnd f) (length f)) (eqb-true _ _) (eq-eqb _ _)))))))))))
 
 pub judged-in-order-for : (o : Profile) (f : List ℕ) → First (fileItemsFor o f) (judgeFor o f)
 judged-in-order-for o f = judged (in-order o f)

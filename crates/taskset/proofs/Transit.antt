@@ -21,7 +21,7 @@ use Rattle.code.specs.Code.{judgeCodeFor}
 use Rattle.protocol.specs.Variables.{Variable, local}
 use Rattle.records.specs.File.{cores, corePlace, dataSize, inputSize, countPlace, variables, recordPlace, variableAt}
 use Rattle.records.specs.Records.{present, coreOk, coreRefusal, placeOk, partOk, partsOk, variableOk, variableRefusal, overlap, pairRefusal, overlapRefusal}
-use Rattle.taskset.specs.Judge.{isMark, headRefusal, variablesRefusal, codePlace, fileEnd, codeRefusal, sectionRefusal, codesRefusal, judgeFor, judge}
+use Rattle.taskset.specs.Judge.{oldMark, newMark, marked, isNew, isMark, headRefusal, variablesRefusal, codePlace, codeRefusal, sectionRefusal, startSections, startPlace, pairPlace, leastIn, pairOk, startPairRefusal, pairsRefusal, startRefusal, fileEnd, startsRefusal, codesRefusal, judgeFor, judge}
 use Rattle.taskset.specs.Transit.{InTransitFor, InTransit}
 use Rattle.taskset.proofs.Laws.{records-present}
 
@@ -77,10 +77,10 @@ same-from g h (suc k) i e = rw (e i (omega arith) (omega arith), same-from g h k
 -- ---- all items of a file but the last
 
 unfoldable items : Profile → List ℕ → ℕ
-items o f = next (headRefusal o f) (next (variablesRefusal f) (first (codeRefusal o f) (cores f - 0) 0))
+items o f = next (headRefusal o f) (next (variablesRefusal f) (next (first (codeRefusal o f) (cores f - 0) 0) (first (startRefusal f) (startSections f - 0) 0)))
 
 items-last : (o : Profile) (f : List ℕ) → judgeFor o f ≡ next (items o f) (unless (eqb (fileEnd f) (length f)) 24)
-unfolding judgeFor codesRefusal items
+unfolding judgeFor codesRefusal startsRefusal items
 items-last o f = simp next-both
 
 -- ---- bytes of g stand in g ++ b
@@ -113,9 +113,12 @@ module _ (o : Profile) (g b : List ℕ) where
 
   -- ---- the mark and the cores
 
+  marked-same : (m : List ℕ) → 4 ≤ length g → marked m (g ++ b) ≡ marked m g
+  unfolding marked
+  marked-same m h = rw (byte-same 0 (omega arith), byte-same 1 (omega arith), byte-same 2 (omega arith), byte-same 3 (omega arith))
+
   mark-same : 4 ≤ length g → isMark (g ++ b) ≡ isMark g
-  unfolding isMark
-  mark-same h = rw (byte-same 0 (omega arith), byte-same 1 (omega arith), byte-same 2 (omega arith), byte-same 3 (omega arith))
+  mark-same h = rw (marked-same oldMark h, marked-same newMark h)
 
   cores-same : 5 ≤ length g → cores (g ++ b) ≡ cores g
   cores-same h = byte-same 4 (omega arith)
@@ -203,16 +206,16 @@ module _ (o : Profile) (g b : List ℕ) where
         let l : recordPlace g i + 12 ≤ length g = leb-true _ _ (unless-zero _ 0 (next-zero (present g (recordPlace g i + 12)) _ z .0)) in
         omega arith
 
-    pair-same : (i j : ℕ) → recordPlace g i + 12 ≤ length g → recordPlace g j + 12 ≤ length g → pairRefusal g i j ≡ pairRefusal (g ++ b) i j
+    overlap-same : (i j : ℕ) → recordPlace g i + 12 ≤ length g → recordPlace g j + 12 ≤ length g → pairRefusal g i j ≡ pairRefusal (g ++ b) i j
     unfolding pairRefusal
-    pair-same i j l m = ap (λ (v : Variable). pick (overlap v (variableAt g j)) 5 0) (sym (variable-same i l)) ∙ ap (λ (v : Variable). pick (overlap (variableAt (g ++ b) i) v) 5 0) (sym (variable-same j m))
+    overlap-same i j l m = ap (λ (v : Variable). pick (overlap v (variableAt g j)) 5 0) (sym (variable-same i l)) ∙ ap (λ (v : Variable). pick (overlap (variableAt (g ++ b) i) v) 5 0) (sym (variable-same j m))
 
     overlaps-same : variables (g ++ b) ≡ variables g → recordPlace g (variables g) ≤ length g
         → first (overlapRefusal g) (variables g - 0) 0 ≡ first (overlapRefusal (g ++ b)) (variables g - 0) 0
     unfolding overlapRefusal
     overlaps-same e r =
         same-from _ _ (variables g - 0) 0
-        (λ i _ l. same-from _ _ (variables g - (i + 1)) (i + 1) (λ j m n. pair-same i j (omega arith) (omega arith))
+        (λ i _ l. same-from _ _ (variables g - (i + 1)) (i + 1) (λ j m n. overlap-same i j (omega arith) (omega arith))
         ∙ ap (λ (n : ℕ). first (pairRefusal (g ++ b) i) (n - (i + 1)) (i + 1)) (sym e))
 
     kept-variables : Kept (variablesRefusal g) (variablesRefusal (g ++ b))
@@ -276,7 +279,78 @@ module _ (o : Profile) (g b : List ℕ) where
   kept-code : (k : ℕ) → Place k → Kept (codeRefusal o g k) (codeRefusal o (g ++ b) k)
   kept-code k p = rw (p .same) (kept-section (codePlace g k))
 
+  -- ---- the start values
+
+  pair-same : (size p i : ℕ) → pairPlace p i + 3 ≤ length g → pairOk (g ++ b) size p i ≡ pairOk g size p i
+  unfolding pairOk leastIn
+  pair-same size p zero l = rw (word-same (pairPlace p 0) (omega arith))
+  pair-same size p (suc i) l = rw (word-same (pairPlace p i) (omega arith), word-same (pairPlace p (suc i)) (omega arith))
+
+  kept-pair : (size p i : ℕ) → Kept (startPairRefusal g size p i) (startPairRefusal (g ++ b) size p i)
+  unfolding startPairRefusal
+  kept-pair size p i = kept-item (pairPlace p i + 3) (λ l. alike (ap (λ (t : Bool). unless t 31) (sym (pair-same size p i l))))
+
+  pair-ends : (size p i : ℕ) → startPairRefusal g size p i ≡ 0 → pairPlace p (i + 1) ≤ length g
+  unfolding startPairRefusal
+  pair-ends size p i z =
+      let l : pairPlace p i + 3 ≤ length g = leb-true _ _ (unless-zero _ 0 (next-zero (present g (pairPlace p i + 3)) _ z .0)) in
+      omega arith
+
+  kept-pairs : (size p : ℕ) → Kept (pairsRefusal g size p) (pairsRefusal (g ++ b) size p)
+  unfolding pairsRefusal
+  kept-pairs size p =
+      kept-item (p + 2)
+      (λ l. rw (word-same p l)
+      (kept-each (startPairRefusal g size p) (startPairRefusal (g ++ b) size p) (λ i. pairPlace p i ≤ length g) (word g p)
+      (λ i m q. kept-pair size p i) (λ i m q z. pair-ends size p i z) (omega arith)))
+
+  pairs-end : (size p : ℕ) → pairsRefusal g size p ≡ 0 → p + 2 + 3 * word g p ≤ length g
+  unfolding pairsRefusal
+  pairs-end size p z =
+      let a = next-zero (present g (p + 2)) _ z in
+      let l : p + 2 ≤ length g = leb-true _ _ (unless-zero _ 0 (a .0)) in
+      carried (startPairRefusal g size p) (startPairRefusal g size p) (λ i. pairPlace p i ≤ length g) (word g p)
+      (λ i m q. alike refl) (λ i m q y. pair-ends size p i y) (omega arith) (a .1)
+
+  -- where the start values of core k are told to begin in both
+  record Begins (k : ℕ) : Type 0 where
+    same : startPlace (g ++ b) k ≡ startPlace g k
+    inside : startPlace g k ≤ length g
+
+  begins-none : countPlace g ≤ length g → Place (cores g) → Begins 0
+  unfolding startPlace
+  begins-none h p = record { same = ap (codePlace (g ++ b)) (same-cores h) ∙ p .same; inside = p .inside }
+
+  begins-more : (k : ℕ) → Begins k → startRefusal g k ≡ 0 → Begins (k + 1)
+  unfolding startPlace
+  begins-more k p z =
+      let l : startPlace g k + 2 + 3 * word g (startPlace g k) ≤ length g = pairs-end (dataSize g k) (startPlace g k) z in
+      rw (add-one k)
+      (record { same = rw (p .same, word-same (startPlace g k) (omega arith)); inside = l })
+
+  kept-start : (k : ℕ) → corePlace k + 2 ≤ length g → Begins k → Kept (startRefusal g k) (startRefusal (g ++ b) k)
+  kept-start k h p = rw (p .same, word-same (corePlace k) h) (kept-pairs (dataSize g k) (startPlace g k))
+
+  sections-same : countPlace g ≤ length g → startSections (g ++ b) ≡ startSections g
+  sections-same h = rw (marked-same newMark (omega arith), same-cores h)
+
+  few-sections : startSections g ≤ cores g
+  unfolding pick
+  few-sections = go (isNew g)
+    where
+      go : (t : Bool) → pick t (cores g) 0 ≤ cores g
+      go true = omega arith
+      go false = omega arith
+
+  kept-starts : countPlace g ≤ length g → Begins 0
+      → Kept (first (startRefusal g) (startSections g - 0) 0) (first (startRefusal (g ++ b)) (startSections g - 0) 0)
+  kept-starts h p =
+      kept-each (startRefusal g) (startRefusal (g ++ b)) Begins (startSections g) (λ k l q. kept-start k (omega (arith, few-sections)) q) (λ k l q z. begins-more k q z) p
+
   -- ---- the whole file: all items but the last, and where they end
+
+  codes-end : (r : recordPlace g (variables g) ≤ length g) → first (codeRefusal o g) (cores g - 0) 0 ≡ 0 → Place (cores g)
+  codes-end r z = carried (codeRefusal o g) (codeRefusal o g) Place (cores g) (λ k l p. alike refl) (λ k l p y. place-more k p y) (place-none r) z
 
   kept-all : Kept (items o g) (items o (g ++ b))
   unfolding items
@@ -285,8 +359,10 @@ module _ (o : Profile) (g b : List ℕ) where
       (λ z. let c = head-ends z in
       kept-next _ _ (kept-variables c)
       (λ y. let r = variables-end c y in
-      rw (same-cores c)
-      (kept-each (codeRefusal o g) (codeRefusal o (g ++ b)) Place (cores g) (λ k l p. kept-code k p) (λ k l p z. place-more k p z) (place-none r))))
+      rw (sections-same c, same-cores c)
+      (kept-next _ _
+      (kept-each (codeRefusal o g) (codeRefusal o (g ++ b)) Place (cores g) (λ k l p. kept-code k p) (λ k l p z. place-more k p z) (place-none r))
+      (λ x. kept-starts c (begins-none c (codes-end r x))))))
 
   ends-alike : items o g ≡ 0 → (fileEnd (g ++ b) ≡ fileEnd g) × (fileEnd g ≤ length g)
   unfolding items
@@ -294,10 +370,11 @@ module _ (o : Profile) (g b : List ℕ) where
       let a = next-zero (headRefusal o g) _ z in
       let d = next-zero (variablesRefusal g) _ (a .1) in
       let c = head-ends (a .0) in
-      let at : Place (cores g) =
-      carried (codeRefusal o g) (codeRefusal o g) Place (cores g) (λ k l p. alike refl) (λ k l p y. place-more k p y) (place-none (variables-end c (d .0))) (d .1)
+      let e = next-zero (first (codeRefusal o g) (cores g - 0) 0) _ (d .1) in
+      let at : Begins (startSections g) =
+      carried (startRefusal g) (startRefusal g) Begins (startSections g) (λ k l p. alike refl) (λ k l p y. begins-more k p y) (begins-none c (codes-end (variables-end c (d .0)) (e .0))) (e .1)
       in
-      (ap (codePlace (g ++ b)) (same-cores c) ∙ at .same, at .inside)
+      (ap (startPlace (g ++ b)) (sections-same c) ∙ at .same, at .inside)
 
   -- ---- the two laws
 

@@ -1,6 +1,7 @@
 -- Document 01: "The file is judged front to back: presence of each item (1), then the item; an item is the mark, a count or length, a core's
 -- three numbers, a variable's record or a core's code. Overlap follows the last variable; targets follow that core's instructions; leftover
--- bytes come last." Document 02, 2.2: they are 24, and 1 is a file cut short. A line below is an item with its rules and their numbers, in that order; the rules are those of `Rules`, and of the same
+-- bytes come last." Document 02, 2.2: they are 24, and 1 is a file cut short; 2.12: a start value is
+-- tested with its pair ahead of them (31). A line below is an item with its rules and their numbers, in that order; the rules are those of `Rules`, and of the same
 -- files of the crates `records` and `code`. Not here: how a loader computes the number (`Judge`).
 use Prim.Native.Nat.{ℕ, _+_, _≤_}
 use mathlib.Core.Path.{_≡_}
@@ -11,10 +12,10 @@ use Rattle.memory.specs.Memory.{word}
 use Rattle.code.specs.declared.Profile.{Profile}
 use Rattle.code.specs.declared.Profile.the-variants.{Full}
 use Rattle.code.specs.Rules.{codeItemsFor}
-use Rattle.records.specs.File.{cores, corePlace, countPlace, variables, recordPlace, variableAt}
+use Rattle.records.specs.File.{cores, corePlace, dataSize, countPlace, variables, recordPlace, variableAt}
 use Rattle.records.specs.Rules.{CoreRulesFor, VariableRules}
-use Rattle.taskset.specs.Judge.{codePlace, fileEnd, codeOf}
-use Rattle.taskset.specs.Rules.{Mark, NoOverlap}
+use Rattle.taskset.specs.Judge.{codePlace, codeOf, startSections, startPlace, pairPlace, fileEnd}
+use Rattle.taskset.specs.Rules.{Mark, NoOverlap, PairRules}
 
 -- the file has n bytes at least
 abbrev pub Present : List ℕ → ℕ → Type 0
@@ -30,6 +31,13 @@ variableItems f i = item 1 (Present f (recordPlace f i + 12)) ∷ item 4 (Variab
 abbrev pub lengthItems : List ℕ → ℕ → List Item
 lengthItems f p = item 1 (Present f (p + 2)) ∷ item 6 (From 1 8192 (word f p)) ∷ item 1 (Present f (p + 2 + word f p)) ∷ []
 
+-- the count of a core's start values; each of them
+abbrev pub pairItems : List ℕ → ℕ → ℕ → ℕ → List Item
+pairItems f size p i = item 1 (Present f (pairPlace p i + 3)) ∷ item 31 (PairRules f size p i) ∷ []
+
+abbrev pub startItems : List ℕ → ℕ → ℕ → List Item
+startItems f size p = inTurn ((item 1 (Present f (p + 2)) ∷ []) ∷ forEach (numbers (word f p) 0) (pairItems f size p) ∷ [])
+
 unfoldable pub fileItemsFor : Profile → List ℕ → List Item
 fileItemsFor profile f =
     inTurn
@@ -40,6 +48,7 @@ fileItemsFor profile f =
     ∷ forEach (numbers (variables f) 0) (variableItems f)
     ∷ (item 5 (NoOverlap f) ∷ [])  -- overlap follows the last variable
     ∷ forEach (numbers (cores f) 0) (λ k. inTurn (lengthItems f (codePlace f k) ∷ codeItemsFor profile (codeOf f k) ∷ []))
+    ∷ forEach (numbers (startSections f) 0) (λ k. startItems f (dataSize f k) (startPlace f k))  -- in a file of the new form
     ∷ (item 24 (fileEnd f ≡ length f) ∷ [])  -- leftover bytes come last
     ∷ [])
 

@@ -7,4 +7,5 @@ pub mod Profiles
 pub mod Task
 pub mod Transit
 pub mod Blank
+pub mod Starts
 pub mod Fresh

@@ -9,19 +9,24 @@ use Rattle.memory.specs.Memory.{word}
 use Rattle.code.specs.declared.Profile.{Profile}
 use Rattle.code.specs.declared.Profile.the-variants.{Full}
 use Rattle.code.specs.Rules.{WellFormedCodeFor}
-use Rattle.records.specs.File.{cores, inputSize, variables, variableAt}
+use Rattle.records.specs.File.{cores, dataSize, inputSize, variables, variableAt}
 use Rattle.records.specs.Rules.{CoreRulesFor, VariableRules, Apart}
-use Rattle.taskset.specs.Judge.{codePlace, fileEnd, codeOf}
+use Rattle.taskset.specs.Judge.{oldMark, newMark, codePlace, codeOf, startSections, startPlace, startIn, fileEnd}
 
 -- ---- the file. `ends` says that every section is there and that nothing follows: the places of the sections, by their counts, are those of `specs/Judge`.
 
--- 4D 43 53 31 hex
+-- 4D 43 53 31 hex, or in the new form (document 02, 2.12) 4D 43 53 32 hex
 abbrev pub Mark : List ℕ → Type 0
-Mark f = take 4 f ≡ 77 ∷ 67 ∷ 83 ∷ 49 ∷ []
+Mark f = (take 4 f ≡ oldMark) ⊎ (take 4 f ≡ newMark)
 
 -- "Two variables share no byte": each against each after it
 abbrev pub NoOverlap : List ℕ → Type 0
 NoOverlap f = (i j : ℕ) → i < j → j < variables f → Apart (variableAt f i) (variableAt f j)
+
+-- the start value number i after the count at p, in data of this size: "a start place beyond the data or not rising" breaks it
+pub record PairRules (f : List ℕ) (size p i : ℕ) : Type 0 where
+  pub in-data : startIn f p i < size
+  pub rising : (j : ℕ) → i ≡ suc j → startIn f p j < startIn f p i
 
 pub record WellFormedFor (profile : Profile) (f : List ℕ) : Type 0 where
   pub mark : Mark f
@@ -34,6 +39,7 @@ pub record WellFormedFor (profile : Profile) (f : List ℕ) : Type 0 where
   pub some-code : (k : ℕ) → k < cores f → 1 ≤ word f (codePlace f k)
   pub most-code : (k : ℕ) → k < cores f → word f (codePlace f k) ≤ 8192
   pub code-rules : (k : ℕ) → k < cores f → WellFormedCodeFor profile (codeOf f k)
+  pub start-rules : (k : ℕ) → k < startSections f → (i : ℕ) → i < word f (startPlace f k) → PairRules f (dataSize f k) (startPlace f k) i
   pub ends : fileEnd f ≡ length f
 
 abbrev pub WellFormed : List ℕ → Type 0

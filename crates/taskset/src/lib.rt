@@ -1,10 +1,10 @@
-// Document 01, "The task set file" and the trace: judged front to back (refusals 1..7, 24 and 22), and where everything stands in them.
+// Document 01, "The task set file" and the trace: judged front to back (refusals 1..7, 31, 24 and 22), and where everything stands in them.
 use code::Profile;
 ghost use mathlib.Core.Path.{_≡_};
 ghost use Prim.Native.Nat.{ℕ, _+_, _*_, _-_, _<_, _≤_};
 ghost use lib.ListN.{length};
 ghost use Rattle.records.specs.File.{cores, variables};
-ghost use Rattle.taskset.specs.Judge.{isMark, headRefusal, variablesRefusal, codePlace, sectionRefusal, codesRefusal, judgeFor, judge};
+ghost use Rattle.taskset.specs.Judge.{marked, isOld, isNew, isMark, headRefusal, variablesRefusal, codePlace, sectionRefusal, startSections, startPlace, pairsRefusal, startsRefusal, codesRefusal, judgeFor, judge};
 ghost use Rattle.taskset.specs.Layout.{basePlace, noCore, coreLayout, layoutOf, noLayout, loadFor, loadOf};
 ghost use Rattle.memory.specs.Memory.{total};
 ghost use Rattle.taskset.specs.Task.{sizesOf};
@@ -12,22 +12,52 @@ ghost use Rattle.taskset.specs.Trace.{blank, tracePlace, traceRefusal, c
 
 // ---- the refusal of a task set file
 
-const MARK: [u8; 4] = *b"MCS1";
+// The mark of a file of the old form, and that of the new form, which has start values after the code.
+pub const OLD_MARK: [u8; 4] = *b"MCS1";
+
+pub const NEW_MARK: [u8; 4] = *b"MCS2";
+
+// Whether a file begins with this mark.
+fn has_mark(f: &[u8], mark: &[u8; 4]) -> bool
+    requires { ⌜ 4 ≤ length (now f) ⌝ }
+    ensures { λ r. ⌜ r ≡ marked (now (mark .entry)) (now (f .entry)) ⌝ }
+{
+    if f[0] != mark[0] {
+        return false;
+    }
+    if f[1] != mark[1] {
+        return false;
+    }
+    if f[2] != mark[2] {
+        return false;
+    }
+    f[3] == mark[3]
+}
+
+pub fn is_old(f: &[u8]) -> bool
+    requires { ⌜ 4 ≤ length (now f) ⌝ }
+    ensures { λ r. ⌜ r ≡ isOld (now (f .entry)) ⌝ }
+{
+    let mark = OLD_MARK;
+    has_mark(f, &mark)
+}
+
+pub fn is_new(f: &[u8]) -> bool
+    requires { ⌜ 4 ≤ length (now f) ⌝ }
+    ensures { λ r. ⌜ r ≡ isNew (now (f .entry)) ⌝ }
+{
+    let mark = NEW_MARK;
+    has_mark(f, &mark)
+}
 
 fn is_mark(f: &[u8]) -> bool
     requires { ⌜ 4 ≤ length (now f) ⌝ }
     ensures { λ r. ⌜ r ≡ isMark (now (f .entry)) ⌝ }
 {
-    if f[0] != MARK[0] {
-        return false;
+    if is_old(f) {
+        return true;
     }
-    if f[1] != MARK[1] {
-        return false;
-    }
-    if f[2] != MARK[2] {
-        return false;
-    }
-    f[3] == MARK[3]
+    is_new(f)
 }
 
 // The mark, the number of cores and their records.
@@ -95,9 +125,71 @@ fn section_refusal(profile: Profile, f: &[u8], p: usize) -> u8
     code::judge_code_for(profile, &f[a..e])
 }
 
+// How many cores have start values in the file: all n, or none in a file of the old form.
+pub fn start_sections(f: &[u8], n: usize) -> usize
+    requires { ⌜ (4 ≤ length (now f)) × (n ≡ cores (now f)) ⌝ }
+    ensures { λ r. ⌜ (r ≡ startSections (now (f .entry))) × (r ≤ n) ⌝ }
+{
+    if is_new(f) {
+        return n;
+    }
+    0
+}
+
+// The count of start values at place p and its pairs, for data of this size.
+fn pairs_refusal(f: &[u8], size: usize, p: usize) -> u8
+    requires { ⌜ p < 2000000 ⌝ }
+    ensures { λ r. ⌜ r ≡ pairsRefusal (now (f .entry)) size p ⌝ }
+{
+    let first = p + 2;
+    if f.len() < first {
+        return 1;
+    }
+    let n = memory::word_at(f, p);
+    let mut least = 0;
+    let mut i = 0;
+    while i < n {
+        let at = first + 3 * i;
+        if f.len() < at + 3 {
+            return 1; // cut within the start values
+        }
+        let place = memory::word_at(f, at);
+        if size <= place {
+            return 31;
+        }
+        if place < least {
+            return 31; // not above the one before
+        }
+        least = place + 1;
+        i = i + 1;
+    }
+    0
+}
+
+// The start values of each of n cores, the first at place `from`, and what follows the last.
+fn starts_refusal(f: &[u8], n: usize, from: usize) -> u8
+    requires { ⌜ (n ≤ 4) × (n ≡ startSections (now f)) × (from ≡ startPlace (now f) 0) × (from < 400000) ⌝ }
+    ensures { λ r. ⌜ r ≡ startsRefusal (now (f .entry)) ⌝ }
+{
+    let mut p = from;
+    let mut k = 0;
+    while k < n {
+        let r = pairs_refusal(f, memory::word_at(f, 5 + 6 * k), p);
+        if r != 0 {
+            return r;
+        }
+        p = p + 2 + 3 * memory::word_at(f, p);
+        k = k + 1;
+    }
+    if p == f.len() {
+        return 0;
+    }
+    24 // bytes follow the last section
+}
+
 // The code of each of n cores, the first at place `from`, and what follows the last.
 fn codes_refusal(profile: Profile, f: &[u8], n: usize, from: usize) -> u8
-    requires { ⌜ (n ≤ 4) × (n ≡ cores (now f)) × (from ≡ codePlace (now f) 0) × (from < 9000) ⌝ }
+    requires { ⌜ (4 ≤ length (now f)) × (n ≤ 4) × (n ≡ cores (now f)) × (from ≡ codePlace (now f) 0) × (from < 9000) ⌝ }
     ensures { λ r. ⌜ r ≡ codesRefusal profile (now (f .entry)) ⌝ }
 {
     let mut p = from;
@@ -110,10 +202,7 @@ fn codes_refusal(profile: Profile, f: &[u8], n: usize, from: usize) -> u8
         p = p + 2 + memory::word_at(f, p);
         k = k + 1;
     }
-    if p == f.len() {
-        return 0;
-    }
-    24 // bytes follow the last section
+    starts_refusal(f, start_sections(f, n), p)
 }
 
 // The refusal number of a task set file under a profile, 0 where it is accepted.
@@ -190,8 +279,9 @@ fn base_place(f: &[u8], k: usize) -> usize
     b
 }
 
-fn code_place(f: &[u8], k: usize) -> usize
-    requires { ⌜ k < 4 ⌝ }
+// Where the length of core k's code stands; at the number of cores, where the code of the last one ends.
+pub fn code_place(f: &[u8], k: usize) -> usize
+    requires { ⌜ k ≤ 4 ⌝ }
     ensures { λ r. ⌜ (r ≡ codePlace (now (f .entry)) k) × (r < 400000) ⌝ }
 {
     let n = memory::byte_at(f, 4) as usize;

@@ -31,14 +31,6 @@ use Rattle.window.specs.Window.{shownOf, placeOf, placeIn, inside, windo
 
 -- ---- places
 
--- core k of a layout
-pub core-of : (f : List ℕ) (k : ℕ) → k < 4 → getD (layoutOf f .core) k noCore ≡ coreLayout f k
-core-of f zero h = refl
-core-of f (suc zero) h = refl
-core-of f (suc (suc zero)) h = refl
-core-of f (suc (suc (suc zero))) h = refl
-core-of f (suc (suc (suc (suc k)))) h = absurd (omega arith)
-
 -- the memory in which a stretch stands
 abbrev pub sourceOf : Shown → List ℕ → List ℕ → List ℕ
 sourceOf Code f d = f

@@ -1,14 +1,19 @@
--- `Sections`: what is left from core k on is what was asked, and its length stands at p.
+-- `Sections`: what is left from core k on is what was asked, and its length stands at p. The start values follow the last code.
 use Prim.Native.Nat.{_-_}
 use mathlib.Core.Path.{sym, ap, _∙_}
 use native.Mathlib.Omega.{arith}
 use borrow.Author.Needs.{needs}
-use borrow.Author.Tests.{eq-eqb, ne-eqb}
-use Rattle.verdict.proofs.Verdict.{skip, stop, yes, no, going-stop, going-end}
-use Rattle.taskset.specs.Judge.{sectionRefusal, codesRefusal}
+use Rattle.verdict.proofs.Verdict.{skip, stop, going-stop, going-end}
+use Rattle.taskset.specs.Judge.{codePlace, sectionRefusal, startPlace, codesRefusal}
 use Rattle.taskset.proofs.Laws.{Sections, sections-none, sections-more, sections-end}
 use Rattle.taskset.proofs.codes_refusal.Statement.{statement}
 use Rattle.taskset.proofs.codes_refusal.Tie as tie
+use Rattle.taskset.proofs.codes_refusal.Reads as reads
+use Rattle.taskset.proofs.codes_refusal.Lts as lts
+use Rattle.memory.proofs.word_at.Reads as word-at-reads
+use Rattle.taskset.proofs.section_refusal.Reads as section-refusal-reads
+use Rattle.taskset.proofs.start_sections.Reads as start-sections-reads
+use Rattle.taskset.proofs.starts_refusal.Reads as starts-refusal-reads
 
 abbrev Inv-loop : tie.InvT-loop
 Inv-loop profile f n from p₀ k₀ p k = Sections profile f n p k
@@ -17,28 +22,27 @@ abbrev μ-loop : tie.MeasureT-loop
 μ-loop profile f n from p₀ k₀ p k = n - k
 
 loop-holds : tie.Need-loop-holds Inv-loop μ-loop
-loop-holds c = sections-none _ _ _ _ (c .before .pre .2) (c .before .pre .3)
+loop-holds c = sections-none _ _ _ _ (c .before .pre .3) (c .before .pre .4)
 
 section-refusal-requires : tie.Need-section-refusal-requires Inv-loop μ-loop
-section-refusal-requires c κs = omega (arith, c .before .loop .inv .small, c .before .before .before .pre .0)
+section-refusal-requires c κs = omega (arith, c .before .loop .inv .small, c .before .before .before .pre .1)
 
 returns : tie.Need-returns Inv-loop μ-loop
 unfolding codesRefusal
-returns c = let r = c .before .before .before .loop .inv in
-    rw (sym (c .before .before .before .before .before .pre .1))
-    (stop _ (going-stop _ _ _ _ _ (r .going) (c .before .before .loop-test .taken) (c .before .section-refusal .ensures ∙ ap (sectionRefusal (c .before .before .before .before .before .args .profile) (c .before .before .before .before .before .args .f .now)) (r .here)) (c .if1 .taken)) (c .if1 .taken))
+returns c = rw (sym (c .before .before .before .before .before .pre .2))
+    (stop _ (going-stop _ _ _ _ _ (c .before .before .before .loop .inv .going) (c .before .before .loop-test .taken) (c .before .section-refusal .ensures ∙ ap (sectionRefusal (c .before .before .before .before .before .args .profile) (c .before .before .before .before .before .args .f .now)) (c .before .before .before .loop .inv .here)) (c .if1 .taken)) (c .if1 .taken))
 
 add-p : tie.Need-add-p Inv-loop μ-loop
-add-p c = omega (arith, c .before .before .before .loop .inv .small, c .before .before .before .before .before .pre .0)
+add-p c = omega (arith, c .before .before .before .loop .inv .small, c .before .before .before .before .before .pre .1)
 
 word-at-requires : tie.Need-word-at-requires Inv-loop μ-loop
 word-at-requires c κs = search needs
 
 add-p-2 : tie.Need-add-p-2 Inv-loop μ-loop
-add-p-2 c = omega (arith, c .before .before .before .before .loop .inv .small, c .before .before .before .before .before .before .pre .0, c .word-at .ensures .1)
+add-p-2 c = omega (arith, c .before .before .before .before .loop .inv .small, c .before .before .before .before .before .before .pre .1, c .word-at .ensures .1)
 
 add-k : tie.Need-add-k Inv-loop μ-loop
-add-k c = omega (arith, c .before .before .before .before .before .before .pre .0)
+add-k c = omega (arith, c .before .before .before .before .before .before .pre .1)
 
 loop-less : tie.Need-loop-less Inv-loop μ-loop
 loop-less c = omega arith
@@ -46,17 +50,17 @@ loop-less c = omega arith
 loop-again : tie.Need-loop-again Inv-loop μ-loop
 loop-again c = sections-more _ _ _ _ _ _ (c .before .before .before .before .loop .inv) (c .before .before .before .loop-test .taken) (sym (c .before .before .section-refusal .ensures) ∙ c .before .if1 .left) (c .word-at .ensures .0) (c .word-at .ensures .1)
 
+start-sections-requires : tie.Need-start-sections-requires Inv-loop μ-loop
+start-sections-requires c κs = (c .before .before .before .pre .0, c .before .before .before .pre .2)
+
+starts-refusal-requires : tie.Need-starts-refusal-requires Inv-loop μ-loop
+unfolding startPlace
+starts-refusal-requires c κs = (omega (arith, c .start-sections .ensures .1, c .before .before .before .before .pre .1), c .start-sections .ensures .0, sections-end _ _ _ _ _ (c .before .before .loop .inv) (c .before .loop-test .left) ∙ ap (codePlace (c .before .before .before .before .args .f .now)) (c .before .before .before .before .pre .2), omega (arith, c .before .before .loop .inv .small, c .before .before .loop .inv .upto, c .before .before .before .before .pre .1))
+
 returns-2 : tie.Need-returns-2 Inv-loop μ-loop
 unfolding codesRefusal
-returns-2 c = rw (sym (c .before .before .before .before .pre .1))
-    (skip (sym (going-end _ _ _ _ (c .before .before .loop .inv .going) (c .before .loop-test .left)))
-    (sym (yes _ _ (eq-eqb _ _ (sym (sections-end _ _ _ _ _ (c .before .before .loop .inv) (c .before .loop-test .left)) ∙ c .if2 .taken)))))
-
-returns-3 : tie.Need-returns-3 Inv-loop μ-loop
-unfolding codesRefusal
-returns-3 c = rw (sym (c .before .before .before .before .pre .1))
-    (skip (sym (going-end _ _ _ _ (c .before .before .loop .inv .going) (c .before .loop-test .left)))
-    (sym (no _ _ (ne-eqb _ _ (λ z. c .if2 .left (sections-end _ _ _ _ _ (c .before .before .loop .inv) (c .before .loop-test .left) ∙ z))))))
+returns-2 c = rw (sym (c .before .before .before .before .before .pre .2))
+    (skip (sym (going-end _ _ _ _ (c .before .before .before .loop .inv .going) (c .before .before .loop-test .left))) (c .starts-refusal .ensures))
 
 pub codes-refusal-spec : {M : Type 1} → statement M
 codes-refusal-spec =
@@ -73,5 +77,6 @@ codes-refusal-spec =
     add-k
     loop-less
     loop-again
-    returns-2
-    returns-3)
+    start-sections-requires
+    starts-refusal-requires
+    returns-2)

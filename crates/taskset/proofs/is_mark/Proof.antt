@@ -1,63 +1,24 @@
--- Byte by byte.
-use borrow.Author.Tests.{eq-eqb, ne-eqb}
-use Rattle.taskset.specs.Judge.{isMark}
+-- One of the two marks.
+use mathlib.Core.Path.{sym, _∙_}
 use borrow.Author.Needs.{needs}
 use Rattle.taskset.proofs.is_mark.Statement.{statement}
 use Rattle.taskset.proofs.is_mark.Tie as tie
+use Rattle.taskset.proofs.is_mark.Reads as reads
+use Rattle.taskset.proofs.is_mark.Lts as lts
+use Rattle.taskset.proofs.is_new.Reads as is-new-reads
+use Rattle.taskset.proofs.is_old.Reads as is-old-reads
 
-shared-slice-read-if1 : tie.Need-shared-slice-read-if1
-shared-slice-read-if1 c = search needs
-
-array-read-if1 : tie.Need-array-read-if1
-array-read-if1 c = search needs
+is-old-requires : tie.Need-is-old-requires
+is-old-requires c κs = search needs
 
 returns : tie.Need-returns
-unfolding isMark
-returns c = rw (ne-eqb _ _ (c .if1 .taken))
+returns c = rw (sym (c .before .is-old .ensures) ∙ c .if1 .taken)
 
-shared-slice-read-if2 : tie.Need-shared-slice-read-if2
-shared-slice-read-if2 c = search needs
-
-array-read-if2 : tie.Need-array-read-if2
-array-read-if2 c = search needs
+is-new-requires : tie.Need-is-new-requires
+is-new-requires c κs = search needs
 
 returns-2 : tie.Need-returns-2
-unfolding isMark
-returns-2 c = rw (eq-eqb _ _ (c .before .before .if1 .left), ne-eqb _ _ (c .if2 .taken))
-
-shared-slice-read-if3 : tie.Need-shared-slice-read-if3
-shared-slice-read-if3 c = search needs
-
-array-read-if3 : tie.Need-array-read-if3
-array-read-if3 c = search needs
-
-returns-3 : tie.Need-returns-3
-unfolding isMark
-returns-3 c = rw (eq-eqb _ _ (c .before .before .before .before .if1 .left), eq-eqb _ _ (c .before .before .if2 .left), ne-eqb _ _ (c .if3 .taken))
-
-shared-slice-read-result : tie.Need-shared-slice-read-result
-shared-slice-read-result c = search needs
-
-array-read-result : tie.Need-array-read-result
-array-read-result c = search needs
-
-returns-4 : tie.Need-returns-4
-unfolding isMark
-returns-4 c = rw (eq-eqb _ _ (c .before .before .before .before .before .if1 .left), eq-eqb _ _ (c .before .before .before .if2 .left), eq-eqb _ _ (c .before .if3 .left))
+returns-2 c = rw (sym (c .before .before .is-old .ensures) ∙ (c .before .if1 .left)) (c .is-new .ensures)
 
 pub is-mark-spec : {M : Type 1} → statement M
-is-mark-spec =
-    tie.close
-    (tie.spec
-    shared-slice-read-if1
-    array-read-if1
-    returns
-    shared-slice-read-if2
-    array-read-if2
-    returns-2
-    shared-slice-read-if3
-    array-read-if3
-    returns-3
-    shared-slice-read-result
-    array-read-result
-    returns-4)
+is-mark-spec = tie.close (tie.spec is-old-requires returns is-new-requires returns-2)

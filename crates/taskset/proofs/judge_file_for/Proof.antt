@@ -6,7 +6,7 @@ use lib.ListN.{getD}
 use Rattle.verdict.proofs.Verdict.{skip, stop}
 use Rattle.records.specs.File.{recordPlace}
 use Rattle.taskset.specs.Judge.{codePlace, judgeFor}
-use Rattle.taskset.proofs.Laws.{head-cores}
+use Rattle.taskset.proofs.Laws.{head-long, head-cores}
 use borrow.Author.Needs.{needs}
 use Rattle.taskset.proofs.judge_file_for.Statement.{statement}
 use Rattle.taskset.proofs.judge_file_for.Tie as tie
@@ -47,7 +47,7 @@ codes-refusal-requires : tie.Need-codes-refusal-requires
 unfolding codePlace
 codes-refusal-requires c κs = let f = c .before .before .before .before .before .before .before .before .args .f .now in
     let n = head-cores (c .before .before .before .before .before .before .before .before .args .profile) f (sym (c .before .before .before .before .before .before .head-refusal .ensures) ∙ c .before .before .before .before .before .if1 .left) in
-    (omega (arith, c .before .before .byte-at .ensures, n), c .before .before .byte-at .ensures, c .record-place .ensures .0 ∙ ap (recordPlace f) (c .before .byte-at2 .ensures ∙ ap (λ (k : ℕ). getD f (5 + 6 * k) 0) (c .before .before .byte-at .ensures)), omega (arith, c .record-place .ensures .1))
+    (head-long (c .before .before .before .before .before .before .before .before .args .profile) f (sym (c .before .before .before .before .before .before .head-refusal .ensures) ∙ c .before .before .before .before .before .if1 .left), omega (arith, c .before .before .byte-at .ensures, n), c .before .before .byte-at .ensures, c .record-place .ensures .0 ∙ ap (recordPlace f) (c .before .byte-at2 .ensures ∙ ap (λ (k : ℕ). getD f (5 + 6 * k) 0) (c .before .before .byte-at .ensures)), omega (arith, c .record-place .ensures .1))
 
 returns-3 : tie.Need-returns-3
 unfolding judgeFor

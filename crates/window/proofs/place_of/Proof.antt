@@ -5,7 +5,7 @@ use Rattle.taskset.specs.declared.Layout.{Layout}
 use Rattle.taskset.specs.declared.CoreLayout.{CoreLayout}
 use Rattle.taskset.specs.Layout.{noCore}
 use Rattle.window.specs.declared.Place.{Place}
-use Rattle.window.proofs.Laws.{core-of}
+use Rattle.taskset.proofs.Loading.{core-of}
 use borrow.Author.Needs.{needs}
 use Rattle.window.proofs.place_of.Statement.{statement}
 use Rattle.window.proofs.place_of.Tie as tie
