@@ -1,0 +1,68 @@
+-- Zeros, and in a file of the new form the start values over them. Assumes nothing.
+use mathlib.Core.Path.{sym, ap, _∙_}
+use native.Mathlib.Omega.{arith}
+use Rattle.protocol.specs.Fresh.{zeros}
+use Rattle.taskset.specs.Task.{variablesOf}
+use Rattle.taskset.specs.Starts.{startData, withWritten, startShared}
+use Rattle.taskset.proofs.Exact.{keeps-rules, records-inside}
+use Rattle.taskset.proofs.Starts.{old-shared}
+use Rattle.starts.proofs.Laws.{old-buffer}
+use borrow.Author.Needs.{needs}
+use Rattle.starts.proofs.fill.Statement.{statement}
+use Rattle.starts.proofs.fill.Tie as tie
+use Rattle.starts.proofs.fill.Reads as reads
+use Rattle.starts.proofs.fill.Lts as lts
+use Rattle.memory.proofs.zero.Reads as zero-reads
+use Rattle.starts.proofs.publish.Reads as publish-reads
+use Rattle.starts.proofs.write_data.Reads as write-data-reads
+use Rattle.taskset.proofs.is_new.Reads as is-new-reads
+
+zero-requires : tie.Need-zero-requires
+zero-requires c κs = search needs
+
+zero-requires-2 : tie.Need-zero-requires-2
+zero-requires-2 c κs = search needs
+
+is-new-requires : tie.Need-is-new-requires
+is-new-requires c κs = omega (arith, records-inside (c .before .before .before .before .before .before .before .before .before .before .before .args .f .now) (keeps-rules (c .before .before .before .before .before .before .before .before .before .before .before .args .f .now) (c .before .before .before .before .before .before .before .before .before .before .before .pre .0) .ends))
+
+write-data-requires : tie.Need-write-data-requires
+write-data-requires c κs = (c .before .before .before .before .before .before .before .before .before .before .before .before .before .before .pre .0, sym (c .before .before .is-new .ensures) ∙ c .before .if1 .taken, c .before .before .before .before .before .before .before .before .before .zero .ensures ∙ ap zeros (c .before .before .before .before .before .before .before .before .before .before .before .before .before .before .pre .2))
+
+publish-requires : tie.Need-publish-requires
+publish-requires c κs = search needs
+
+same-length : tie.Need-same-length
+same-length c = search needs
+
+same-length-2 : tie.Need-same-length-2
+same-length-2 c = search needs
+
+returns : tie.Need-returns
+unfolding startShared
+returns c = (c .before .before .before .before .before .before .before .write-data .ensures, c .before .before .publish .ensures ∙ ap (withWritten (startData (c .before .before .before .before .before .before .before .before .before .before .before .before .before .before .before .before .before .before .before .before .before .before .args .f .now)) (variablesOf (c .before .before .before .before .before .before .before .before .before .before .before .before .before .before .before .before .before .before .before .before .before .before .args .f .now))) (c .before .before .before .before .before .before .before .before .before .before .before .before .before .zero2 .ensures ∙ ap zeros (c .before .before .before .before .before .before .before .before .before .before .before .before .before .before .before .before .before .before .before .before .before .before .pre .3)))
+
+same-length-3 : tie.Need-same-length-3
+same-length-3 c = search needs
+
+same-length-4 : tie.Need-same-length-4
+same-length-4 c = search needs
+
+returns-2 : tie.Need-returns-2
+returns-2 c = (c .before .before .before .before .before .before .before .before .zero .ensures ∙ ap zeros (c .before .before .before .before .before .before .before .before .before .before .before .before .before .pre .2) ∙ sym (old-buffer (c .before .before .before .before .before .before .before .before .before .before .before .before .before .args .f .now) (sym (c .before .is-new .ensures) ∙ c .if1 .left)), c .before .before .before .before .zero2 .ensures ∙ ap zeros (c .before .before .before .before .before .before .before .before .before .before .before .before .before .pre .3) ∙ sym (old-shared (c .before .before .before .before .before .before .before .before .before .before .before .before .before .args .f .now) (sym (c .before .is-new .ensures) ∙ c .if1 .left)))
+
+pub fill-spec : {M : Type 1} → statement M
+fill-spec =
+    tie.close
+    (tie.spec
+    zero-requires
+    zero-requires-2
+    is-new-requires
+    write-data-requires
+    publish-requires
+    same-length
+    same-length-2
+    returns
+    same-length-3
+    same-length-4
+    returns-2)

@@ -1,0 +1,99 @@
+-- `Publishing`: the variables before number i are written, and those left make of shared memory what all make of it at entry. Assumes nothing.
+use Prim.Native.Nat.{_-_}
+use mathlib.Core.Path.{sym, ap, _∙_}
+use native.Mathlib.Omega.{arith}
+use lib.ListN.{length}
+use borrow.Author.Needs.{needs}
+use Rattle.taskset.specs.declared.Layout.{Layout}
+use Rattle.starts.proofs.Laws.{length-buffer, Publishing, publishing-none, record-there, shared-fits, buffer-fits, publishing-more, copied-as, publishing-done}
+use Rattle.starts.proofs.publish.Statement.{statement}
+use Rattle.starts.proofs.publish.Tie as tie
+use Rattle.starts.proofs.publish.Reads as reads
+use Rattle.starts.proofs.publish.Lts as lts
+use Rattle.memory.proofs.copy.Reads as copy-reads
+use Rattle.records.proofs.local_place.Reads as local-place-reads
+use Rattle.records.proofs.shared_place.Reads as shared-place-reads
+use Rattle.records.proofs.width.Reads as width-reads
+use Rattle.starts.proofs.base_of.Reads as base-of-reads
+use Rattle.starts.proofs.writer.Reads as writer-reads
+
+abbrev Inv-loop : tie.InvT-loop
+Inv-loop f layout buffer shared₀ m p₀ i₀ shared p i = Publishing f m shared₀ shared p i
+
+abbrev μ-loop : tie.MeasureT-loop
+μ-loop f layout buffer shared₀ m p₀ i₀ shared p i = m - i
+
+loop-holds : tie.Need-loop-holds Inv-loop μ-loop
+loop-holds c = publishing-none _ _ _ _ (ap (λ (l : Layout). l .variables) (c .before .before .before .pre .1)) (ap (λ (l : Layout). l .first) (c .before .before .before .pre .1)) (c .before .before .before .pre .3)
+
+writer-requires : tie.Need-writer-requires Inv-loop μ-loop
+writer-requires c κs = record-there (c .before .before .before .before .before .args .f .now) (c .before .before .before .before .before .pre .0) _ _ _ _ _ (c .before .loop .inv) (c .loop-test .taken)
+
+base-of-requires : tie.Need-base-of-requires Inv-loop μ-loop
+base-of-requires c κs = (c .before .before .before .before .before .before .pre .1, c .writer .ensures .1)
+
+local-place-requires : tie.Need-local-place-requires Inv-loop μ-loop
+local-place-requires c κs = (record-there (c .before .before .before .before .before .before .before .args .f .now) (c .before .before .before .before .before .before .before .pre .0) _ _ _ _ _ (c .before .before .before .loop .inv) (c .before .before .loop-test .taken), c .before .writer .ensures .1)
+
+cast-from : tie.Need-cast-from Inv-loop μ-loop
+cast-from c = search needs
+
+add-from : tie.Need-add-from Inv-loop μ-loop
+add-from c = omega (arith, buffer-fits (c .before .before .before .before .before .before .before .before .args .f .now) (c .before .before .before .before .before .before .before .before .pre .0) _ _ _ _ _ (c .before .before .before .before .loop .inv) (c .before .before .before .loop-test .taken) _ _ (c .before .before .writer .ensures .0) (c .before .base-of .ensures), c .local-place .ensures, length-buffer (c .before .before .before .before .before .before .before .before .args .f .now), ap length (c .before .before .before .before .before .before .before .before .pre .2))
+
+shared-place-requires : tie.Need-shared-place-requires Inv-loop μ-loop
+shared-place-requires c κs = record-there (c .before .before .before .before .before .before .before .before .args .f .now) (c .before .before .before .before .before .before .before .before .pre .0) _ _ _ _ _ (c .before .before .before .before .loop .inv) (c .before .before .before .loop-test .taken)
+
+cast-to : tie.Need-cast-to Inv-loop μ-loop
+cast-to c = search needs
+
+width-requires : tie.Need-width-requires Inv-loop μ-loop
+width-requires c κs = record-there (c .before .before .before .before .before .before .before .before .before .before .args .f .now) (c .before .before .before .before .before .before .before .before .before .before .pre .0) _ _ _ _ _ (c .before .before .before .before .before .before .loop .inv) (c .before .before .before .before .before .loop-test .taken)
+
+cast-copy : tie.Need-cast-copy Inv-loop μ-loop
+cast-copy c = search needs
+
+copy-requires : tie.Need-copy-requires Inv-loop μ-loop
+copy-requires c κs = (omega (arith, shared-fits (c .before .before .before .before .before .before .before .before .before .before .before .args .f .now) (c .before .before .before .before .before .before .before .before .before .before .before .pre .0) _ _ _ _ _ (c .before .before .before .before .before .before .before .loop .inv) (c .before .before .before .before .before .before .loop-test .taken) _ _ (c .before .before .before .before .before .writer .ensures .0) (c .before .before .before .before .base-of .ensures), c .before .before .shared-place .ensures, c .width .ensures), omega (arith, buffer-fits (c .before .before .before .before .before .before .before .before .before .before .before .args .f .now) (c .before .before .before .before .before .before .before .before .before .before .before .pre .0) _ _ _ _ _ (c .before .before .before .before .before .before .before .loop .inv) (c .before .before .before .before .before .before .loop-test .taken) _ _ (c .before .before .before .before .before .writer .ensures .0) (c .before .before .before .before .base-of .ensures), c .before .before .before .local-place .ensures, c .width .ensures, length-buffer (c .before .before .before .before .before .before .before .before .before .before .before .args .f .now), ap length (c .before .before .before .before .before .before .before .before .before .before .before .pre .2)))
+
+add-p : tie.Need-add-p Inv-loop μ-loop
+add-p c = omega (arith, record-there (c .before .before .before .before .before .before .before .before .before .before .before .before .before .before .args .f .now) (c .before .before .before .before .before .before .before .before .before .before .before .before .before .before .pre .0) _ _ _ _ _ (c .before .before .before .before .before .before .before .before .before .before .loop .inv) (c .before .before .before .before .before .before .before .before .before .loop-test .taken))
+
+add-i : tie.Need-add-i Inv-loop μ-loop
+add-i c = omega (arith, c .before .before .before .before .before .before .before .before .before .before .loop .inv .all)
+
+loop-less : tie.Need-loop-less Inv-loop μ-loop
+loop-less c = omega arith
+
+loop-again : tie.Need-loop-again Inv-loop μ-loop
+loop-again c = publishing-more (c .before .before .before .before .before .before .before .before .before .before .before .before .before .before .args .f .now) (c .before .before .before .before .before .before .before .before .before .before .before .before .before .before .pre .0) _ _ _ _ _ (c .before .before .before .before .before .before .before .before .before .before .loop .inv) (c .before .before .before .before .before .before .before .before .before .loop-test .taken) _ _ (c .before .before .before .before .before .before .before .before .writer .ensures .0) (c .before .before .before .before .before .before .before .base-of .ensures) _ _ (c .before .before .before .before .before .before .before .before .before .before .before .before .before .before .pre .2) (copied-as _ _ _ _ _ _ _ _ _ _ (c .before .before .copy .ensures) (c .before .before .before .before .before .shared-place .ensures) (c .before .before .before .before .before .before .local-place .ensures) (c .before .before .before .width .ensures))
+
+same-length : tie.Need-same-length Inv-loop μ-loop
+same-length c = c .before .loop .inv .size ∙ sym (c .before .before .before .before .before .pre .3)
+
+returns : tie.Need-returns Inv-loop μ-loop
+returns c = publishing-done _ _ _ _ _ _ (c .before .loop .inv) (c .loop-test .left)
+
+pub publish-spec : {M : Type 1} → statement M
+publish-spec =
+    tie.close
+    (tie.spec
+    Inv-loop
+    μ-loop
+    loop-holds
+    writer-requires
+    base-of-requires
+    local-place-requires
+    cast-from
+    add-from
+    shared-place-requires
+    cast-to
+    width-requires
+    cast-copy
+    copy-requires
+    add-p
+    add-i
+    loop-less
+    loop-again
+    same-length
+    returns)

@@ -1,0 +1,119 @@
+-- `Filling`: the data of the first k cores are written, and zeros follow. Assumes nothing.
+use Prim.Native.Nat.{ℕ, _+_, _-_}
+use mathlib.Core.Path.{refl, sym, ap, _∙_}
+use native.Mathlib.Omega.{arith}
+use lib.ListN.{length, length-replicate}
+use borrow.Author.Needs.{needs}
+use Rattle.memory.specs.Memory.{total}
+use Rattle.taskset.specs.Task.{sizesOf}
+use Rattle.taskset.proofs.Exact.{keeps-rules}
+use Rattle.starts.proofs.Laws.{Filling, filling-none, filling-size, room, pairs-there, fits, pairs-inside, filling-more, filling-done}
+use Rattle.starts.proofs.write_data.Statement.{statement}
+use Rattle.starts.proofs.write_data.Tie as tie
+use Rattle.starts.proofs.write_data.Reads as reads
+use Rattle.starts.proofs.write_data.Lts as lts
+use Rattle.memory.proofs.byte_at.Reads as byte-at-reads
+use Rattle.memory.proofs.word_at.Reads as word-at-reads
+use Rattle.starts.proofs.write_pairs.Reads as write-pairs-reads
+use Rattle.taskset.proofs.code_place.Reads as code-place-reads
+
+abbrev Inv-loop : tie.InvT-loop
+Inv-loop f buffer₀ n p₀ a₀ k₀ buffer p a k = Filling f buffer p a k
+
+abbrev μ-loop : tie.MeasureT-loop
+μ-loop f buffer₀ n p₀ a₀ k₀ buffer p a k = n - k
+
+byte-at-requires : tie.Need-byte-at-requires Inv-loop μ-loop
+byte-at-requires c κs = search needs
+
+cast-n : tie.Need-cast-n Inv-loop μ-loop
+cast-n c = search needs
+
+code-place-requires : tie.Need-code-place-requires Inv-loop μ-loop
+code-place-requires c κs = omega (arith, keeps-rules (c .before .before .before .args .f .now) (c .before .before .before .pre .0) .most-cores, c .byte-at .ensures)
+
+loop-holds : tie.Need-loop-holds Inv-loop μ-loop
+loop-holds c = filling-none _ _ _ _ (c .code-place .ensures .0) (c .before .byte-at .ensures) (c .before .before .before .before .pre .2)
+
+mul-word-at : tie.Need-mul-word-at Inv-loop μ-loop
+mul-word-at c = omega (arith, keeps-rules (c .before .before .before .before .before .before .args .f .now) (c .before .before .before .before .before .before .pre .0) .most-cores, c .before .before .before .byte-at .ensures)
+
+add-word-at : tie.Need-add-word-at Inv-loop μ-loop
+add-word-at c = omega (arith, keeps-rules (c .before .before .before .before .before .before .args .f .now) (c .before .before .before .before .before .before .pre .0) .most-cores, c .before .before .before .byte-at .ensures)
+
+word-at-requires : tie.Need-word-at-requires Inv-loop μ-loop
+word-at-requires c κs = search needs
+
+add-e : tie.Need-add-e Inv-loop μ-loop
+add-e c = omega (arith, room (c .before .before .before .before .before .before .before .args .f .now) _ _ _ _ (c .before .before .loop .inv) (omega (arith, c .before .before .before .before .byte-at .ensures, c .before .loop-test .taken)), c .word-at .ensures .0, filling-size (c .before .before .before .before .before .before .before .args .f .now) _ _ _ _ (c .before .before .loop .inv), ap length (c .before .before .before .before .before .before .before .pre .2), length-replicate {A = ℕ} (total (sizesOf (c .before .before .before .before .before .before .before .args .f .now))) 0)
+
+word-at-requires-2 : tie.Need-word-at-requires-2 Inv-loop μ-loop
+word-at-requires-2 c κs = search needs
+
+add-write-pairs : tie.Need-add-write-pairs Inv-loop μ-loop
+add-write-pairs c = omega (arith, pairs-there (c .before .before .before .before .before .before .before .before .args .f .now) _ _ _ _ (c .before .before .before .loop .inv) (c .before .before .before .before .before .before .before .before .pre .0) (c .before .before .before .before .before .before .before .before .pre .1) _ _ _ (c .before .before .before .before .before .byte-at .ensures) (c .before .before .loop-test .taken) (ap (λ (y : ℕ). (c .before .before .before .loop .a) + y) (c .before .word-at .ensures .0)) (c .word-at2 .ensures .0))
+
+sub-write-pairs : tie.Need-sub-write-pairs Inv-loop μ-loop
+sub-write-pairs c = fits (c .before .before .before .before .before .before .before .before .args .f .now) _ _ _ _ (c .before .before .before .loop .inv) (c .before .before .before .before .before .before .before .before .pre .0) (c .before .before .before .before .before .before .before .before .pre .1) _ _ _ (c .before .before .before .before .before .byte-at .ensures) (c .before .before .loop-test .taken) (ap (λ (y : ℕ). (c .before .before .before .loop .a) + y) (c .before .word-at .ensures .0)) (c .word-at2 .ensures .0) .0
+
+part-write-pairs-start : tie.Need-part-write-pairs-start Inv-loop μ-loop
+part-write-pairs-start c = fits (c .before .before .before .before .before .before .before .before .args .f .now) _ _ _ _ (c .before .before .before .loop .inv) (c .before .before .before .before .before .before .before .before .pre .0) (c .before .before .before .before .before .before .before .before .pre .1) _ _ _ (c .before .before .before .before .before .byte-at .ensures) (c .before .before .loop-test .taken) (ap (λ (y : ℕ). (c .before .before .before .loop .a) + y) (c .before .word-at .ensures .0)) (c .word-at2 .ensures .0) .0
+
+part-write-pairs-end : tie.Need-part-write-pairs-end Inv-loop μ-loop
+part-write-pairs-end c = fits (c .before .before .before .before .before .before .before .before .args .f .now) _ _ _ _ (c .before .before .before .loop .inv) (c .before .before .before .before .before .before .before .before .pre .0) (c .before .before .before .before .before .before .before .before .pre .1) _ _ _ (c .before .before .before .before .before .byte-at .ensures) (c .before .before .loop-test .taken) (ap (λ (y : ℕ). (c .before .before .before .loop .a) + y) (c .before .word-at .ensures .0)) (c .word-at2 .ensures .0) .1
+
+write-pairs-requires : tie.Need-write-pairs-requires Inv-loop μ-loop
+write-pairs-requires c κs = (pairs-there (c .before .before .before .before .before .before .before .before .before .args .f .now) _ _ _ _ (c .before .before .before .before .loop .inv) (c .before .before .before .before .before .before .before .before .before .pre .0) (c .before .before .before .before .before .before .before .before .before .pre .1) _ _ _ (c .before .before .before .before .before .before .byte-at .ensures) (c .before .before .before .loop-test .taken) (ap (λ (y : ℕ). (c .before .before .before .before .loop .a) + y) (c .before .before .word-at .ensures .0)) (c .before .word-at2 .ensures .0), pairs-inside (c .before .before .before .before .before .before .before .before .before .args .f .now) _ _ _ _ (c .before .before .before .before .loop .inv) (c .before .before .before .before .before .before .before .before .before .pre .0) (c .before .before .before .before .before .before .before .before .before .pre .1) _ _ _ (c .before .before .before .before .before .before .byte-at .ensures) (c .before .before .before .loop-test .taken) (ap (λ (y : ℕ). (c .before .before .before .before .loop .a) + y) (c .before .before .word-at .ensures .0)) (c .before .word-at2 .ensures .0))
+
+add-p : tie.Need-add-p Inv-loop μ-loop
+add-p c = omega (arith, pairs-there (c .before .before .before .before .before .before .before .before .before .before .before .before .args .f .now) _ _ _ _ (c .before .before .before .before .before .before .before .loop .inv) (c .before .before .before .before .before .before .before .before .before .before .before .before .pre .0) (c .before .before .before .before .before .before .before .before .before .before .before .before .pre .1) _ _ _ (c .before .before .before .before .before .before .before .before .before .byte-at .ensures) (c .before .before .before .before .before .before .loop-test .taken) (ap (λ (y : ℕ). (c .before .before .before .before .before .before .before .loop .a) + y) (c .before .before .before .before .before .word-at .ensures .0)) (c .before .before .before .before .word-at2 .ensures .0))
+
+mul-p : tie.Need-mul-p Inv-loop μ-loop
+mul-p c = omega (arith, pairs-there (c .before .before .before .before .before .before .before .before .before .before .before .before .args .f .now) _ _ _ _ (c .before .before .before .before .before .before .before .loop .inv) (c .before .before .before .before .before .before .before .before .before .before .before .before .pre .0) (c .before .before .before .before .before .before .before .before .before .before .before .before .pre .1) _ _ _ (c .before .before .before .before .before .before .before .before .before .byte-at .ensures) (c .before .before .before .before .before .before .loop-test .taken) (ap (λ (y : ℕ). (c .before .before .before .before .before .before .before .loop .a) + y) (c .before .before .before .before .before .word-at .ensures .0)) (c .before .before .before .before .word-at2 .ensures .0))
+
+add-p-2 : tie.Need-add-p-2 Inv-loop μ-loop
+add-p-2 c = omega (arith, pairs-there (c .before .before .before .before .before .before .before .before .before .before .before .before .args .f .now) _ _ _ _ (c .before .before .before .before .before .before .before .loop .inv) (c .before .before .before .before .before .before .before .before .before .before .before .before .pre .0) (c .before .before .before .before .before .before .before .before .before .before .before .before .pre .1) _ _ _ (c .before .before .before .before .before .before .before .before .before .byte-at .ensures) (c .before .before .before .before .before .before .loop-test .taken) (ap (λ (y : ℕ). (c .before .before .before .before .before .before .before .loop .a) + y) (c .before .before .before .before .before .word-at .ensures .0)) (c .before .before .before .before .word-at2 .ensures .0))
+
+add-k : tie.Need-add-k Inv-loop μ-loop
+add-k c = omega (arith, keeps-rules (c .before .before .before .before .before .before .before .before .before .before .before .before .args .f .now) (c .before .before .before .before .before .before .before .before .before .before .before .before .pre .0) .most-cores, c .before .before .before .before .before .before .before .before .before .byte-at .ensures)
+
+loop-less : tie.Need-loop-less Inv-loop μ-loop
+loop-less c = omega arith
+
+loop-again : tie.Need-loop-again Inv-loop μ-loop
+loop-again c = filling-more (c .before .before .before .before .before .before .before .before .before .before .before .before .args .f .now) _ _ _ _ (c .before .before .before .before .before .before .before .loop .inv) (c .before .before .before .before .before .before .before .before .before .before .before .before .pre .0) (c .before .before .before .before .before .before .before .before .before .before .before .before .pre .1) _ _ _ (c .before .before .before .before .before .before .before .before .before .byte-at .ensures) (c .before .before .before .before .before .before .loop-test .taken) (ap (λ (y : ℕ). (c .before .before .before .before .before .before .before .loop .a) + y) (c .before .before .before .before .before .word-at .ensures .0)) (c .before .before .before .before .word-at2 .ensures .0) _ _ refl (c .before .before .write-pairs .ensures)
+
+same-length : tie.Need-same-length Inv-loop μ-loop
+same-length c = filling-size (c .before .before .before .before .before .before .args .f .now) _ _ _ _ (c .before .loop .inv) ∙ sym (ap length (c .before .before .before .before .before .before .pre .2) ∙ length-replicate {A = ℕ} (total (sizesOf (c .before .before .before .before .before .before .args .f .now))) 0)
+
+returns : tie.Need-returns Inv-loop μ-loop
+returns c = filling-done (c .before .before .before .before .before .before .args .f .now) _ _ _ _ (c .before .loop .inv) _ (c .before .before .before .byte-at .ensures) (c .loop-test .left)
+
+pub write-data-spec : {M : Type 1} → statement M
+write-data-spec =
+    tie.close
+    (tie.spec
+    Inv-loop
+    μ-loop
+    byte-at-requires
+    cast-n
+    code-place-requires
+    loop-holds
+    mul-word-at
+    add-word-at
+    word-at-requires
+    add-e
+    word-at-requires-2
+    add-write-pairs
+    sub-write-pairs
+    part-write-pairs-start
+    part-write-pairs-end
+    write-pairs-requires
+    add-p
+    mul-p
+    add-p-2
+    add-k
+    loop-less
+    loop-again
+    same-length
+    returns)
