@@ -20,7 +20,7 @@ use Rattle.protocol.specs.declared.Stack.{Stack}
 use Rattle.protocol.specs.State.{Core, Semaphore, State, core, absent}
 use Rattle.records.specs.File.{cores, dataSize}
 use Rattle.taskset.specs.Task.{listed, sizesOf}
-use Rattle.taskset.proofs.Accepted.{length-listed, listed-at}
+use Rattle.taskset.proofs.Accepted.{length-listed, listed-at, sizes-length, sizes-at}
 use Rattle.protocol.proofs.Fair.{few-below}
 use Rattle.semaphore.specs.declared.Semaphore.{Semaphore as HeldSemaphore}
 use Rattle.semaphore.specs.Line.{semaphoreOf, semaphoreBack}
@@ -29,7 +29,7 @@ use Rattle.states.specs.declared.State.{State as Held}
 use Rattle.states.specs.Machine.{none, stackIn, coreIn, stateIn, stateOf, registersBack, entryBack, heldAfter, dataOf, Sized}
 use Rattle.states.specs.Fit.{Fit}
 use Rattle.states.proofs.Tables.{listed-same}
-use Rattle.states.proofs.Fresh.{map-at, sizes-length, sizes-at}
+use Rattle.states.proofs.Fresh.{map-at}
 use Rattle.machine.specs.Calling.{tidied}
 use Rattle.runner.proofs.Loop.{part-entry}
 use Rattle.runner.proofs.Running.{core-in}

@@ -27,7 +27,7 @@ use Rattle.taskset.specs.Task.{listed, sizesOf, variablesOf}
 use Rattle.taskset.specs.Starts.{withPairs, startData, writerOf, withWritten, startShared, startsOf, startBuffer}
 use Rattle.taskset.proofs.Laws.{base-next, start-next}
 use Rattle.taskset.proofs.Exact.{keeps-rules, starts-inside}
-use Rattle.taskset.proofs.Accepted.{length-listed, listed-at, map-listed, core-facts, base-start, record-in-file, length-start}
+use Rattle.taskset.proofs.Accepted.{listed-at, map-listed, core-facts, sizes-length, sizes-at, base-start, record-in-file, length-start}
 use Rattle.taskset.proofs.Starts.{writer-of, old-starts, old-shared}
 
 -- ---- one core's start values: i of n are written, the next one stands at `at`
@@ -91,14 +91,6 @@ length-first : (f : List ℕ) (k : ℕ) → length (first f k) ≡ basePlace f k
 unfolding listed flat basePlace
 length-first f zero = refl
 length-first f (suc k) = ap length (first-more f k) ∙ length-append (first f k) (startData f k) ∙ ap₂ _+_ (length-first f k) (length-start f k)
-
-sizes-length : (f : List ℕ) → length (sizesOf f) ≡ cores f
-unfolding sizesOf
-sizes-length f = length-listed (dataSize f) (cores f) 0
-
-sizes-at : (f : List ℕ) (k : ℕ) → k < cores f → getD (sizesOf f) k 0 ≡ dataSize f k
-unfolding sizesOf
-sizes-at f k h = listed-at (dataSize f) (cores f) k 0 h
 
 start-all : (ns : List ℕ) → start ns (length ns) ≡ total ns
 unfolding start total

@@ -29,7 +29,7 @@ use Rattle.records.specs.File.{cores, dataSize, limit}
 use Rattle.taskset.specs.Judge.{codeOf}
 use Rattle.taskset.specs.Task.{sizesOf, variablesOf}
 use Rattle.taskset.specs.Trace.{recordCount}
-use Rattle.taskset.proofs.Accepted.{length-listed, listed-at}
+use Rattle.taskset.proofs.Accepted.{length-listed, listed-at, sizes-length, sizes-at}
 use Rattle.states.specs.declared.State.{State}
 use Rattle.states.specs.Task.{taskOf}
 use Rattle.states.specs.Machine.{none, coreIn, stateIn, stateOf, Sized}
@@ -38,7 +38,6 @@ use Rattle.states.specs.Fit.{entry, placesFit, offsetsFit, depthFit, exc
 use Rattle.states.proofs.Tables.{listed-none}
 use Rattle.states.proofs.Says.{Says, known, says-itself, says-less, says-most, says-equal, says-both, says-within, says-either, says-pick, says-agree, says-upto}
 use Rattle.states.proofs.Line.{records-left, left-records, Stands, says-line}
-use Rattle.states.proofs.Fresh.{sizes-length, sizes-at}
 
 -- ---- what the test of a core says, rule by rule
 

@@ -5,16 +5,15 @@ use mathlib.Core.List.{List, [], _∷_, map}
 use Prim.Native.Nat.{ℕ, zero, suc, _<_}
 use native.Mathlib.Nat.{le-of-suc-le-suc, not-suc-le-zero}
 use native.Mathlib.Omega.{arith}
-use lib.ListN.{length, getD, length-map, length-replicate}
-use Rattle.protocol.specs.State.{absent, core}
+use lib.ListN.{length, getD}
 use Rattle.protocol.specs.Fresh.{freshCore}
 use Rattle.code.proofs.Sound.{inside-code}
 use Rattle.processor.proofs.Kept.{fresh-placed}
 use Rattle.records.specs.File.{cores, dataSize}
 use Rattle.taskset.specs.Judge.{codeOf}
-use Rattle.taskset.specs.Task.{sizesOf}
+use Rattle.taskset.specs.Starts.{startData}
 use Rattle.taskset.specs.Fresh.{freshOf}
-use Rattle.taskset.proofs.Accepted.{length-listed, listed-at, fresh-of}
+use Rattle.taskset.proofs.Accepted.{fresh-of, fresh-cores, fresh-core, length-start, length-shared}
 use Rattle.states.specs.Set.{Set}
 use Rattle.states.specs.Fit.{FitCore, Fit}
 
@@ -23,18 +22,7 @@ map-at g [] k d e h = absurd (not-suc-le-zero h)
 map-at g (x ∷ l) zero d e h = refl
 map-at g (x ∷ l) (suc k) d e h = map-at g l k d e (le-of-suc-le-suc h)
 
-pub sizes-length : (f : List ℕ) → length (sizesOf f) ≡ cores f
-unfolding sizesOf
-sizes-length f = length-listed (dataSize f) (cores f) 0
-
-pub sizes-at : (f : List ℕ) (k : ℕ) → k < cores f → getD (sizesOf f) k 0 ≡ dataSize f k
-unfolding sizesOf
-sizes-at f k h = listed-at (dataSize f) (cores f) k 0 h
-
-pub fresh-core : (f : List ℕ) (k : ℕ) → k < cores f → core (freshOf f .plant) k ≡ freshCore (dataSize f k)
-fresh-core f k h = map-at freshCore (sizesOf f) k 0 absent (rw (sizes-length f) h) ∙ ap freshCore (sizes-at f k h)
-
-fresh-fit-core : (f t : List ℕ) → Set f t → (k : ℕ) → k < cores f → FitCore f t k (freshCore (dataSize f k))
+fresh-fit-core : (f t : List ℕ) → Set f t → (k : ℕ) → k < cores f → FitCore f t k (freshCore (startData f k))
 fresh-fit-core f t ok k h =
     record {
       modes = omega arith;
@@ -47,7 +35,7 @@ fresh-fit-core f t ok k h =
       cycles = omega arith;
       under-way = λ a b. absurd (let y : ⊥ = omega arith in y);
       flags = omega arith;
-      size = length-replicate {A = ℕ} (dataSize f k) 0;
+      size = length-start f k;
     }
 
 -- between two cycles, or no core at all
@@ -59,12 +47,12 @@ still (inr a) (inr b) = omega arith
 
 pub fresh-fit : (f t : List ℕ) → Set f t → Fit f t (freshOf f)
 fresh-fit f t ok = record {
-  table = length-map (sizesOf f) freshCore ∙ sizes-length f;
+  table = fresh-cores f;
   each = λ k h. subst (FitCore f t k) (sym (fresh-core f k h)) (fresh-fit-core f t ok k h);
   held = record {
     held = λ k h. absurd (still (fresh-of f .between k) h);
     holding = λ k e. absurd (let y : ⊥ = omega arith in y);
   };
   line = record { once = tt; below = λ j h. absurd h; modes = λ j h. absurd h; records = λ j h. absurd h };
-  shared = length-replicate {A = ℕ} 1024 0;
+  shared = length-shared f;
 }

@@ -8,7 +8,7 @@ use native.Mathlib.Nat.{add-zero, zero-add, suc-add, add-suc}
 use native.Mathlib.Omega.{arith}
 use borrow.Author.Tests.{lt-ltb, ne-eqb}
 use lib.Dec.{T}
-use lib.ListN.{length, getD, set, length-replicate, length-set}
+use lib.ListN.{length, getD, set, length-map, length-replicate, length-set}
 use Rattle.verdict.specs.Verdict.{pick}
 use Rattle.verdict.proofs.Verdict.{pick-true}
 use Rattle.memory.specs.Memory.{byte, word, part, start}
@@ -111,6 +111,15 @@ core-facts f z k h =
     w : WellFormed f
     w = keeps-rules f z
 
+-- the data sizes
+pub sizes-length : (f : List ℕ) → length (sizesOf f) ≡ cores f
+unfolding sizesOf
+sizes-length f = length-listed (dataSize f) (cores f) 0
+
+pub sizes-at : (f : List ℕ) (k : ℕ) → k < cores f → getD (sizesOf f) k 0 ≡ dataSize f k
+unfolding sizesOf
+sizes-at f k h = listed-at (dataSize f) (cores f) k 0 h
+
 -- the data of core k begin where the sizes before it end
 base-from : (f : List ℕ) (n i k : ℕ) → k ≤ n → start (listed (dataSize f) n i) k + basePlace f i ≡ basePlace f (i + k)
 unfolding basePlace start listed
@@ -147,7 +156,10 @@ record-in-file f z i h = omega (arith, records-inside f (keeps-rules f z .ends))
 pub fresh-of : (f : List ℕ) → Fresh (freshOf f)
 fresh-of f = fresh-is (startsOf f) (startShared f)
 
--- core k of it has its start values
+-- it has n cores, and core k has its start values
+pub fresh-cores : (f : List ℕ) → length (freshOf f .plant .cores) ≡ cores f
+fresh-cores f = length-map (startsOf f) freshCore ∙ length-listed (startData f) (cores f) 0
+
 pub fresh-core : (f : List ℕ) (k : ℕ) → k < cores f → core (freshOf f .plant) k ≡ freshCore (startData f k)
 fresh-core f k h =
     ap (λ (l : List Core). getD l k absent) (map-listed freshCore (startData f) (cores f) 0)
