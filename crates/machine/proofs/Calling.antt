@@ -9,7 +9,7 @@ use native.Mathlib.Omega.{arith}
 use borrow.Author.Tests.{lt-ltb, ltb-true, eq-eqb, ne-eqb, eqb-true, eqb-false}
 use lib.Dec.{eqb}
 use lib.Seq.{take-all}
-use lib.ListN.{length, getD, replicate, take, length-take, length-append, take-append-drop, drop-of-length-le, length-map, length-replicate, getD-replicate, replicate-append-replicate}
+use lib.ListN.{length, getD, replicate, take, length-take, length-append, take-append-drop, drop-of-length-le, length-map, length-replicate, getD-replicate}
 use Rattle.verdict.specs.Verdict.{pick, both}
 use Rattle.verdict.proofs.Verdict.{pick-true, pick-false, by-pick, next-none, next-zero, unless-zero, both-true}
 use Rattle.memory.specs.Memory.{total, split, flat, part, splice}
@@ -23,7 +23,9 @@ use Rattle.records.specs.File.{cores, dataSize}
 use Rattle.taskset.specs.Judge.{judge}
 use Rattle.taskset.specs.Trace.{traceRefusal}
 use Rattle.taskset.specs.Task.{sizesOf}
+use Rattle.taskset.specs.Starts.{startData, startShared, startsOf, startBuffer}
 use Rattle.taskset.specs.Fresh.{freshOf}
+use Rattle.taskset.proofs.Accepted.{listed-at, start-sizes, length-buffer, length-shared, fresh-cores, fresh-core}
 use Rattle.states.specs.declared.State.{State}
 use Rattle.states.specs.Task.{taskOf}
 use Rattle.states.specs.Set.{Set}
@@ -36,7 +38,7 @@ use Rattle.states.proofs.Accepted.{accepted-set}
 use Rattle.states.proofs.Exactly.{not-refused, fit-accepted}
 use Rattle.states.proofs.Executes.{executes}
 use Rattle.states.proofs.Kept.{fit-kept}
-use Rattle.states.proofs.Fresh.{map-at, sizes-length, sizes-at, fresh-core, fresh-fit}
+use Rattle.states.proofs.Fresh.{fresh-fit}
 use Rattle.runner.specs.Runs.{Left, left, allBelow, ranCall}
 use Rattle.machine.specs.Calls.{lentFits, callRefusal, answerOf, tableOf, freshRefusal, freshCall, runRefusal, runCall, stepRefusal, stepped, stepCall}
 use Rattle.machine.specs.Calling.{Lending, entire, front, lentOf, replaced, Call, stepping, running, restored, leaves, calls, stepCalls, wholeOf, countsAs, stepsOf, takenOf, Unchanged, tidied, RunIsSteps, CallsInterleaved}
@@ -273,18 +275,6 @@ follows-steps f t ok h s x w (k ∷ ks) e =
 
 -- ---- the fresh state
 
-abbrev zeros : ℕ → List ℕ
-zeros n = replicate n 0
-
-flat-zeros : (ns : List ℕ) → flat (map zeros ns) ≡ replicate (total ns) 0
-unfolding flat total
-flat-zeros [] = refl
-flat-zeros (n ∷ ns) = ap (λ (l : List ℕ). zeros n ++ l) (flat-zeros ns) ∙ replicate-append-replicate n (total ns) 0
-
-length-zeros : (ns : List ℕ) → map length (map zeros ns) ≡ ns
-length-zeros [] = refl
-length-zeros (n ∷ ns) = ap₂ _∷_ (length-replicate {A = ℕ} n 0) (length-zeros ns)
-
 -- a call stack of zeros
 stack-zeros : (k : ℕ) → k < 4 → part (replicate 64 0) (16 * k) 16 ≡ replicate 16 0
 unfolding part
@@ -294,28 +284,25 @@ stack-zeros (suc (suc zero)) l = refl
 stack-zeros (suc (suc (suc zero))) l = refl
 stack-zeros (suc (suc (suc (suc k)))) l = absurd (omega arith)
 
-zero-core : (f : List ℕ) → cores f ≤ 4 → (k : ℕ) → k < cores f
-    → coreIn f (replicate 4 (cleared 0 4)) (replicate 64 0) (replicate 64 0) (replicate (total (sizesOf f)) 0) k ≡ core (freshOf f .plant) k
-zero-core f few k i =
+start-core : (f : List ℕ) → cores f ≤ 4 → (k : ℕ) → k < cores f
+    → coreIn f (replicate 4 (cleared 0 4)) (replicate 64 0) (replicate 64 0) (startBuffer f) k ≡ core (freshOf f .plant) k
+unfolding startBuffer
+start-core f few k i =
     same
     (getD-replicate 4 k (cleared 0 4) none (omega arith))
     (stack-zeros k (omega arith))
-    (ap (λ (l : List ℕ). getD (split (sizesOf f) l) k []) (sym (flat-zeros (sizesOf f)))
-    ∙ ap (λ (l : List (List ℕ)). getD l k []) (split-flat-of (sizesOf f) (map zeros (sizesOf f)) (length-zeros (sizesOf f)))
-    ∙ map-at zeros (sizesOf f) k 0 [] (subst (λ (n : ℕ). k < n) (sym (sizes-length f)) i)
-    ∙ ap zeros (sizes-at f k i))
+    (ap (λ (l : List (List ℕ)). getD l k []) (split-flat-of (sizesOf f) (startsOf f) (start-sizes f)) ∙ listed-at (startData f) (cores f) k [] i)
     ∙ sym (fresh-core f k i)
   where
     same : {r r′ : Registers} {p p′ m m′ : List ℕ} → r ≡ r′ → p ≡ p′ → m ≡ m′
         → _≡_ {A = Core} record { registers = r; stack = record { places = p; offsets = p }; memory = m } record { registers = r′; stack = record { places = p′; offsets = p′ }; memory = m′ }
     same a b x = λ z. record { registers = a z; stack = record { places = b z; offsets = b z }; memory = x z }
 
-pub fresh-state : (f : List ℕ) → cores f ≤ 4 → stateOf f (tableOf (cores f) 4) (replicate (total (sizesOf f)) 0) (replicate 1024 0) ≡ freshOf f
+pub fresh-state : (f : List ℕ) → cores f ≤ 4 → stateOf f (tableOf (cores f) 4) (startBuffer f) (startShared f) ≡ freshOf f
 unfolding stateIn tableOf
 fresh-state f few =
-    ap (λ (l : List Core). record { plant = record { cores = l; shared = replicate 1024 0 }; semaphore = record { holder = 0; line = [] } })
-    (listed-is (coreIn f (replicate 4 (cleared 0 4)) (replicate 64 0) (replicate 64 0) (replicate (total (sizesOf f)) 0)) (cores f) (map freshCore (sizesOf f)) absent
-    (length-map (sizesOf f) freshCore ∙ sizes-length f) (zero-core f few))
+    ap (λ (l : List Core). record { plant = record { cores = l; shared = startShared f }; semaphore = record { holder = 0; line = [] } })
+    (listed-is (coreIn f (replicate 4 (cleared 0 4)) (replicate 64 0) (replicate 64 0) (startBuffer f)) (cores f) (map freshCore (startsOf f)) absent (fresh-cores f) (start-core f few))
 
 -- That f and t are bytes and that a state's arrays have their lengths is known of the types
 module _ (f t : List ℕ) (bytes : (i : ℕ) → getD f i 0 < 256) (trace-bytes : (i : ℕ) → getD t i 0 < 256) where
@@ -352,7 +339,10 @@ module _ (f t : List ℕ) (bytes : (i : ℕ) → getD f i 0 < 256) (trace-bytes 
       }
 
   module _ (d sh : List ℕ) (e : freshRefusal f (length d) (length sh) ≡ 0) where
-    fresh-left : freshCall f d sh ≡ left (answerOf 0 (tableOf (cores f) 4)) (replicate (length d) 0) (replicate (length sh) 0) []
+    abbrev started : Left
+    started = left (answerOf 0 (tableOf (cores f) 4)) (startBuffer f) (startShared f) []
+
+    fresh-left : freshCall f d sh ≡ started
     unfolding freshCall
     fresh-left = pick-true _ _ _ (eq-eqb _ _ e)
 
@@ -363,22 +353,16 @@ module _ (f t : List ℕ) (bytes : (i : ℕ) → getD f i 0 < 256) (trace-bytes 
         let b = both-true _ _ (unless-zero _ 20 (a .1)) in
         (a .0, eqb-true _ _ (b .0), eqb-true _ _ (b .1))
 
-    abbrev zeroed : Left
-    zeroed = left (answerOf 0 (tableOf (cores f) 4)) (replicate (total (sizesOf f)) 0) (replicate 1024 0) []
-
-    fresh-zeroed : freshCall f d sh ≡ zeroed
-    fresh-zeroed = fresh-left ∙ ap₂ (λ (n m : ℕ). left (answerOf 0 (tableOf (cores f) 4)) (replicate n 0) (replicate m 0) []) (fresh-lent .1) (fresh-lent .2)
-
     -- the call for the fresh state leaves it
     pub fresh-whole : cores f ≤ 4 → wholeOf f (freshCall f d sh) ≡ freshOf f
-    fresh-whole few = ap (wholeOf f) fresh-zeroed ∙ fresh-state f few
+    fresh-whole few = ap (wholeOf f) fresh-left ∙ fresh-state f few
 
     pub fresh-lendable : Set f t → Lendable f t (freshCall f d sh)
     unfolding tableOf
-    fresh-lendable ok = subst (Lendable f t) (sym fresh-zeroed) record {
+    fresh-lendable ok = subst (Lendable f t) (sym fresh-left) record {
       count = refl;
       line = omega arith;
-      sized = record { memory = length-replicate {A = ℕ} (total (sizesOf f)) 0; shared = length-replicate {A = ℕ} 1024 0; places = length-replicate {A = ℕ} 64 0; offsets = length-replicate {A = ℕ} 64 0 };
+      sized = record { memory = length-buffer f; shared = length-shared f; places = length-replicate {A = ℕ} 64 0; offsets = length-replicate {A = ℕ} 64 0 };
       fit = subst (Fit f t) (sym (fresh-state f (ok .few))) (fresh-fit f t ok);
     }
 

@@ -24,6 +24,7 @@ use Rattle.taskset.specs.Judge.{judgeFor, judge}
 use Rattle.taskset.specs.Layout.{noCore, coreAt, coreLayout, layoutOf, noLayout, loadOf}
 use Rattle.taskset.specs.Trace.{traceRefusal}
 use Rattle.taskset.specs.Task.{listed, sizesOf}
+use Rattle.taskset.specs.Starts.{startShared, startBuffer}
 use Rattle.taskset.proofs.Exact.{keeps-rules}
 use Rattle.states.specs.declared.State.{State}
 use Rattle.states.specs.declared.Prepared.{Prepared}
@@ -198,10 +199,10 @@ module _ (o : Profile) (f : List ℕ) (d sh : List ℕ) where
       ap (λ (y : Ran). left y d sh []) (q ∙ ap (λ (m : ℕ). answerOf m (tableOf 0 0)) e)
       ∙ sym (pick-false _ _ _ (ne-eqb _ _ (λ w. n (e ∙ w))))
 
-  pub fresh-granted-for : (x : Ran) (d′ sh′ : List ℕ) → freshRefusalFor o f (length d) (length sh) ≡ 0 → x ≡ answerOf 0 (tableOf (cores f) 4) → d′ ≡ replicate (length d) 0 → sh′ ≡ replicate (length sh) 0
+  pub fresh-granted-for : (x : Ran) (d′ sh′ : List ℕ) → freshRefusalFor o f (length d) (length sh) ≡ 0 → x ≡ answerOf 0 (tableOf (cores f) 4) → d′ ≡ startBuffer f → sh′ ≡ startShared f
       → left x d′ sh′ [] ≡ freshCallFor o f d sh
   unfolding freshCallFor
-  fresh-granted-for x d′ sh′ e q a b = ap₂ (λ (y : Ran) (l : List ℕ). left y l sh′ []) q a ∙ ap (λ (l : List ℕ). left (answerOf 0 (tableOf (cores f) 4)) (replicate (length d) 0) l []) b ∙ sym (pick-true _ _ _ (eq-eqb _ _ e))
+  fresh-granted-for x d′ sh′ e q a b = ap₂ (λ (y : Ran) (l : List ℕ). left y l sh′ []) q a ∙ ap (λ (l : List ℕ). left (answerOf 0 (tableOf (cores f) 4)) (startBuffer f) l []) b ∙ sym (pick-true _ _ _ (eq-eqb _ _ e))
 
 -- under the full one
 pub fresh-none : (f d sh : List ℕ) → judge f ≡ 0 → lentFits f (length d) (length sh) ≡ true → freshRefusal f (length d) (length sh) ≡ 0

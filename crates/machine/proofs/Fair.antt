@@ -1,19 +1,16 @@
 -- The fair line of the real machine: crate protocol's theorem, with its hypotheses met by document 01's instructions, and calls as their steps.
 -- Assumes nothing.
-use mathlib.Core.Path.{_≡_, refl, _∙_}
+use mathlib.Core.Path.{_≡_, refl}
 use mathlib.Core.List.{List}
 use Prim.Native.Nat.{ℕ, _<_}
-use lib.ListN.{length, getD, length-map}
-use Rattle.protocol.specs.Fresh.{freshCore}
+use lib.ListN.{length, getD}
 use Rattle.protocol.proofs.Fair.{fair-holds}
 use Rattle.processor.proofs.Kept.{instruction-laws}
 use Rattle.taskset.specs.Judge.{codeOf}
-use Rattle.taskset.specs.Task.{sizesOf}
 use Rattle.taskset.specs.Fresh.{freshOf}
-use Rattle.taskset.proofs.Accepted.{fresh-of}
+use Rattle.taskset.proofs.Accepted.{fresh-of, fresh-cores}
 use Rattle.taskset.specs.Trace.{traceRefusal}
 use Rattle.states.specs.Task.{taskOf}
-use Rattle.states.proofs.Fresh.{sizes-length}
 use Rattle.machine.specs.Calls.{freshRefusal, freshCall}
 use Rattle.machine.specs.Calling.{Call, stepsOf}
 use Rattle.machine.specs.Fair.{MachineFair, CallsFair}
@@ -22,7 +19,7 @@ use Rattle.machine.proofs.Calling.{calls-interleaved}
 pub fair-machine : (f t ks : List ℕ) → MachineFair f t ks
 unfolding taskOf
 fair-machine f t ks = record {
-  table = length-map (sizesOf f) freshCore ∙ sizes-length f;
+  table = fresh-cores f;
   fair = fair-holds (taskOf f t) (instruction-laws (taskOf f t) (codeOf f) refl) (freshOf f) (fresh-of f) ks;
 }
 

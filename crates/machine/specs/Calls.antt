@@ -14,6 +14,7 @@ use Rattle.code.specs.declared.Profile.{Profile}
 use Rattle.code.specs.declared.Profile.the-variants.{Full}
 use Rattle.taskset.specs.Judge.{judgeFor, judge}
 use Rattle.taskset.specs.Task.{sizesOf}
+use Rattle.taskset.specs.Starts.{startShared, startBuffer}
 use Rattle.states.specs.declared.State.{State}
 use Rattle.states.specs.Task.{taskOf}
 use Rattle.states.specs.Machine.{stateOf, heldAfter, dataOf}
@@ -65,11 +66,11 @@ tableOf n flags = record {
 abbrev pub freshRefusalFor : Profile → List ℕ → ℕ → ℕ → ℕ
 freshRefusalFor profile f buffer shared = next (judgeFor profile f) (unless (lentFits f buffer shared) 21)
 
--- what a call with this refusal number leaves. Memories zero, mode 0, all registers 0, flags 4, semaphore free; a refused call gives a table of no cores
+-- what a call with this refusal number leaves. Memories zero but for the start values (document 02, 2.12), mode 0, all registers 0, flags 4, semaphore free; a refused call gives a table of no cores
 abbrev pub freshLeft : ℕ → List ℕ → List ℕ → List ℕ → Left
 freshLeft r f d sh =
     pick (eqb r 0)
-    (left (answerOf 0 (tableOf (cores f) 4)) (replicate (length d) 0) (replicate (length sh) 0) [])
+    (left (answerOf 0 (tableOf (cores f) 4)) (startBuffer f) (startShared f) [])
     (left (answerOf r (tableOf 0 0)) d sh [])
 
 unfoldable pub freshCallFor : Profile → List ℕ → List ℕ → List ℕ → Left

@@ -132,7 +132,7 @@ fn table_of(n: u8, flags: u8) -> State
     }
 }
 
-// The fresh state of a file that is loaded under a profile: memories zeroed, mode 0, registers 0, flags 4, semaphore free, nobody in line. A refused call gives a table of no cores.
+// The fresh state of a file that is loaded under a profile: memories zero but for the start values, mode 0, registers 0, flags 4, semaphore free, nobody in line. A refused call gives a table of no cores.
 pub fn fresh_for(profile: Profile, file: &[u8], buffer: &mut [u8], shared: &mut [u8]) -> Ran
     ensures { λ r. ⌜ left r (now (buffer .exit)) (now (shared .exit)) [] ≡ freshCallFor profile (now (file .entry)) (now (buffer .entry)) (now (shared .entry)) ⌝ }
 {
@@ -143,8 +143,7 @@ pub fn fresh_for(profile: Profile, file: &[u8], buffer: &mut [u8], shared: &mut 
     if !lent_fits(file, loaded.layout, buffer.len(), shared.len()) {
         return answer(21, table_of(0, 0));
     }
-    memory::zero(buffer);
-    memory::zero(shared);
+    starts::fill(file, loaded.layout, buffer, shared);
     answer(0, table_of(loaded.layout.cores as u8, COLD_START))
 }
 

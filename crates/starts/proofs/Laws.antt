@@ -8,7 +8,7 @@ use native.Mathlib.Nat.{zero-add, add-zero, suc-add, add-suc}
 use native.Mathlib.Numerals.{add-one}
 use native.Mathlib.Omega.{arith}
 use lib.Dec.{T}
-use lib.ListN.{length, take, drop, set, getD, length-append, length-set, length-replicate}
+use lib.ListN.{length, take, drop, set, getD, length-append, length-set, length-replicate, replicate-append-replicate}
 use lib.Seq.{take-at, drop-at, take-take, drop-drop}
 use Rattle.verdict.proofs.Verdict.{pick-true}
 use Rattle.verdict.proofs.Truth.{either-right}
@@ -27,7 +27,7 @@ use Rattle.taskset.specs.Task.{listed, sizesOf, variablesOf}
 use Rattle.taskset.specs.Starts.{withPairs, startData, writerOf, withWritten, startShared, startsOf, startBuffer}
 use Rattle.taskset.proofs.Laws.{base-next, start-next}
 use Rattle.taskset.proofs.Exact.{keeps-rules, starts-inside}
-use Rattle.taskset.proofs.Accepted.{listed-at, map-listed, core-facts, sizes-length, sizes-at, base-start, record-in-file, length-start}
+use Rattle.taskset.proofs.Accepted.{listed-at, map-listed, core-facts, sizes-length, sizes-at, base-start, record-in-file, length-start, start-sizes}
 use Rattle.taskset.proofs.Starts.{writer-of, old-starts, old-shared}
 
 -- ---- one core's start values: i of n are written, the next one stands at `at`
@@ -205,10 +205,6 @@ module _ (f d : List ℕ) (p a k : ℕ) (x : Filling f d p a k) where
 
 -- ---- a core's part of the data buffer
 
-lengths : (f : List ℕ) → map length (startsOf f) ≡ sizesOf f
-unfolding sizesOf
-lengths f = map-listed length (startData f) (cores f) 0 ∙ ap (λ (g : ℕ → ℕ). listed g (cores f) 0) (λ i k. length-start f k i)
-
 part-of-core : (f : List ℕ) (k a n : ℕ) → k < cores f → a + n ≤ dataSize f k → part (startBuffer f) (basePlace f k + a) n ≡ part (startData f k) a n
 unfolding part startBuffer
 part-of-core f k a n h l =
@@ -222,13 +218,9 @@ part-of-core f k a n h l =
     mine : startData f k ≡ take (dataSize f k) (drop (basePlace f k) (flat (startsOf f)))
     mine =
         sym (listed-at (startData f) (cores f) k [] h)
-        ∙ ap (λ (l : List (List ℕ)). getD l k []) (sym (split-flat-of (sizesOf f) (startsOf f) (lengths f)))
+        ∙ ap (λ (l : List (List ℕ)). getD l k []) (sym (split-flat-of (sizesOf f) (startsOf f) (start-sizes f)))
         ∙ split-at (sizesOf f) (flat (startsOf f)) k (subst (λ (n : ℕ). k < n) (sym (sizes-length f)) h)
         ∙ ap₂ (λ (m b : ℕ). take m (drop b (flat (startsOf f)))) (sizes-at f k h) (sym (base-start f k (omega arith)))
-
-pub length-buffer : (f : List ℕ) → length (startBuffer f) ≡ total (sizesOf f)
-unfolding startBuffer
-length-buffer f = length-first f (cores f) ∙ base-all f
 
 -- ---- shared memory: the variables before number i are written, whose record stands at p
 
@@ -324,11 +316,7 @@ publishing-done f m s₀ s p i x h = sym (ap (λ (n : ℕ). withWritten (startDa
 flat-zeros : (ns : List ℕ) → flat (map zeros ns) ≡ zeros (total ns)
 unfolding flat total
 flat-zeros [] = refl
-flat-zeros (n ∷ ns) = ap (λ (l : List ℕ). zeros n ++ l) (flat-zeros ns) ∙ joined n (total ns)
-  where
-    joined : (a b : ℕ) → zeros a ++ zeros b ≡ zeros (a + b)
-    joined zero b = ap zeros (sym (zero-add b))
-    joined (suc a) b = ap (λ (l : List ℕ). 0 ∷ l) (joined a b) ∙ ap zeros (sym (suc-add a b))
+flat-zeros (n ∷ ns) = ap (λ (l : List ℕ). zeros n ++ l) (flat-zeros ns) ∙ replicate-append-replicate n (total ns) 0
 
 pub old-buffer : (f : List ℕ) → isNew f ≡ false → startBuffer f ≡ zeros (total (sizesOf f))
 unfolding startBuffer

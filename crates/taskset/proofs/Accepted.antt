@@ -11,8 +11,9 @@ use lib.Dec.{T}
 use lib.ListN.{length, getD, set, length-map, length-replicate, length-set}
 use Rattle.verdict.specs.Verdict.{pick}
 use Rattle.verdict.proofs.Verdict.{pick-true}
-use Rattle.memory.specs.Memory.{byte, word, part, start}
+use Rattle.memory.specs.Memory.{byte, word, part, start, total}
 use Rattle.memory.proofs.Laws.{length-part, length-splice}
+use Rattle.memory.proofs.Cores.{length-flat}
 use Rattle.protocol.specs.State.{Core, absent, core}
 use Rattle.protocol.specs.Variables.{Variable, local, readsIt, writesIt, In, Pairwise, Accepted}
 use Rattle.protocol.specs.Laws.{Fresh}
@@ -29,7 +30,7 @@ use Rattle.taskset.specs.Judge.{codePlace, codeOf, startPlace, judge}
 use Rattle.taskset.specs.Layout.{basePlace, coreAt, coreLayout, layoutOf, noLayout, loadFor, loadOf}
 use Rattle.taskset.specs.Rules.{WellFormed}
 use Rattle.taskset.specs.Task.{listed, sizesOf, variablesOf}
-use Rattle.taskset.specs.Starts.{startCount, withPairs, startData, writerOf, withWritten, startShared, startsOf}
+use Rattle.taskset.specs.Starts.{startCount, withPairs, startData, writerOf, withWritten, startShared, startsOf, startBuffer}
 use Rattle.taskset.specs.Fresh.{freshOf}
 use Rattle.taskset.proofs.Exact.{keeps-rules, code-inside, records-inside}
 
@@ -174,6 +175,14 @@ length-pairs f q (suc n) d = length-pairs f (q + 3) n (set d (word f q) (byte f 
 pub length-start : (f : List ℕ) (k : ℕ) → length (startData f k) ≡ dataSize f k
 unfolding startData
 length-start f k = length-pairs f (startPlace f k + 2) (startCount f k) (zeros (dataSize f k)) ∙ length-replicate {A = ℕ} (dataSize f k) 0
+
+pub start-sizes : (f : List ℕ) → map length (startsOf f) ≡ sizesOf f
+unfolding sizesOf
+start-sizes f = map-listed length (startData f) (cores f) 0 ∙ ap (λ (g : ℕ → ℕ). listed g (cores f) 0) (λ i k. length-start f k i)
+
+pub length-buffer : (f : List ℕ) → length (startBuffer f) ≡ total (sizesOf f)
+unfolding startBuffer
+length-buffer f = length-flat (startsOf f) ∙ ap total (start-sizes f)
 
 length-written : (dataOf : ℕ → List ℕ) (vs : List Variable) (s : List ℕ) → length (withWritten dataOf vs s) ≡ length s
 unfolding withWritten

@@ -1,4 +1,4 @@
--- `machine::fresh_for` meets its contract: the file is judged, then the lent memory, which is zeroed. Assumes nothing.
+-- `machine::fresh_for` meets its contract: the file is judged, then the lent memory, which is filled. Assumes nothing.
 use mathlib.Core.Path.{refl, sym, ap, _∙_}
 use mathlib.Core.Bool.{not}
 use native.Mathlib.Omega.{arith}

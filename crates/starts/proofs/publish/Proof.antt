@@ -5,7 +5,8 @@ use native.Mathlib.Omega.{arith}
 use lib.ListN.{length}
 use borrow.Author.Needs.{needs}
 use Rattle.taskset.specs.declared.Layout.{Layout}
-use Rattle.starts.proofs.Laws.{length-buffer, Publishing, publishing-none, record-there, shared-fits, buffer-fits, publishing-more, copied-as, publishing-done}
+use Rattle.taskset.proofs.Accepted.{length-buffer}
+use Rattle.starts.proofs.Laws.{Publishing, publishing-none, record-there, shared-fits, buffer-fits, publishing-more, copied-as, publishing-done}
 use Rattle.starts.proofs.publish.Statement.{statement}
 use Rattle.starts.proofs.publish.Tie as tie
 use Rattle.starts.proofs.publish.Reads as reads

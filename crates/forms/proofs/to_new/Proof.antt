@@ -1,0 +1,98 @@
+-- Each return is the first refusal of the chain; then mark, body and counts are written. Assumes nothing.
+use mathlib.Core.Path.{sym, _∙_}
+use native.Mathlib.Omega.{arith}
+use lib.ListN.{length}
+use borrow.Author.Tests.{not-true, not-false}
+use Rattle.forms.proofs.Laws.{convert-refused, convert-granted, new-short, new-mark, new-file, new-length, new-room, new-none, new-written}
+use borrow.Author.Needs.{needs}
+use Rattle.forms.proofs.to_new.Statement.{statement}
+use Rattle.forms.proofs.to_new.Tie as tie
+use Rattle.forms.proofs.to_new.Reads as reads
+use Rattle.forms.proofs.to_new.Lts as lts
+use Rattle.forms.proofs.refused.Reads as refused-reads
+use Rattle.forms.proofs.write_form.Reads as write-form-reads
+use Rattle.memory.proofs.byte_at.Reads as byte-at-reads
+use Rattle.memory.proofs.store.Reads as store-reads
+use Rattle.taskset.proofs.is_old.Reads as is-old-reads
+use Rattle.taskset.proofs.judge_file.Reads as judge-file-reads
+
+refused-requires : tie.Need-refused-requires
+refused-requires c κs = search needs
+
+returns : tie.Need-returns
+returns c = convert-refused _ (c .before .before .before .before .args .out .now) _ 1 _ (c .refused .ensures) (new-short (c .before .before .before .before .args .f .now) _ (c .before .if1 .taken)) (λ e. absurd (let y : ⊥ = omega arith in y))
+
+is-old-requires : tie.Need-is-old-requires
+is-old-requires c κs = search needs
+
+refused-requires-2 : tie.Need-refused-requires-2
+refused-requires-2 c κs = search needs
+
+returns-2 : tie.Need-returns-2
+returns-2 c = convert-refused _ (c .before .before .before .before .before .before .args .out .now) _ 2 _ (c .refused2 .ensures) (new-mark (c .before .before .before .before .before .before .args .f .now) _ (c .before .before .before .if1 .left) (sym (c .before .before .is-old .ensures) ∙ not-true _ (c .before .if2 .taken))) (λ e. absurd (let y : ⊥ = omega arith in y))
+
+judge-file-requires : tie.Need-judge-file-requires
+judge-file-requires c κs = search needs
+
+refused-requires-3 : tie.Need-refused-requires-3
+refused-requires-3 c κs = search needs
+
+returns-3 : tie.Need-returns-3
+returns-3 c = convert-refused _ (c .before .before .before .before .before .before .before .before .args .out .now) _ _ _ (c .refused3 .ensures) (new-file (c .before .before .before .before .before .before .before .before .args .f .now) _ (c .before .before .before .before .before .if1 .left) (sym (c .before .before .before .before .is-old .ensures) ∙ not-false _ (c .before .before .before .if2 .left)) _ (c .before .before .judge-file .ensures) (c .before .if3 .taken)) (c .before .if3 .taken)
+
+byte-at-requires : tie.Need-byte-at-requires
+byte-at-requires c κs = search needs
+
+cast-counts : tie.Need-cast-counts
+cast-counts c = search needs
+
+mul-counts : tie.Need-mul-counts
+mul-counts c = search needs
+
+add-if4 : tie.Need-add-if4
+add-if4 c = search needs
+
+refused-requires-4 : tie.Need-refused-requires-4
+refused-requires-4 c κs = search needs
+
+returns-4 : tie.Need-returns-4
+returns-4 c = convert-refused _ (c .before .before .before .before .before .before .before .before .before .before .args .out .now) _ 21 _ (c .refused4 .ensures) (new-room (c .before .before .before .before .before .before .before .before .before .before .args .f .now) _ (c .before .before .before .before .before .before .before .if1 .left) (sym (c .before .before .before .before .before .before .is-old .ensures) ∙ not-false _ (c .before .before .before .before .before .if2 .left)) (sym (c .before .before .before .before .judge-file .ensures) ∙ c .before .before .before .if3 .left) _ (c .before .before .byte-at .ensures) (c .before .if4 .taken)) (λ e. absurd (let y : ⊥ = omega arith in y))
+
+write-form-requires : tie.Need-write-form-requires
+write-form-requires c κs = search needs
+
+store-requires : tie.Need-store-requires
+store-requires c κs = search needs
+
+add-t7 : tie.Need-add-t7
+add-t7 c = search needs
+
+same-length : tie.Need-same-length
+same-length c = search needs
+
+returns-5 : tie.Need-returns-5
+returns-5 c = convert-granted (c .before .before .before .before .before .before .before .before .before .before .before .before .before .before .before .before .before .before .args .out .now) _ _ _ _ (new-none (c .before .before .before .before .before .before .before .before .before .before .before .before .before .before .before .before .before .before .args .f .now) _ (c .before .before .before .before .before .before .before .before .before .before .before .before .before .before .before .if1 .left) (sym (c .before .before .before .before .before .before .before .before .before .before .before .before .before .before .is-old .ensures) ∙ not-false _ (c .before .before .before .before .before .before .before .before .before .before .before .before .before .if2 .left)) (sym (c .before .before .before .before .before .before .before .before .before .before .before .before .judge-file .ensures) ∙ c .before .before .before .before .before .before .before .before .before .before .before .if3 .left) _ (c .before .before .before .before .before .before .before .before .before .before .byte-at .ensures) (c .before .before .before .before .before .before .before .before .before .if4 .left)) (new-length (c .before .before .before .before .before .before .before .before .before .before .before .before .before .before .before .before .before .before .args .f .now) (length (c .before .before .before .before .before .before .before .before .before .before .before .before .before .before .before .before .before .before .args .out .now)) (c .before .before .before .before .before .before .before .before .before .before .before .before .before .before .before .if1 .left) (sym (c .before .before .before .before .before .before .before .before .before .before .before .before .before .before .is-old .ensures) ∙ not-false _ (c .before .before .before .before .before .before .before .before .before .before .before .before .before .if2 .left)) (sym (c .before .before .before .before .before .before .before .before .before .before .before .before .judge-file .ensures) ∙ c .before .before .before .before .before .before .before .before .before .before .before .if3 .left) _ (c .before .before .before .before .before .before .before .before .before .before .byte-at .ensures)) (new-written (c .before .before .before .before .before .before .before .before .before .before .before .before .before .before .before .before .before .before .args .f .now) (length (c .before .before .before .before .before .before .before .before .before .before .before .before .before .before .before .before .before .before .args .out .now)) (c .before .before .before .before .before .before .before .before .before .before .before .before .before .before .before .if1 .left) (sym (c .before .before .before .before .before .before .before .before .before .before .before .before .before .before .is-old .ensures) ∙ not-false _ (c .before .before .before .before .before .before .before .before .before .before .before .before .before .if2 .left)) (sym (c .before .before .before .before .before .before .before .before .before .before .before .before .judge-file .ensures) ∙ c .before .before .before .before .before .before .before .before .before .before .before .if3 .left) _ (c .before .before .before .before .before .before .before .before .before .before .byte-at .ensures) _ _ _ (c .before .before .before .before .before .before .write-form .ensures) (c .before .before .store .ensures))
+
+pub to-new-spec : {M : Type 1} → statement M
+to-new-spec =
+    tie.close
+    (tie.spec
+    refused-requires
+    returns
+    is-old-requires
+    refused-requires-2
+    returns-2
+    judge-file-requires
+    refused-requires-3
+    returns-3
+    byte-at-requires
+    cast-counts
+    mul-counts
+    add-if4
+    refused-requires-4
+    returns-4
+    write-form-requires
+    store-requires
+    add-t7
+    same-length
+    returns-5)

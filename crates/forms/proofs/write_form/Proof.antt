@@ -1,0 +1,31 @@
+-- The mark, and after it the bytes of the file. Assumes nothing.
+use mathlib.Core.Path.{ap, _∙_}
+use mathlib.Core.List.{List}
+use Prim.Native.Nat.{ℕ, _-_}
+use Rattle.memory.specs.Memory.{splice, part}
+use Rattle.forms.proofs.Laws.{whole-mark}
+use native.Mathlib.Omega.{arith}
+use borrow.Author.Needs.{needs}
+use Rattle.forms.proofs.write_form.Statement.{statement}
+use Rattle.forms.proofs.write_form.Tie as tie
+use Rattle.forms.proofs.write_form.Reads as reads
+use Rattle.forms.proofs.write_form.Lts as lts
+use Rattle.memory.proofs.copy.Reads as copy-reads
+
+copy-requires : tie.Need-copy-requires
+copy-requires c κs = search needs
+
+sub-copy : tie.Need-sub-copy
+sub-copy c = search needs
+
+copy-requires-2 : tie.Need-copy-requires-2
+copy-requires-2 c κs = search needs
+
+same-length : tie.Need-same-length
+same-length c = search needs
+
+returns : tie.Need-returns
+returns c = c .before .before .copy2 .ensures ∙ ap (λ (l : List ℕ). splice l 4 (part (c .before .before .before .before .before .before .before .before .before .before .before .args .f .now) 4 ((c .before .before .before .before .before .before .before .before .before .before .before .args .end) - 4))) (c .before .before .before .before .before .before .copy .ensures ∙ ap (splice (c .before .before .before .before .before .before .before .before .before .before .before .args .out .now) 0) (whole-mark (c .before .before .before .before .before .before .before .before .before .before .before .args .mark .now) (omega arith)))
+
+pub write-form-spec : {M : Type 1} → statement M
+write-form-spec = tie.close (tie.spec copy-requires sub-copy copy-requires-2 same-length returns)
