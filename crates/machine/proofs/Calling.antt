@@ -45,7 +45,7 @@ use Rattle.machine.specs.Calling.{Lending, entire, front, lentOf, replac
 use Rattle.runner.proofs.Running.{shared-in}
 use Rattle.runner.proofs.End.{listed-is, data-back}
 use Rattle.machine.proofs.Interleaving.{interleaved-machine}
-use Rattle.machine.proofs.Calls.{refuse-none, granted}
+use Rattle.machine.proofs.Calls.{refuse-none, granted, lent-sizes}
 use Rattle.machine.proofs.Back.{line-few, state-back, sized-back, held-back, held-twice}
 
 -- ---- one call
@@ -347,11 +347,11 @@ module _ (f t : List ℕ) (bytes : (i : ℕ) → getD f i 0 < 256) (trace-bytes 
     fresh-left = pick-true _ _ _ (eq-eqb _ _ e)
 
     fresh-lent : (judge f ≡ 0) × (length d ≡ total (sizesOf f)) × (length sh ≡ 1024)
-    unfolding freshRefusal lentFits
+    unfolding freshRefusal
     fresh-lent =
         let a = next-zero _ _ e in
-        let b = both-true _ _ (unless-zero _ 20 (a .1)) in
-        (a .0, eqb-true _ _ (b .0), eqb-true _ _ (b .1))
+        let b = lent-sizes f (length d) (length sh) (unless-zero _ 20 (a .1)) in
+        (a .0, b .0, b .1)
 
     -- the call for the fresh state leaves it
     pub fresh-whole : cores f ≤ 4 → wholeOf f (freshCall f d sh) ≡ freshOf f

@@ -182,6 +182,11 @@ module _ (f t : List ℕ) (h : State) (d sh order list : List ℕ) where
   unfolding runCall
   run-granted x e q = q ∙ sym (pick-true _ _ _ (eq-eqb _ _ e))
 
+-- lent memory that fits has its sizes
+pub lent-sizes : (f : List ℕ) (buffer shared : ℕ) → lentFits f buffer shared ≡ true → (buffer ≡ total (sizesOf f)) × (shared ≡ 1024)
+unfolding lentFits
+lent-sizes f buffer shared e = let b = both-true _ _ e in (eqb-true _ _ (b .0), eqb-true _ _ (b .1))
+
 -- the fresh state, under a profile
 module _ (o : Profile) (f : List ℕ) (d sh : List ℕ) where
   pub fresh-file-for : {r : ℕ} → r ≡ judgeFor o f → r ≢ 0 → r ≡ freshRefusalFor o f (length d) (length sh)

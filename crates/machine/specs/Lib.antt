@@ -4,3 +4,4 @@ pub mod Calling
 pub mod Fair
 pub mod Blank
 pub mod Profiles
+pub mod Starts
