@@ -12,7 +12,7 @@ use Rattle.verdict.specs.Verdict.{pick}
 use Rattle.verdict.proofs.Verdict.{pick-true, next-zero, unless-zero, first-zero}
 use Rattle.records.specs.File.{cores, limit}
 use Rattle.taskset.specs.Judge.{codeOf, judge}
-use Rattle.taskset.specs.Task.{sizesOf}
+use Rattle.taskset.specs.Starts.{startShared, startsOf}
 use Rattle.taskset.proofs.Accepted.{core-facts}
 use Rattle.taskset.proofs.Exact.{keeps-rules}
 use Rattle.taskset.specs.Trace.{traceRefusal}
@@ -59,7 +59,7 @@ module _ (f : List ℕ) (z : takesOf f .refusal ≡ 0) where
     pub promised : (t ks : List ℕ) → Promised f t ks k
     unfolding taskOf
     promised t ks =
-        let s = spared (taskOf f t) (codeOf f) (limit f) refl k rises (sizesOf f) ks in
+        let s = spared (taskOf f t) (codeOf f) (limit f) refl k rises (startsOf f) (startShared f) ks in
         let c = count-is in
         let d = depth-is in
         record { greatest = numbers; steps = record { limit-not-hit = λ l. s .0 (omega arith); calls-fit = λ l. s .1 (omega arith) } }

@@ -249,13 +249,13 @@ module _ (t : Task) (code : ℕ → List ℕ) (limit : ℕ → ℕ) (e : t .inst
   kept-run [] s h = h
   kept-run (j ∷ ks) s h = kept-run ks (step t j s) (kept-step j s (step t j s) _ h (view t j s))
 
-  kept-fresh : (sizes : List ℕ) (i : ℕ) → Holds (getD (map freshCore sizes) i absent)
+  kept-fresh : (memories : List (List ℕ)) (i : ℕ) → Holds (getD (map freshCore memories) i absent)
   kept-fresh [] i = rest _ (omega arith) (inl refl) (λ y. absurd (let z : ⊥ = omega arith in z))
-  kept-fresh (n ∷ ns) zero = rest _ (omega arith) (inr refl) (λ _. (refl, omega arith))
-  kept-fresh (n ∷ ns) (suc i) = kept-fresh ns i
+  kept-fresh (m ∷ ms) zero = rest _ (omega arith) (inr refl) (λ _. (refl, omega arith))
+  kept-fresh (m ∷ ms) (suc i) = kept-fresh ms i
 
-  -- after any steps from the fresh state
-  pub spared : (sizes ks : List ℕ)
-      → (longest (code k) ≤ limit k → flagBit 1 (core (run t ks (fresh sizes) .plant) k .registers .flags) ≡ 0)
-      × (deepest (code k) ≤ 16 → flagBit 5 (core (run t ks (fresh sizes) .plant) k .registers .flags) ≡ 0)
-  spared sizes ks = let w = kept-run ks (fresh sizes) (kept-fresh sizes k) in (w .unhit, w .unnested)
+  -- after any steps from the fresh state, whatever its memories hold
+  pub spared : (memories : List (List ℕ)) (shared ks : List ℕ)
+      → (longest (code k) ≤ limit k → flagBit 1 (core (run t ks (fresh memories shared) .plant) k .registers .flags) ≡ 0)
+      × (deepest (code k) ≤ 16 → flagBit 5 (core (run t ks (fresh memories shared) .plant) k .registers .flags) ≡ 0)
+  spared memories shared ks = let w = kept-run ks (fresh memories shared) (kept-fresh memories k) in (w .unhit, w .unnested)

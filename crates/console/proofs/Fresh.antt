@@ -4,9 +4,9 @@ use mathlib.Core.List.{List, _∷_}
 use Prim.Native.Nat.{ℕ, zero, suc, _≤_}
 use native.Mathlib.Omega.{arith}
 use lib.ListN.{length, take, replicate, length-replicate}
-use Rattle.memory.specs.Memory.{total}
 use Rattle.records.specs.File.{cores}
-use Rattle.taskset.specs.Task.{sizesOf}
+use Rattle.taskset.specs.Starts.{startShared, startBuffer}
+use Rattle.taskset.proofs.Accepted.{length-buffer, length-shared}
 use Rattle.states.specs.Set.{Set}
 use Rattle.states.specs.Fit.{stateRefusal, Fit}
 use Rattle.states.proofs.Fresh.{fresh-fit}
@@ -28,15 +28,11 @@ first-zeros (suc n) (suc m) h = ap (λ (l : List ℕ). 0 ∷ l) (first-zeros n m
 pub prefix : (n m : ℕ) → n ≤ m → n ≡ length (take n (zeros m))
 prefix n m h = sym (ap length (first-zeros n m h) ∙ length-replicate n 0)
 
--- the data buffer
-abbrev pub memory : List ℕ → List ℕ
-memory f = zeros (total (sizesOf f))
-
 -- ---- its refusal
 
 pub fresh-not-refused : (f t : List ℕ) → Set f t → stateRefusal f t (tableOf (cores f) 4) ≡ 0
 unfolding tableOf
 fresh-not-refused f t ok =
-    not-refused f t ok (tableOf (cores f) 4) (memory f) (zeros 1024)
-    record { memory = length-replicate (total (sizesOf f)) 0; shared = refl; places = refl; offsets = refl }
+    not-refused f t ok (tableOf (cores f) 4) (startBuffer f) (startShared f)
+    record { memory = length-buffer f; shared = length-shared f; places = refl; offsets = refl }
     ((refl, omega arith), subst (Fit f t) (sym (fresh-state f (ok .few))) (fresh-fit f t ok))

@@ -18,7 +18,9 @@ use Rattle.protocol.specs.Step.{step, run, Taking, taken, takingOf, takings, en
 use Rattle.records.specs.File.{cores}
 use Rattle.taskset.specs.Judge.{judge}
 use Rattle.taskset.specs.Task.{sizesOf}
+use Rattle.taskset.specs.Starts.{startShared, startBuffer}
 use Rattle.taskset.specs.Fresh.{freshOf}
+use Rattle.taskset.proofs.Accepted.{length-buffer, length-shared}
 use Rattle.taskset.specs.Trace.{traceRefusal}
 use Rattle.taskset.proofs.Exact.{keeps-rules}
 use Rattle.states.specs.declared.State.{State}
@@ -35,7 +37,7 @@ use Rattle.machine.proofs.Calling.{fresh-state}
 use Rattle.listing.specs.declared.Written.{Written}
 use Rattle.listing.specs.Writers.{textLeft, textCall}
 use Rattle.console.specs.Console.{tooLong, refusalOf, stateAfter, takingsOf, runText, coresText}
-use Rattle.console.proofs.Fresh.{zeros, fresh-not-refused}
+use Rattle.console.proofs.Fresh.{fresh-not-refused}
 
 -- ---- the number of takings: at most one a step
 
@@ -89,21 +91,20 @@ module _ (f t order d sh list : List ℕ) (lent : length d ≡ bufferSize f) (le
     unfolding freshRefusal
     accepted = next-zero _ _ (sym answered ∙ none) .0
 
-    left-fresh : left x d′ sh′ [] ≡ left (answerOf 0 (tableOf (cores f) 4)) (zeros (length d)) (zeros (length sh)) []
+    left-fresh : left x d′ sh′ [] ≡ left (answerOf 0 (tableOf (cores f) 4)) (startBuffer f) (startShared f) []
     unfolding freshCall
     left-fresh = began ∙ pick-true _ _ _ (eq-eqb _ _ (sym answered ∙ none))
 
     -- the run starts in the fresh state
-    from-fresh : (y : Left) → y ≡ runCall f t (x .state) d′ sh′ order list → y ≡ runCall f t (tableOf (cores f) 4) (zeros (total (sizesOf f))) (zeros 1024) order list
+    from-fresh : (y : Left) → y ≡ runCall f t (x .state) d′ sh′ order list → y ≡ runCall f t (tableOf (cores f) 4) (startBuffer f) (startShared f) order list
     from-fresh y e =
         e ∙ ap (λ (z : Left). runCall f t (z .answer .state) (z .memory) (z .shared) order list) left-fresh
-        ∙ ap₂ (λ (m n : ℕ). runCall f t (tableOf (cores f) 4) (zeros m) (zeros n) order list) (sized accepted) lent-shared
 
     -- ---- the run
 
     module _ (bytes : (i : ℕ) → getD f i 0 < 256) (trace-bytes : (i : ℕ) → getD t i 0 < 256) (room : length order ≤ length list) where
       abbrev calls : ℕ
-      calls = runRefusal f t (tableOf (cores f) 4) (zeros (total (sizesOf f))) (zeros 1024) order list
+      calls = runRefusal f t (tableOf (cores f) 4) (startBuffer f) (startShared f) order list
 
       -- where the trace isn't refused, the fresh state isn't
       held : (a b c : ℕ) → (a ≡ 0 → b ≡ 0) → next (next a b) c ≡ next a c
@@ -111,9 +112,9 @@ module _ (f t order d sh list : List ℕ) (lent : length d ≡ bufferSize f) (le
       held zero b c h = ap (λ (m : ℕ). next m c) (h refl)
       held (suc a) b c h = refl
 
-      lent-fits : lentFits f (length (zeros (total (sizesOf f)))) 1024 ≡ true
+      lent-fits : lentFits f (length (startBuffer f)) (length (startShared f)) ≡ true
       unfolding lentFits
-      lent-fits = rw (length-replicate {A = ℕ} (total (sizesOf f)) 0, eq-eqb (total (sizesOf f)) (total (sizesOf f)) refl) refl
+      lent-fits = rw (length-buffer f, length-shared f, eq-eqb (total (sizesOf f)) (total (sizesOf f)) refl) refl
 
       same-refusal : calls ≡ refusalOf f t order
       unfolding runRefusal callRefusal heldRefusal refusalOf
@@ -140,11 +141,11 @@ module _ (f t order d sh list : List ℕ) (lent : length d ≡ bufferSize f) (le
           none-refused : refusalOf f t order ≡ 0
           none-refused = sym run-answered ∙ no
 
-          all-ran : left y e k l ≡ ranCall f t (tableOf (cores f) 4) (zeros (total (sizesOf f))) (zeros 1024) order list
+          all-ran : left y e k l ≡ ranCall f t (tableOf (cores f) 4) (startBuffer f) (startShared f) order list
           unfolding runCall
           all-ran = from-fresh (left y e k l) ran ∙ pick-true _ _ _ (eq-eqb _ _ (same-refusal ∙ none-refused))
 
-          started : stateOf f (tableOf (cores f) 4) (zeros (total (sizesOf f))) (zeros 1024) ≡ freshOf f
+          started : stateOf f (tableOf (cores f) 4) (startBuffer f) (startShared f) ≡ freshOf f
           started = fresh-state f (keeps-rules f accepted .most-cores)
 
           state-is : y .state ≡ stateAfter f t order
@@ -163,7 +164,7 @@ module _ (f t order d sh list : List ℕ) (lent : length d ≡ bufferSize f) (le
           unfolding ranCall takingsOf
           takings-are =
               ap (λ (z : Left). take (z .answer .taken) (z .order)) all-ran
-              ∙ front (stateOf f (tableOf (cores f) 4) (zeros (total (sizesOf f))) (zeros 1024))
+              ∙ front (stateOf f (tableOf (cores f) 4) (startBuffer f) (startShared f))
               ∙ ap (orderList (taskOf f t) order) started
 
           pub run-listed : listing (y .state .count) (y .state) (take (y .taken) l) ≡ runText f t order
@@ -192,7 +193,7 @@ module _ (f t order : List ℕ) where
 
 pub short-order : (a b c : ℕ) → tooLong a b c ≡ false → c ≤ 4096
 unfolding tooLong
-short-order a b c e = go (ltb 33600 a) (ltb 4096 b) e
+short-order a b c e = go (ltb 82800 a) (ltb 4096 b) e
   where
     go : (x y : Bool) → either x (either y (ltb 4096 c)) ≡ false → c ≤ 4096
     go true y q = absurd-bool (sym q)

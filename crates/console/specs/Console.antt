@@ -21,9 +21,9 @@ use Rattle.listing.specs.Listing.{listing, refusedText, longText}
 
 -- ---- a longer file
 
--- the task set to 33,600 bytes, trace and order to 4,096 each
+-- the task set to 82,800 bytes (document 02, 2.12), trace and order to 4,096 each
 unfoldable pub tooLong : ℕ → ℕ → ℕ → Bool
-tooLong file trace order = either (ltb 33600 file) (either (ltb 4096 trace) (ltb 4096 order))
+tooLong file trace order = either (ltb 82800 file) (either (ltb 4096 trace) (ltb 4096 order))
 
 -- ---- the refusal of the task set, of the trace (22) and of the order (20)
 

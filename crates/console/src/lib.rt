@@ -8,7 +8,7 @@ ghost use Rattle.machine.specs.Calls.{bufferSize};
 ghost use Rattle.console.specs.Console.{tooLong, runText, coresText};
 
 // The most bytes of a task set, of a trace and of an order. Who reads files for `output` reads one byte more, so that a longer one is seen.
-pub const MOST_FILE: usize = 33600;
+pub const MOST_FILE: usize = 82800;
 
 pub const MOST_TRACE: usize = 4096;
 

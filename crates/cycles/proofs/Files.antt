@@ -25,9 +25,10 @@ use Rattle.code.specs.Instructions.{typedAt, instructionAt, instructionLength}
 use Rattle.code.specs.Code.{instructionOk, instructionRefusal, laid, startFrom, isStart, allFrom, targetOk, lastFrom, judgeCodeFor}
 use Rattle.processor.specs.Processor.{placeOf, dataPart, meaning, executed}
 use Rattle.records.specs.Records.{coreOk, coreRefusal, oneWriter, placeOk, partOk, partsOk, variableOk, variableRefusal, meets, meetsShared, meetsIn, overlap, pairRefusal, overlapRefusal}
-use Rattle.taskset.specs.Judge.{isMark, headRefusal, variablesRefusal, codePlace, sectionRefusal, codesRefusal, judgeFor, judge}
+use Rattle.taskset.specs.Judge.{marked, headRefusal, variablesRefusal, codePlace, sectionRefusal, startPlace, startsRefusal, codesRefusal, judgeFor, judge}
 use Rattle.taskset.specs.Trace.{tracePlace, traceRefusal}
 use Rattle.taskset.specs.Task.{listed, sizesOf, variablesOf, sampleAt, samplesOf}
+use Rattle.taskset.specs.Starts.{withPairs, startData, writerOf, withWritten, startShared}
 use Rattle.states.specs.Task.{taskOf}
 use Rattle.taskset.proofs.Blank.{blank-trace}
 use Rattle.cycles.specs.Files.{listingFile, listingTrace, listingSteps, ringFile, openFile, ringTrace, ringSteps, openSteps}
@@ -42,12 +43,12 @@ files = tt
 
 -- a file and a trace are judged
 judging : Unit {0}
-unfolding files pick next unless first part valueLE readLE takes layoutOf lengthOf typedAt instructionAt instructionLength instructionOk instructionRefusal laid startFrom isStart allFrom targetOk lastFrom judgeCodeFor readsIt writesIt coreOk coreRefusal oneWriter placeOk partOk partsOk variableOk variableRefusal meets meetsShared meetsIn overlap pairRefusal overlapRefusal isMark headRefusal variablesRefusal codePlace sectionRefusal codesRefusal judgeFor tracePlace traceRefusal
+unfolding files pick next unless first part valueLE readLE takes layoutOf lengthOf typedAt instructionAt instructionLength instructionOk instructionRefusal laid startFrom isStart allFrom targetOk lastFrom judgeCodeFor readsIt writesIt coreOk coreRefusal oneWriter placeOk partOk partsOk variableOk variableRefusal meets meetsShared meetsIn overlap pairRefusal overlapRefusal marked headRefusal variablesRefusal codePlace sectionRefusal startPlace startsRefusal codesRefusal judgeFor tracePlace traceRefusal
 judging = tt
 
 -- the cores move, with NOT and RETURN for instructions
 unfoldable pub steps-compute : Unit {0}
-unfolding files pick part valueLE readLE bytesLE splice listed sizesOf variablesOf sampleAt samplesOf codePlace tracePlace readsIt writesIt layoutOf lengthOf typedAt instructionAt instructionLength widthOf typed patternOf stored onBits NOT result resultType resultWidth secondWidth command zeroDivisor beyond performed placeOf dataPart meaning executed applied limited instructionBy warm advanced cycleEnded readAcquired byteCopied readReleased writeAcquired writeReleased readTaken readNext readDone writeTaken writeNext writeDone step takingOf wholeOne cycle taskOf
+unfolding files pick part valueLE readLE bytesLE splice listed sizesOf variablesOf marked startPlace withPairs startData writerOf withWritten startShared sampleAt samplesOf codePlace tracePlace readsIt writesIt layoutOf lengthOf typedAt instructionAt instructionLength widthOf typed patternOf stored onBits NOT result resultType resultWidth secondWidth command zeroDivisor beyond performed placeOf dataPart meaning executed applied limited instructionBy warm advanced cycleEnded readAcquired byteCopied readReleased writeAcquired writeReleased readTaken readNext readDone writeTaken writeNext writeDone step takingOf wholeOne cycle taskOf
 steps-compute = tt
 
 -- ---- a core of the ring

@@ -9,7 +9,7 @@ use native.Mathlib.Omega.{arith}
 use lib.ListN.{replicate}
 use Rattle.memory.specs.Memory.{byte}
 use Rattle.protocol.specs.State.{Core, Plant, Task}
-use Rattle.protocol.specs.Fresh.{freshCore}
+use Rattle.protocol.specs.Fresh.{freshCore, zeros}
 use Rattle.protocol.specs.Cycles.{cycle, cycles}
 use Rattle.states.specs.Task.{taskOf}
 use Rattle.cycles.specs.Files.{ringFile, ringTrace}
@@ -29,7 +29,7 @@ published wrote1 = 1
 published wrote0 = 0
 
 abbrev coreOf : Written → Core
-coreOf nothing = freshCore 2
+coreOf nothing = freshCore (zeros 2)
 coreOf wrote1 = ringCore 0 1
 coreOf wrote0 = ringCore 1 0
 

@@ -159,7 +159,7 @@ module _ (f : List ℕ) (accepted : judge f ≡ 0) (old : isOld f ≡ true) wher
   new-sections : startSections (toNew f) ≡ cores (toNew f)
   new-sections = pick-true (isNew (toNew f)) (cores (toNew f)) 0 new-marked
 
-  no-count : (k : ℕ) → word (toNew f) (startPlace (toNew f) k) ≡ 0
+  pub no-count : (k : ℕ) → word (toNew f) (startPlace (toNew f) k) ≡ 0
   no-count k =
       ap (word (toNew f)) (sym (start-place-alike f (toNew f) new-alike k))
       ∙ sym (word-alike f (toNew f) new-alike (startPlace f k) (omega (arith, start-least f k)))

@@ -1,3 +1,4 @@
 pub mod Alike
 pub mod BothWays
 pub mod Laws
+pub mod RunsAlike

@@ -23,7 +23,9 @@ use Rattle.records.specs.File.{cores}
 use Rattle.taskset.specs.Judge.{judge}
 use Rattle.taskset.specs.Trace.{traceRefusal}
 use Rattle.taskset.specs.Task.{sizesOf}
+use Rattle.taskset.specs.Starts.{startShared, startBuffer}
 use Rattle.taskset.specs.Fresh.{freshOf}
+use Rattle.taskset.proofs.Accepted.{length-buffer, length-shared}
 use Rattle.taskset.proofs.Accepted.{length-listed}
 use Rattle.semaphore.specs.declared.Semaphore.{Semaphore}
 use Rattle.semaphore.specs.Line.{semaphoreOf}
@@ -331,23 +333,17 @@ module _ (f : List ℕ) (ys : List Core) (p : Semaphore) (d sh : List ℕ) (e : 
   made = stored ys (acceptedOf (loaded ys) (tableOf (cores f) 4))
 
   -- what it left
-  fresh-left : freshLent f ys p d sh ≡ lent 0 made (tableOf (cores f) 4 .semaphore) (replicate (length d) 0) (replicate (length sh) 0) []
+  fresh-left : freshLent f ys p d sh ≡ lent 0 made (tableOf (cores f) 4 .semaphore) (startBuffer f) (startShared f) []
   unfolding freshLent freshTable freshCall tableOf
   fresh-left =
       ap (λ (l : Left). written ys (onTable (loaded ys) p l)) (pick-true _ _ _ fresh-long ∙ pick-true _ _ _ (eq-eqb _ 0 fresh-granted))
-      ∙ ap (written ys) (on-accepted (loaded ys) p (answerOf 0 (tableOf (cores f) 4)) (replicate (length d) 0) (replicate (length sh) 0) [] refl)
-      ∙ ap (λ (l : List Core). lent 0 l (tableOf (cores f) 4 .semaphore) (replicate (length d) 0) (replicate (length sh) 0) []) (pick-true _ _ _ refl)
+      ∙ ap (written ys) (on-accepted (loaded ys) p (answerOf 0 (tableOf (cores f) 4)) (startBuffer f) (startShared f) [] refl)
+      ∙ ap (λ (l : List Core). lent 0 l (tableOf (cores f) 4 .semaphore) (startBuffer f) (startShared f) []) (pick-true _ _ _ refl)
 
   -- what the call by value leaves
-  value-left : freshCall f d sh ≡ left (answerOf 0 (tableOf (cores f) 4)) (replicate (length d) 0) (replicate (length sh) 0) []
+  value-left : freshCall f d sh ≡ left (answerOf 0 (tableOf (cores f) 4)) (startBuffer f) (startShared f) []
   unfolding freshCall
   value-left = pick-true _ _ _ (eq-eqb _ 0 fresh-granted)
-
-  fresh-fits : (length d ≡ total (sizesOf f)) × (length sh ≡ 1024)
-  unfolding freshRefusal lentFits
-  fresh-fits =
-      let b = both-true _ _ (unless-zero _ 20 (next-zero _ _ fresh-granted .1)) in
-      (eqb-true _ _ (b .0), eqb-true _ _ (b .1))
 
   module _ (t : List ℕ) (ok : Set f t) where
     enough : cores f ≤ length ys
@@ -357,17 +353,17 @@ module _ (f : List ℕ) (ys : List Core) (p : Semaphore) (d sh : List ℕ) (e : 
         go true l = omega (arith, leb-true (cores f) (counted (length ys)) fresh-long, pick-true (ltb (length ys) 255) (length ys) 255 l)
         go false l = omega (arith, ok .few, ltb-false (length ys) 255 l)
 
-    value-fresh : stateOf f (tableOf (cores f) 4) (replicate (length d) 0) (replicate (length sh) 0) ≡ freshOf f
-    value-fresh = ap₂ (λ (m n : ℕ). stateOf f (tableOf (cores f) 4) (replicate m 0) (replicate n 0)) (fresh-fits .0) (fresh-fits .1) ∙ fresh-state f (ok .few)
+    value-fresh : stateOf f (tableOf (cores f) 4) (startBuffer f) (startShared f) ≡ freshOf f
+    value-fresh = fresh-state f (ok .few)
 
-    value-lendable : Lendable f t (left (answerOf 0 (tableOf (cores f) 4)) (replicate (length d) 0) (replicate (length sh) 0) [])
+    value-lendable : Lendable f t (left (answerOf 0 (tableOf (cores f) 4)) (startBuffer f) (startShared f) [])
     unfolding tableOf
     value-lendable = record {
       count = refl;
       line = omega arith;
       sized = record {
-        memory = length-replicate {A = ℕ} (length d) 0 ∙ fresh-fits .0;
-        shared = length-replicate {A = ℕ} (length sh) 0 ∙ fresh-fits .1;
+        memory = length-buffer f;
+        shared = length-shared f;
         places = length-replicate {A = ℕ} 64 0;
         offsets = length-replicate {A = ℕ} 64 0;
       };
@@ -382,14 +378,14 @@ module _ (f : List ℕ) (ys : List Core) (p : Semaphore) (d sh : List ℕ) (e : 
     at k l = getD-take (cores f) made k noCore l ∙ stored-at (tableOf (cores f) 4) ys (cores f) (ok .few) refl enough k l
 
     abbrev begun : Lent
-    begun = lent 0 made (tableOf (cores f) 4 .semaphore) (replicate (length d) 0) (replicate (length sh) 0) []
+    begun = lent 0 made (tableOf (cores f) 4 .semaphore) (startBuffer f) (startShared f) []
 
     pub fresh-ready : Ready f t (freshLent f ys p d sh)
     unfolding tableOf
     fresh-ready = subst (Ready f t) (sym fresh-left) record {
       rows = omega (arith, stored-length ys (acceptedOf (loaded ys) (tableOf (cores f) 4)), enough);
       lendable =
-          lendable-same f (ok .few) (tableOf (cores f) 4) (value-lendable .sized .places) (value-lendable .sized .offsets) (take (cores f) made) full at t (replicate (length d) 0) (replicate (length sh) 0) [] [] 0 0
+          lendable-same f (ok .few) (tableOf (cores f) 4) (value-lendable .sized .places) (value-lendable .sized .offsets) (take (cores f) made) full at t (startBuffer f) (startShared f) [] [] 0 0
           value-lendable;
     }
 
@@ -397,7 +393,7 @@ module _ (f : List ℕ) (ys : List Core) (p : Semaphore) (d sh : List ℕ) (e : 
     unfolding tableOf
     lent-fresh =
         ap (wholeLent f) fresh-left
-        ∙ state-same f (ok .few) (tableOf (cores f) 4) (value-lendable .sized .places) (value-lendable .sized .offsets) (take (cores f) made) full at (replicate (length d) 0) (replicate (length sh) 0)
+        ∙ state-same f (ok .few) (tableOf (cores f) 4) (value-lendable .sized .places) (value-lendable .sized .offsets) (take (cores f) made) full at (startBuffer f) (startShared f)
         ∙ value-fresh
 
 -- ---- demand 3 of every list of lent calls; that f and t are bytes is known of the types
