@@ -1,7 +1,7 @@
 //! A task set file under construction: its fields with any values, sound or not, and a small assembler for code.
 
 use crate::reference::command::*;
-use crate::reference::FILE_MARK;
+use crate::reference::{FILE_MARK, NEW_MARK};
 
 #[derive(Clone, Debug)]
 pub struct CoreRecord {
@@ -26,6 +26,13 @@ pub struct Code {
     pub starts: Vec<u16>,
 }
 
+/// The start values of a core, with the count that the file states.
+#[derive(Clone, Debug, Default)]
+pub struct Values {
+    pub count: u16,
+    pub pairs: Vec<(u16, u8)>,
+}
+
 #[derive(Clone, Debug)]
 pub struct Draft {
     pub mark: [u8; 4],
@@ -34,7 +41,9 @@ pub struct Draft {
     pub variable_count: u8,
     pub variables: Vec<Variable>,
     pub code: Vec<Code>,
-    /// What follows the last code.
+    /// Of the new form, one for each core; none in the old form.
+    pub values: Vec<Values>,
+    /// What follows the last section.
     pub rest: Vec<u8>,
 }
 
@@ -48,8 +57,15 @@ impl Draft {
             variable_count: variables.len() as u8,
             variables,
             code,
+            values: Vec::new(),
             rest: Vec::new(),
         }
+    }
+
+    /// The same file in the new form, with these start values.
+    pub fn with_values(self, pairs: Vec<Vec<(u16, u8)>>) -> Draft {
+        let values = pairs.into_iter().map(|pairs| Values { count: pairs.len() as u16, pairs }).collect();
+        Draft { mark: NEW_MARK, values, ..self }
     }
 
     /// One core without variables.
@@ -78,6 +94,13 @@ impl Draft {
         for code in &self.code {
             file.extend(code.length.to_le_bytes());
             file.extend(&code.bytes);
+        }
+        for values in &self.values {
+            file.extend(values.count.to_le_bytes());
+            for (place, byte) in &values.pairs {
+                file.extend(place.to_le_bytes());
+                file.push(*byte);
+            }
         }
         file.extend(&self.rest);
         file

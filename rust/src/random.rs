@@ -58,7 +58,20 @@ pub fn task_set(random: &mut Random) -> Draft {
     let cores: Vec<CoreRecord> = (0..random.between(1, MOST_CORES)).map(|_| core_record(random)).collect();
     let variables = variables(random, &cores);
     let code = cores.iter().map(|core| code(random, core.data_size as usize)).collect();
-    Draft::new(cores, variables, code)
+    let draft = Draft::new(cores, variables, code);
+    if random.once_in(2) {
+        return draft;
+    }
+    let pairs = draft.cores.iter().map(|core| start_values(random, core.data_size)).collect();
+    draft.with_values(pairs)
+}
+
+/// Start values with rising places: none, a few, the first and the last place, or the whole data.
+fn start_values(random: &mut Random, data_size: u16) -> Vec<(u16, u8)> {
+    let share = random.pick(&[0, 1, 1, 4, 16]);
+    let ends = random.once_in(4);
+    let chosen = |random: &mut Random, place| (share > 0 && random.below(16) < share) || (ends && (place == 0 || place == data_size - 1));
+    (0..data_size).filter(|&place| chosen(random, place)).collect::<Vec<u16>>().into_iter().map(|place| (place, random.byte())).collect()
 }
 
 fn core_record(random: &mut Random) -> CoreRecord {
@@ -634,15 +647,54 @@ fn overlap(random: &mut Random, draft: &mut Draft, in_shared: bool) -> bool {
     true
 }
 
+/// Changes the start values of a core that has so many at least, and states their number; with the core's data size.
+fn with_pairs(random: &mut Random, draft: &mut Draft, least: usize, change: impl FnOnce(&mut Random, &mut Vec<(u16, u8)>, u16)) -> bool {
+    let k = random.below(draft.cores.len());
+    let data_size = draft.cores[k].data_size;
+    let Some(values) = draft.values.get_mut(k).filter(|values| values.pairs.len() >= least) else { return false };
+    change(random, &mut values.pairs, data_size);
+    values.count = values.pairs.len() as u16;
+    true
+}
+
 pub const FILE_DAMAGES: &[FileDamage] = &[
-    ("bytes after the last code", refusal::LEFT_OVER, |random, draft| {
+    ("bytes after the last section", refusal::LEFT_OVER, |random, draft| {
         let count = random.between(1, 3);
         draft.rest = random.bytes(count);
         true
     }),
+    ("a start place twice", refusal::START_PLACE, |random, draft| {
+        with_pairs(random, draft, 1, |random, pairs, _| {
+            let at = random.below(pairs.len());
+            let again = (pairs[at].0, random.byte());
+            pairs.insert(at + 1, again);
+        })
+    }),
+    ("a start place below the one before", refusal::START_PLACE, |random, draft| {
+        with_pairs(random, draft, 2, |random, pairs, _| {
+            let at = random.below(pairs.len() - 1);
+            pairs.swap(at, at + 1);
+        })
+    }),
+    ("a start place beyond the data", refusal::START_PLACE, |random, draft| {
+        with_pairs(random, draft, 0, |random, pairs, data_size| {
+            let beyond = random.pick(&[data_size, data_size + 1, 65_535]);
+            pairs.push((beyond, random.byte()));
+        })
+    }),
+    ("a start place beyond the data, and bytes after it", refusal::START_PLACE, |random, draft| {
+        draft.rest = random.bytes(3);
+        with_pairs(random, draft, 0, |random, pairs, data_size| pairs.push((data_size, random.byte())))
+    }),
+    ("a start value that is not there", refusal::FILE_END, |random, draft| {
+        let Some(last) = draft.values.last_mut() else { return false };
+        last.count += random.between(1, 3) as u16;
+        draft.rest.clear();
+        true
+    }),
     ("mark", refusal::MARK, |random, draft| {
         draft.mark[random.below(4)] ^= random.between(1, 255) as u8;
-        true
+        draft.mark != FILE_MARK && draft.mark != NEW_MARK
     }),
     ("core count", refusal::CORE_RECORD, |random, draft| {
         draft.core_count = if random.once_in(2) { 0 } else { random.between(5, 255) as u8 };
@@ -1131,7 +1183,7 @@ fn damage_file(random: &mut Random, draft: &mut Draft, case: &mut Case) {
         }
         3..=5 => {
             // Two at once, perhaps with a cut: which is judged first is for the machines to agree on. The first leaves the code's layout.
-            let first = |damage: &FileDamage| damage.1 <= refusal::OVERLAP || matches!(damage.1, refusal::TARGET | refusal::LEFT_OVER);
+            let first = |damage: &FileDamage| damage.1 <= refusal::OVERLAP || matches!(damage.1, refusal::TARGET | refusal::LEFT_OVER | refusal::START_PLACE);
             let firsts: Vec<FileDamage> = FILE_DAMAGES.iter().copied().filter(first).collect();
             let one = random.pick(&firsts);
             damage_draft(random, draft, case, one);

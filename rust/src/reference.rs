@@ -24,10 +24,12 @@ pub mod refusal {
     pub const UNFIT: u8 = 23;
     pub const LEFT_OVER: u8 = 24;
     pub const WIDE_TYPE: u8 = 27;
+    pub const START_PLACE: u8 = 31;
+    pub const START_VALUES: u8 = 32;
 
     /// Whether a task set file is refused with this number.
     pub fn of_file(number: u8) -> bool {
-        matches!(number, FILE_END..=TARGET | LEFT_OVER | WIDE_TYPE)
+        matches!(number, FILE_END..=TARGET | LEFT_OVER | WIDE_TYPE | START_PLACE)
     }
 }
 
@@ -111,6 +113,8 @@ pub mod flag {
 }
 
 pub const FILE_MARK: [u8; 4] = *b"MCS1";
+/// The mark of a file that has start values after its code.
+pub const NEW_MARK: [u8; 4] = *b"MCS2";
 pub const SHARED_SIZE: usize = 1024;
 pub const MOST_CORES: usize = 4;
 pub const MOST_VARIABLES: usize = 64;
@@ -333,6 +337,8 @@ struct Task<'f> {
     starts: CodePlaces,
     reads: Moves,
     writes: Moves,
+    /// Start values, three bytes each: a place and a byte.
+    values: &'f [u8],
 }
 
 struct TaskSet<'f> {
@@ -376,11 +382,12 @@ impl<'f> TaskSet<'f> {
     /// Judges the file front to back: presence of each item, then the item.
     fn load_for(profile: Profile, file: &'f [u8]) -> Judged<TaskSet<'f>> {
         let mut reader = Reader(file);
-        demand(reader.bytes(FILE_MARK.len())? == FILE_MARK, refusal::MARK)?;
+        let mark = reader.bytes(FILE_MARK.len())?;
+        demand(mark == FILE_MARK || mark == NEW_MARK, refusal::MARK)?;
         let count = reader.byte()? as usize;
         demand((1..=MOST_CORES).contains(&count), refusal::CORE_RECORD)?;
         const EMPTY: Task =
-            Task { data_size: 0, input_size: 0, limit: 0, code: &[], starts: CodePlaces::NONE, reads: Moves::NONE, writes: Moves::NONE };
+            Task { data_size: 0, input_size: 0, limit: 0, code: &[], starts: CodePlaces::NONE, reads: Moves::NONE, writes: Moves::NONE, values: &[] };
         let mut set = TaskSet { count, tasks: [EMPTY; MOST_CORES] };
         for task in &mut set.tasks[..count] {
             load_core(profile, &mut reader, task)?;
@@ -391,6 +398,11 @@ impl<'f> TaskSet<'f> {
             demand((1..=MOST_CODE).contains(&length), refusal::CODE)?;
             task.code = reader.bytes(length)?;
             judge_code(profile, task.code, &mut task.starts)?;
+        }
+        if mark == NEW_MARK {
+            for task in &mut set.tasks[..count] {
+                task.values = load_values(&mut reader, task.data_size)?;
+            }
         }
         demand(reader.0.is_empty(), refusal::LEFT_OVER)?;
         Ok(set)
@@ -426,6 +438,24 @@ impl<'f> TaskSet<'f> {
         demand(!overlap, refusal::OVERLAP)
     }
 
+    /// The fresh memories: zeros and the start values; in shared memory, what each writer has of its variables.
+    fn fill(&self, buffer: &mut [u8], shared: &mut [u8]) {
+        buffer.fill(0);
+        shared.fill(0);
+        let mut rest = buffer;
+        for task in &self.tasks[..self.count] {
+            let (data, after) = rest.split_at_mut(task.data_size);
+            for value in task.values.chunks_exact(3) {
+                data[word(value, 0) as usize] = value[2];
+            }
+            for write in &task.writes.list[..task.writes.count] {
+                let width = write.width as usize;
+                shared[write.shared as usize..][..width].copy_from_slice(&data[write.local as usize..][..width]);
+            }
+            rest = after;
+        }
+    }
+
     fn data_total(&self) -> usize {
         self.tasks[..self.count].iter().map(|task| task.data_size).sum()
     }
@@ -440,6 +470,20 @@ fn load_core(profile: Profile, reader: &mut Reader, task: &mut Task) -> Judged<(
     demand((1..=most).contains(&task.data_size), refusal::CORE_RECORD)?;
     demand(task.input_size <= task.data_size, refusal::CORE_RECORD)?;
     demand(task.limit >= 1, refusal::CORE_RECORD)
+}
+
+/// A count, then so many start values; each place lies in the data and above the one before.
+fn load_values<'f>(reader: &mut Reader<'f>, data_size: usize) -> Judged<&'f [u8]> {
+    let count = word(reader.bytes(2)?, 0) as usize;
+    let all = reader.0;
+    let mut before = None;
+    for _ in 0..count {
+        let place = word(reader.bytes(3)?, 0);
+        demand((place as usize) < data_size, refusal::START_PLACE)?;
+        demand(before.is_none_or(|before| before < place), refusal::START_PLACE)?;
+        before = Some(place);
+    }
+    Ok(&all[..3 * count])
 }
 
 /// The cores that a sound attribute byte names, bit k for core k.
@@ -1196,8 +1240,7 @@ pub fn fresh_for(profile: Profile, file: &[u8], table: &mut [Core], semaphore: &
         judge_sizes(&set, buffer, shared)?;
         table.get_mut(..set.count).ok_or(refusal::SIZES)?.fill(Core::fresh());
         *semaphore = Semaphore::default();
-        buffer.fill(0);
-        shared.fill(0);
+        set.fill(buffer, shared);
         Ok(())
     }))
 }
@@ -1305,9 +1348,32 @@ pub fn next_core(file: &[u8], trace: &[u8], table: &[Core], semaphore: &Semaphor
     Ok(ring.filter(|&k| would_move(k as u8, &table[k], inputs[k].count, semaphore)).map(|k| k as u8).next())
 }
 
+// ---- the two forms of a file
+
+/// A file of the old form in the new one, with a count of 0 for each core; the length that was written.
+pub fn to_new(file: &[u8], out: &mut [u8]) -> Judged<usize> {
+    demand(file.len() >= 4, refusal::FILE_END)?;
+    demand(file[..4] == FILE_MARK, refusal::MARK)?;
+    let set = TaskSet::load(file)?;
+    let made = [&NEW_MARK, &file[4..], &[0; 2 * MOST_CORES][..2 * set.count]].concat();
+    out.get_mut(..made.len()).ok_or(refusal::SIZES)?.copy_from_slice(&made);
+    Ok(made.len())
+}
+
+/// A file of the new form without start values in the old one.
+pub fn to_old(file: &[u8], out: &mut [u8]) -> Judged<usize> {
+    demand(file.len() >= 4, refusal::FILE_END)?;
+    demand(file[..4] == NEW_MARK, refusal::MARK)?;
+    let set = TaskSet::load(file)?;
+    demand(set.tasks.iter().all(|task| task.values.is_empty()), refusal::START_VALUES)?;
+    let made = [&FILE_MARK, &file[4..file.len() - 2 * set.count]].concat();
+    out.get_mut(..made.len()).ok_or(refusal::SIZES)?.copy_from_slice(&made);
+    Ok(made.len())
+}
+
 // ---- the program `cores`
 
-pub const LONGEST_TASK: usize = 33_600;
+pub const LONGEST_TASK: usize = 82_800;
 pub const LONGEST_TRACE: usize = 4096;
 pub const LONGEST_ORDER: usize = 4096;
 
@@ -1322,9 +1388,10 @@ pub fn cores(file: &[u8], trace: &[u8], order: &[u8]) -> String {
 fn listing(file: &[u8], trace: &[u8], order: &[u8]) -> Judged<String> {
     let set = TaskSet::load(file)?;
     let mut table = vec![Core::fresh(); set.count];
-    let mut buffer = vec![0; set.data_total()];
+    let (mut buffer, mut shared) = (vec![0; set.data_total()], [0; SHARED_SIZE]);
+    set.fill(&mut buffer, &mut shared);
     let (mut list, mut taken) = (vec![0; order.len()], 0);
-    let number = run(file, trace, &mut table, &mut Semaphore::default(), &mut buffer, &mut [0; SHARED_SIZE], order, &mut list, &mut taken);
+    let number = run(file, trace, &mut table, &mut Semaphore::default(), &mut buffer, &mut shared, order, &mut list, &mut taken);
     demand(number == refusal::NONE, number)?;
     let mut text = "core mode cycles flags count\n".to_string();
     for (k, Core { registers: r, .. }) in table.iter().enumerate() {

@@ -1,5 +1,5 @@
 -- What the converters answer and write, refused or not. In order: a call; the new form; the old form. Assumes nothing.
-use mathlib.Core.Path.{_≡_, refl, sym, ap, ap₂, _∙_}
+use mathlib.Core.Path.{_≡_, refl, sym, ap, ap₂, _∙_, subst}
 use mathlib.Core.Logic.{_≢_}
 use mathlib.Core.Bool.{Bool, true, false}
 use mathlib.Core.List.{List, [], _∷_, _++_}
@@ -16,7 +16,7 @@ use Rattle.protocol.specs.Fresh.{zeros}
 use Rattle.records.specs.File.{cores}
 use Rattle.taskset.specs.Judge.{oldMark, newMark, isOld, isNew, codePlace, startPlace, judge}
 use Rattle.forms.specs.declared.Converted.{Converted}
-use Rattle.forms.specs.Forms.{bodyOf, toNew, toOld, noStarts, toNewRefusal, toOldRefusal, Given, convertCall}
+use Rattle.forms.specs.Forms.{bodyOf, toNew, toOld, noStarts, toNewRefusal, toOldRefusal, Given, convertCall, ConvertedLent, convertedLent, lentBy}
 use Rattle.forms.proofs.BothWays.{long, length-body, body-begins, length-old, length-new, old-ends, none-short, short-none, none-tested, tested-none}
 
 -- ---- a call
@@ -38,6 +38,17 @@ pub convert-granted : (out out′ g : List ℕ) (l n : ℕ) → n ≡ 0 → l �
 unfolding convertCall
 convert-granted out out′ g l n z e q =
     ap₂ (λ (m : ℕ) (o : List ℕ). record { answer = record { refusal = 0; length = m }; output = o }) e q ∙ sym (pick-true _ _ _ (eq-eqb n 0 z))
+
+-- over C
+pub lent-refused : (x : Converted) (out : List ℕ) (y : Given) (place : ℕ) → _≡_ {A = Given} (record { answer = x; output = out }) y → x .refusal ≢ 0 → convertedLent (x .refusal) place out ≡ lentBy y place
+unfolding lentBy
+lent-refused x out y place e n = subst (λ (z : Given). convertedLent (x .refusal) place out ≡ lentBy z place) e (ap (λ (m : ℕ). convertedLent (x .refusal) m out) (sym (pick-false _ _ _ (ne-eqb (x .refusal) 0 n))))
+
+pub lent-granted : (x : Converted) (out : List ℕ) (y : Given) (place : ℕ) → _≡_ {A = Given} (record { answer = x; output = out }) y → x .refusal ≡ 0 → convertedLent 0 (x .length) out ≡ lentBy y place
+unfolding lentBy
+lent-granted x out y place e z =
+    subst (λ (w : Given). convertedLent 0 (x .length) out ≡ lentBy w place) e
+    (ap₂ (λ (r m : ℕ). convertedLent r m out) (sym z) (sym (pick-true _ _ _ (eq-eqb (x .refusal) 0 z))))
 
 -- ---- the new form
 

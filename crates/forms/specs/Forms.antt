@@ -1,7 +1,7 @@
 -- Document 02, 2.12: "An old file becomes new with counts of 0. A new file goes back exactly if all its counts are 0, and both ways together return the first
 -- file. Either converter gives 2 for a file already in the form it makes, and lent bytes past its output stay." Refused besides: 1, a file of less than
 -- four bytes; the file's own numbers; 32, "a file with start values sent back, between 24 and 21"; 21, an output too short.
--- In order: the two forms of a file; refusals; the calls, for every input. Not here: that both ways return the first file (`BothWays`).
+-- In order: the two forms of a file; refusals; the calls, for every input; over C. Not here: that both ways return the first file (`BothWays`).
 use Prim.Native.Nat.{ℕ, _+_, _-_, _*_}
 use mathlib.Core.Bool.{Bool}
 use mathlib.Core.List.{List, _++_}
@@ -62,3 +62,22 @@ toNewCall f out = convertCall (toNewRefusal f (length out)) (toNew f) out
 
 abbrev pub toOldCall : List ℕ → List ℕ → Given
 toOldCall f out = convertCall (toOldRefusal f (length out)) (toOld f) out
+
+-- ---- over C: the length goes to a lent place, which a refused call leaves as it was
+
+pub record ConvertedLent : Type 0 where
+  pub refusal : ℕ
+  pub place : ℕ
+  pub output : List ℕ
+
+abbrev pub convertedLent : ℕ → ℕ → List ℕ → ConvertedLent
+convertedLent r n out = record { refusal = r; place = n; output = out }
+
+unfoldable pub lentBy : Given → ℕ → ConvertedLent
+lentBy x place = convertedLent (x .answer .refusal) (pick (eqb (x .answer .refusal) 0) (x .answer .length) place) (x .output)
+
+abbrev pub toNewLent : List ℕ → List ℕ → ℕ → ConvertedLent
+toNewLent f out place = lentBy (toNewCall f out) place
+
+abbrev pub toOldLent : List ℕ → List ℕ → ℕ → ConvertedLent
+toOldLent f out place = lentBy (toOldCall f out) place

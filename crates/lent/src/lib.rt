@@ -22,6 +22,7 @@ ghost use Rattle.cycles.specs.Check.{linesOf, linesRefusal, linesByte};
 ghost use Rattle.window.specs.declared.Shown.the-variants.{Code, Data};
 ghost use Rattle.window.specs.Window.{windowAt, windowCall};
 ghost use Rattle.bounds.specs.Outputs.{outputs, takesLent};
+ghost use Rattle.forms.specs.Forms.{convertedLent, toNewLent, toOldLent};
 ghost use Rattle.holding.specs.Holding.{lowestRefusal, answersAfter};
 ghost use Rattle.snapshot.specs.Snapshot.{answered, registersAfter, stepRegisters};
 ghost use Rattle.lent.specs.Lent.{loaded, saved, lent, stepLent, runLent, takenLent, freshLent, freshLentFor, scanned, nextLent};
@@ -313,4 +314,32 @@ pub extern "C" fn rikzord_takes(
     ensures { λ r. ⌜ outputs r (now (lengths .exit)) (now (counts .exit)) (now (depths .exit)) ≡ takesLent (now (file .entry)) (now (lengths .entry)) (now (counts .entry)) (now (depths .entry)) ⌝ }
 {
     bounds::takes_to(file, lengths, counts, depths)
+}
+
+// ---- beside the machine: the two forms of a task set file
+
+// The file in the new form, with a count of 0 for each core, goes to the front of `out`, and its length to `length` (crate forms).
+#[no_mangle]
+pub extern "C" fn rikzord_to_new(file: &[u8], out: &mut [u8], length: &mut usize) -> u8
+    ensures { λ r. ⌜ convertedLent r (now (length .exit)) (now (out .exit)) ≡ toNewLent (now (file .entry)) (now (out .entry)) (now (length .entry)) ⌝ }
+{
+    let converted = forms::to_new(file, out);
+    if converted.refusal != 0 {
+        return converted.refusal;
+    }
+    *length = converted.length;
+    0
+}
+
+// The file in the old form: 32 where it has start values.
+#[no_mangle]
+pub extern "C" fn rikzord_to_old(file: &[u8], out: &mut [u8], length: &mut usize) -> u8
+    ensures { λ r. ⌜ convertedLent r (now (length .exit)) (now (out .exit)) ≡ toOldLent (now (file .entry)) (now (out .entry)) (now (length .entry)) ⌝ }
+{
+    let converted = forms::to_old(file, out);
+    if converted.refusal != 0 {
+        return converted.refusal;
+    }
+    *length = converted.length;
+    0
 }
