@@ -20,7 +20,7 @@ pub struct Tally {
     pub takings: usize,
 }
 
-const EVERY_REFUSAL: [u8; 12] = [1, 2, 3, 4, 5, 6, 7, 20, 21, 22, 23, 24];
+const EVERY_REFUSAL: [u8; 13] = [1, 2, 3, 4, 5, 6, 7, 20, 21, 22, 23, 24, 31];
 
 impl Tally {
     fn refusal(&mut self, call: &'static str, number: u8) {

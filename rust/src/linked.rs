@@ -5,6 +5,7 @@
 
 use crate::interface::{Machine, Next};
 use crate::lines::Lines;
+use crate::forms::Converters;
 use crate::profiles::Loader;
 use crate::reference::{mode, refusal, Core, Profile, Semaphore, WRITING_MARK};
 use crate::window::{Asked, Shown};
@@ -111,6 +112,10 @@ extern "C" {
     ) -> u8;
 
     fn rikzord_check_cycles(file: *const u8, file_len: usize, lines: *mut u8) -> u8;
+
+    fn rikzord_to_new(file: *const u8, file_len: usize, out: *mut u8, out_len: usize, length: *mut usize) -> u8;
+
+    fn rikzord_to_old(file: *const u8, file_len: usize, out: *mut u8, out_len: usize, length: *mut usize) -> u8;
 
     fn rikzord_takes(
         file: *const u8,
@@ -310,6 +315,23 @@ pub fn window(file: &[u8], buffer: &[u8], asked: Asked) -> Result<usize, u8> {
         (refusal::NONE, place) => Ok(place),
         (number, UNTOUCHED) => Err(number),
         _ => panic!("the call answers {number} and stores {place}"),
+    }
+}
+
+/// The converters of `liblent.a`. A refused call leaves the length.
+pub const CONVERTERS: Converters =
+    Converters { to_new: |file, out| convert(rikzord_to_new, file, out), to_old: |file, out| convert(rikzord_to_old, file, out) };
+
+fn convert(call: unsafe extern "C" fn(*const u8, usize, *mut u8, usize, *mut usize) -> u8, file: &[u8], out: &mut [u8]) -> Result<usize, u8> {
+    const UNTOUCHED: usize = usize::MAX;
+    let mut length = UNTOUCHED;
+    // Safety: as above.
+    let number = unsafe { call(file.as_ptr(), file.len(), out.as_mut_ptr(), out.len(), &mut length) };
+    match (number, length) {
+        (refusal::NONE, UNTOUCHED) => panic!("a file without a length"),
+        (refusal::NONE, length) => Ok(length),
+        (number, UNTOUCHED) => Err(number),
+        _ => panic!("the call answers {number} and stores {length}"),
     }
 }
 

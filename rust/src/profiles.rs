@@ -130,7 +130,7 @@ pub struct Tally(pub BTreeMap<(u8, u8), usize>);
 
 impl Tally {
     pub fn missing(&self) -> Vec<String> {
-        let same = [0, 1, 2, 3, 4, 5, 6, 7, 24].map(|number| (number, number));
+        let same = [0, 1, 2, 3, 4, 5, 6, 7, 24, 31].map(|number| (number, number));
         // what the small profile refuses that the full one does not, and 27 before what comes later
         let narrower = [(0, 3), (0, 27), (6, 3), (6, 27), (7, 27), (24, 27)];
         let wanted = same.into_iter().chain(narrower);

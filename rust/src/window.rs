@@ -74,7 +74,7 @@ pub struct Tally(pub BTreeMap<u8, usize>);
 
 impl Tally {
     pub fn missing(&self) -> Vec<String> {
-        let numbers = (0..=7).chain([24, LENT, OUTSIDE]);
+        let numbers = (0..=7).chain([24, 31, LENT, OUTSIDE]);
         numbers.filter(|number| !self.0.contains_key(number)).map(|number| format!("{number} of a window")).collect()
     }
 

@@ -71,6 +71,16 @@ enum Mistake {
     NoTraceRefused,
     /// Leaves the input bytes as they were where the trace has no bytes.
     BlankInputsKept,
+    /// Accepts a start place twice.
+    EqualPlacesAccepted,
+    /// Tells bytes left over before a wrong start place.
+    LeftoversBeforeStarts,
+    /// Leaves shared memory zero in the fresh state.
+    SharedLeftZero,
+    /// Publishes what a reader has in the fresh state, where a variable has one.
+    ReadersBytesPublished,
+    /// Takes the last core to have no start values.
+    LastStartsIgnored,
 }
 
 /// The records of core `core` that are left, where the trace is sound.
@@ -142,6 +152,51 @@ fn mod_by_zero(file: &[u8], table: &[Core], buffer: &[u8], core: u8) -> Option<(
     buffer.get(b)?.iter().all(|&byte| byte == 0).then_some((a, to))
 }
 
+fn word(file: &[u8], at: usize) -> usize {
+    u16::from_le_bytes([file[at], file[at + 1]]) as usize
+}
+
+/// Where each core's start values begin in a file of the new form whose codes are sound, as far as they are there; last where they end.
+fn value_places(file: &[u8]) -> Option<Vec<usize>> {
+    let cores = *file.get(4)? as usize;
+    let mut at = 6 + 6 * cores + 12 * *file.get(5 + 6 * cores)? as usize;
+    for _ in 0..cores {
+        file.get(at + 1)?;
+        at += 2 + word(file, at);
+    }
+    let mut places = vec![at];
+    for _ in 0..cores {
+        file.get(at + 1)?;
+        at += 2 + 3 * word(file, at);
+        places.push(at);
+    }
+    Some(places)
+}
+
+fn sections_end(file: &[u8]) -> Option<usize> {
+    value_places(file)?.pop().filter(|&end| end <= file.len())
+}
+
+/// Whether a file's start values are all there, nothing follows, and each place lies in the data and is not below the one before.
+fn twice_only(file: &[u8]) -> bool {
+    let Some(places) = value_places(file).filter(|places| places.last() == Some(&file.len())) else { return false };
+    places.windows(2).enumerate().all(|(k, part)| {
+        let values: Vec<usize> = (part[0] + 2..part[1]).step_by(3).map(|at| word(file, at)).collect();
+        values.iter().all(|&place| place < word(file, 5 + 6 * k)) && values.windows(2).all(|pair| pair[0] <= pair[1])
+    })
+}
+
+/// Each variable as its first reader has it.
+fn publish_readers(file: &[u8], buffer: &[u8], shared: &mut [u8]) {
+    let cores = file[4] as usize;
+    let base = |core: usize| -> usize { (0..core).map(|other| word(file, 5 + 6 * other)).sum() };
+    for record in file[6 + 6 * cores..].chunks_exact(12).take(file[5 + 6 * cores] as usize) {
+        let Some(reader) = (0..cores).find(|&core| record[3] >> (4 + core) & 1 == 1) else { continue };
+        let (from, width) = (base(reader) + word(record, 4 + 2 * reader), record[2] as usize);
+        shared[word(record, 0)..][..width].copy_from_slice(&buffer[from..][..width]);
+    }
+}
+
 struct Wrong(Mistake);
 
 impl Machine for Wrong {
@@ -153,6 +208,9 @@ impl Machine for Wrong {
         match (self.0, reference::check_file(file)) {
             (Mistake::LeftoversAreACut, refusal::LEFT_OVER) => refusal::FILE_END,
             (Mistake::CutIsLeftovers, refusal::FILE_END) => refusal::LEFT_OVER,
+            // Where every place is there and lies in the data: 31 is then for one that stands twice, or falls.
+            (Mistake::EqualPlacesAccepted, refusal::START_PLACE) if twice_only(file) => refusal::NONE,
+            (Mistake::LeftoversBeforeStarts, refusal::START_PLACE) if sections_end(file).is_some_and(|end| end < file.len()) => refusal::LEFT_OVER,
             (_, number) => number,
         }
     }
@@ -161,6 +219,19 @@ impl Machine for Wrong {
         let number = reference::fresh(file, table, semaphore, buffer, shared);
         if self.0 == Mistake::WholeTableFresh && number == refusal::NONE {
             table.fill(Core::fresh());
+        }
+        if number == refusal::NONE {
+            match self.0 {
+                Mistake::SharedLeftZero => shared.fill(0),
+                Mistake::ReadersBytesPublished => publish_readers(file, buffer, shared),
+                Mistake::LastStartsIgnored => {
+                    let cores = file[4] as usize;
+                    let last = u16::from_le_bytes([file[6 * cores - 1], file[6 * cores]]) as usize;
+                    let base = buffer.len() - last;
+                    buffer[base..].fill(0);
+                }
+                _ => {}
+            }
         }
         number
     }
@@ -301,6 +372,11 @@ fn wrong_machines_are_seen() {
         NotHeldIsBeyond,
         NoTraceRefused,
         BlankInputsKept,
+        EqualPlacesAccepted,
+        LeftoversBeforeStarts,
+        SharedLeftZero,
+        ReadersBytesPublished,
+        LastStartsIgnored,
     ] {
         let compared = catch_unwind(AssertUnwindSafe(|| compare(&Reference, &Wrong(mistake), 4, 2000)));
         assert!(compared.is_err(), "{mistake:?} went unseen");

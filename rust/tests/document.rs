@@ -175,7 +175,7 @@ fn samples_of_refusals() {
         let check = |file: &[u8]| machine.check_file(file);
         assert_eq!(check(&LISTED), 0);
         assert_eq!(check(&[0x4D, 0x43, 0x53]), refusal::FILE_END);
-        assert_eq!(check(&[0x4D, 0x43, 0x53, 0x32]), refusal::MARK);
+        assert_eq!(check(&[0x4D, 0x43, 0x53, 0x33]), refusal::MARK);
         assert_eq!(check(&[0x4D, 0x43, 0x53, 0x31, 5]), refusal::CORE_RECORD);
         assert_eq!(check(&two_writers.bytes()), refusal::VARIABLE_RECORD);
         assert_eq!(check(&overlap.bytes()), refusal::OVERLAP);

@@ -65,7 +65,7 @@ fn the_lines() {
         assert_eq!(check(&file(2, &[(0, &[1]), (1, &[0])])), Lines::EachOther);
         assert_eq!(check(&file(3, &[RING, &[(1, &[0])]].concat())), Lines::EachOther);
         assert_eq!(check(&[]), Lines::Refused(1));
-        assert_eq!(check(b"MCS2"), Lines::Refused(2));
+        assert_eq!(check(b"MCS3"), Lines::Refused(2));
     }
 }
 

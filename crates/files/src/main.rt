@@ -62,7 +62,7 @@ fn samples() {
     );
     file(b"empty", b"");
     file(b"short", b"MCS");
-    file(b"mark", b"MCS2");
+    file(b"mark", b"MCS3");
     file(b"cores 5", b"MCS1\x05");
     file(b"cores 0", b"MCS1\x00");
     file(

@@ -123,11 +123,11 @@ fn runs() {
 // ---- the most bytes, and one more
 
 fn lengths() {
-    let file = [0u8; 33601];
+    let file = [0u8; 82801];
     let longer = [0u8; 4097];
     let longest = [0u8; 4096];
-    show(b"task of 33,601 bytes", &file, b"", b"");
-    show(b"task of 33,600 bytes", &file[..33600], b"", b"");
+    show(b"task of 82,801 bytes", &file, b"", b"");
+    show(b"task of 82,800 bytes", &file[..82800], b"", b"");
     show(b"trace of 4,097 bytes, no task", b"", &longer, b"");
     show(b"order of 4,097 bytes, no task", b"", b"", &longer);
     one_core(b"trace of 4,096 bytes", &longest, b"");

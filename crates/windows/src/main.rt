@@ -120,8 +120,48 @@ fn lent() {
     );
 }
 
+// The same two cores in a file of the new form (document 02, 2.12), where start values follow the code.
+fn of_new(label: &[u8], shown: Shown, core: u8, start: usize, count: usize) {
+    case(
+        label,
+        shown,
+        core,
+        start,
+        count,
+        b"MCS2\x02\x03\x00\x00\x00\x01\x00\x05\x00\x00\x00\x01\x00\x00\x01\x00\x00\x06\x00\x06aa\x01z\x00\x01\x00\x02\x00c\x02\x00\x00\x00d\x04\x00h",
+        b"abcdefgh",
+    );
+}
+
+fn new_form() {
+    of_new(b"new form: data of core 1", Shown::Data, 1, 0, 5);
+    of_new(b"new form: an operand of core 1", Shown::Code, 1, 1, 2);
+    of_new(
+        b"new form: no byte at the end of the code",
+        Shown::Code,
+        1,
+        6,
+        0,
+    );
+    of_new(
+        b"new form: a start value after the code",
+        Shown::Code,
+        1,
+        6,
+        1,
+    );
+    of_lent(
+        b"new form: start places that fall",
+        Shown::Code,
+        4,
+        b"MCS2\x02\x03\x00\x00\x00\x01\x00\x05\x00\x00\x00\x01\x00\x00\x01\x00\x00\x06\x00\x06aa\x01z\x00\x00\x00\x02\x00\x04\x00h\x00\x00d",
+        b"",
+    );
+}
+
 fn main() {
     windows();
     outside();
     lent();
+    new_form();
 }

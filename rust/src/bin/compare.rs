@@ -4,6 +4,7 @@
 
 use rikzord_comparison::bounds;
 use rikzord_comparison::comparison::compare;
+use rikzord_comparison::forms;
 use rikzord_comparison::holding;
 use rikzord_comparison::interface::{Reference, Stepwise};
 use rikzord_comparison::lines;
@@ -46,7 +47,13 @@ fn main() {
     #[cfg(not(feature = "linked"))]
     let loaded = profiles::compare(profiles::REFERENCE, profiles::REFERENCE, seed as u64, 4 * rounds);
     loaded.print();
-    let missing = [tally.missing(), lowest.missing(), lines.missing(), windows.missing(), takes.missing(), loaded.missing()].concat();
+    #[cfg(feature = "linked")]
+    let converted = forms::compare(forms::REFERENCE, rikzord_comparison::linked::CONVERTERS, seed as u64, rounds);
+    #[cfg(not(feature = "linked"))]
+    let converted = forms::compare(forms::REFERENCE, forms::REFERENCE, seed as u64, rounds);
+    converted.print();
+    let reports = [tally.missing(), lowest.missing(), lines.missing(), windows.missing(), takes.missing(), loaded.missing(), converted.missing()];
+    let missing = reports.concat();
     assert!(missing.is_empty(), "never came: {missing:?}");
     println!("{rounds} rounds: the reference and {second} agree");
 }
