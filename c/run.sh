@@ -1,6 +1,6 @@
 #!/bin/sh
 # Builds the archive, compiles the examples against it and compares what they print: document 01's listing; the line at the semaphore, what a task takes, the
-# lowest readings, the windows and the small profile of document 02, 2.4, 2.7, 2.11, 2.14 and 2.10.
+# lowest readings, the windows, the small profile and the start values of document 02, 2.4, 2.7, 2.11, 2.14, 2.10 and 2.12.
 set -e
 cd "$(dirname "$0")/.."
 rt staticlib lent
@@ -39,3 +39,7 @@ gcc -std=c99 -Wall -Wextra -Werror -Iinclude -o target/c/small c/small.c target/
 printf '0 0, 0 0\n0 3, 0 3\n0 0, 0 0\n0 27, 0 27\n0 0, 0 0\n0 27, 0 27\n27 27 a5 a5 a5 a5\n' > target/c/expected
 target/c/small | diff - target/c/expected
 echo "c: the small profile is that of document 02"
+gcc -std=c99 -Wall -Wextra -Werror -Iinclude -o target/c/forms c/forms.c target/staticlib/liblent.a
+printf '0 data 0 0 44 1 0 0 0 0 0 0 0 0 0 8 shared 0 44 1 0\n0 40 32 ab\n0 36 0\n2 32 21 77\n' > target/c/expected
+target/c/forms | diff - target/c/expected
+echo "c: start values and both forms of a file are those of document 02"

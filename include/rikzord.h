@@ -8,8 +8,8 @@
  * - What one call may write overlaps nothing else that is lent to it. Slices that are only read may overlap each other.
  * - Nothing else reads or writes that memory during the call.
  *
- * Each call answers the refusal number of document 01 or 02, 0 for none: 1 to 7 and 24 for the task set file (1: it is cut; 24: bytes follow its last
- * section; 27 besides, where it is loaded as small), 21 lent memory, 22 the trace (one of no bytes means one record of zeros for every core), 23 the state, 20 a core number; they are tried in this order. A refused call changes nothing. Any bytes may be lent: nothing is required of their values. The
+ * Each call answers the refusal number of document 01 or 02, 0 for none: 1 to 7, 31 and 24 for the task set file (1: it is cut; 31: a start place beyond the
+ * data or not rising; 24: bytes follow its last section; 27 besides, where it is loaded as small), 21 lent memory, 22 the trace (one of no bytes means one record of zeros for every core), 23 the state, 20 a core number; they are tried in this order. A refused call changes nothing. Any bytes may be lent: nothing is required of their values. The
  * definitions are in crates/lent/specs/Lent.antt. */
 #ifndef RIKZORD_H
 #define RIKZORD_H
@@ -58,7 +58,8 @@ uint8_t rikzord_check_file(const uint8_t *file, size_t file_length);
 
 uint8_t rikzord_check_file_small(const uint8_t *file, size_t file_length);
 
-/* Makes the fresh state: both memories zero, each core in mode 0 with registers 0 and flags 4, the semaphore free and nobody in line. The table needs at least n
+/* Makes the fresh state: both memories zero but for the start values of a file of the new form (mark 4D 43 53 32 hex), which stand in the cores' data, and
+ * in shared memory for each variable as its writer has them; each core in mode 0 with registers 0 and flags 4, the semaphore free and nobody in line. The table needs at least n
  * records (21); the first n are written. The data buffer has the sum of the data sizes, shared memory 1,024 bytes. */
 uint8_t rikzord_fresh(const uint8_t *file, size_t file_length, struct rikzord_core *table, size_t table_length, struct rikzord_semaphore *semaphore,
                       uint8_t *buffer, size_t buffer_length, uint8_t *shared, size_t shared_length);
@@ -106,6 +107,15 @@ uint8_t rikzord_code_window(const uint8_t *file, size_t file_length, const uint8
 
 uint8_t rikzord_data_window(const uint8_t *file, size_t file_length, const uint8_t *buffer, size_t buffer_length, uint8_t core, size_t start,
                             size_t count, size_t *place);
+
+/* Beside the machine: the two forms of a task set file. The first writes an old file (mark 4D 43 53 31 hex) in the new form, with a count of 0 for each core;
+ * the second a new file in the old form, where it has no start values. The file goes to the front of `out`, its length to `length`; bytes past it stay. Both
+ * ways together return the first file, and both files run alike. Answers, tried in this order: 1 where the file has less than four bytes; 2 where its mark is
+ * not that of the form that is read; the file's own number; 32 where a file with start values is sent back; 21 where `out` is too short. A refused call leaves
+ * `out` and `length`. The definitions are in crates/forms/specs/Forms.antt. */
+uint8_t rikzord_to_new(const uint8_t *file, size_t file_length, uint8_t *out, size_t out_length, size_t *length);
+
+uint8_t rikzord_to_old(const uint8_t *file, size_t file_length, uint8_t *out, size_t out_length, size_t *length);
 
 /* Beside the machine: what a task will take, from the file alone. The lengths of data buffer, shared memory and core table go to the first three
  * places of `lengths`. The greatest instruction count of a cycle and the greatest call depth of core k, over every choice at its conditional jumps,

@@ -3,9 +3,9 @@
 //! Slices go as pointer and length. Outputs (`taken`, `next`) are written where a call isn't refused. A step's taking shows in the modes of
 //! its core. A core table where no core can move answers `NOTHING`.
 
+use crate::forms::Converters;
 use crate::interface::{Machine, Next};
 use crate::lines::Lines;
-use crate::forms::Converters;
 use crate::profiles::Loader;
 use crate::reference::{mode, refusal, Core, Profile, Semaphore, WRITING_MARK};
 use crate::window::{Asked, Shown};
@@ -322,7 +322,11 @@ pub fn window(file: &[u8], buffer: &[u8], asked: Asked) -> Result<usize, u8> {
 pub const CONVERTERS: Converters =
     Converters { to_new: |file, out| convert(rikzord_to_new, file, out), to_old: |file, out| convert(rikzord_to_old, file, out) };
 
-fn convert(call: unsafe extern "C" fn(*const u8, usize, *mut u8, usize, *mut usize) -> u8, file: &[u8], out: &mut [u8]) -> Result<usize, u8> {
+fn convert(
+    call: unsafe extern "C" fn(*const u8, usize, *mut u8, usize, *mut usize) -> u8,
+    file: &[u8],
+    out: &mut [u8],
+) -> Result<usize, u8> {
     const UNTOUCHED: usize = usize::MAX;
     let mut length = UNTOUCHED;
     // Safety: as above.

@@ -1183,7 +1183,9 @@ fn damage_file(random: &mut Random, draft: &mut Draft, case: &mut Case) {
         }
         3..=5 => {
             // Two at once, perhaps with a cut: which is judged first is for the machines to agree on. The first leaves the code's layout.
-            let first = |damage: &FileDamage| damage.1 <= refusal::OVERLAP || matches!(damage.1, refusal::TARGET | refusal::LEFT_OVER | refusal::START_PLACE);
+            let first = |damage: &FileDamage| {
+                damage.1 <= refusal::OVERLAP || matches!(damage.1, refusal::TARGET | refusal::LEFT_OVER | refusal::START_PLACE)
+            };
             let firsts: Vec<FileDamage> = FILE_DAMAGES.iter().copied().filter(first).collect();
             let one = random.pick(&firsts);
             damage_draft(random, draft, case, one);

@@ -386,8 +386,16 @@ impl<'f> TaskSet<'f> {
         demand(mark == FILE_MARK || mark == NEW_MARK, refusal::MARK)?;
         let count = reader.byte()? as usize;
         demand((1..=MOST_CORES).contains(&count), refusal::CORE_RECORD)?;
-        const EMPTY: Task =
-            Task { data_size: 0, input_size: 0, limit: 0, code: &[], starts: CodePlaces::NONE, reads: Moves::NONE, writes: Moves::NONE, values: &[] };
+        const EMPTY: Task = Task {
+            data_size: 0,
+            input_size: 0,
+            limit: 0,
+            code: &[],
+            starts: CodePlaces::NONE,
+            reads: Moves::NONE,
+            writes: Moves::NONE,
+            values: &[],
+        };
         let mut set = TaskSet { count, tasks: [EMPTY; MOST_CORES] };
         for task in &mut set.tasks[..count] {
             load_core(profile, &mut reader, task)?;

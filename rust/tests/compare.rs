@@ -210,7 +210,9 @@ impl Machine for Wrong {
             (Mistake::CutIsLeftovers, refusal::FILE_END) => refusal::LEFT_OVER,
             // Where every place is there and lies in the data: 31 is then for one that stands twice, or falls.
             (Mistake::EqualPlacesAccepted, refusal::START_PLACE) if twice_only(file) => refusal::NONE,
-            (Mistake::LeftoversBeforeStarts, refusal::START_PLACE) if sections_end(file).is_some_and(|end| end < file.len()) => refusal::LEFT_OVER,
+            (Mistake::LeftoversBeforeStarts, refusal::START_PLACE) if sections_end(file).is_some_and(|end| end < file.len()) => {
+                refusal::LEFT_OVER
+            }
             (_, number) => number,
         }
     }

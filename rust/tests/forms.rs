@@ -25,10 +25,7 @@ fn machines() -> Vec<(Check, Fresh)> {
     vec![
         (reference::check_file, reference::fresh),
         #[cfg(feature = "linked")]
-        (
-            |file| Linked.check_file(file),
-            |file, table, semaphore, buffer, shared| Linked.fresh(file, table, semaphore, buffer, shared),
-        ),
+        (|file| Linked.check_file(file), |file, table, semaphore, buffer, shared| Linked.fresh(file, table, semaphore, buffer, shared)),
     ]
 }
 
@@ -202,7 +199,8 @@ fn the_rest_cleared(file: &[u8], out: &mut [u8]) -> Result<usize, u8> {
 fn wrong_converters_are_seen() {
     let news: [Convert; 1] = [mark_not_changed];
     let olds: [Convert; 3] = [last_count_ignored, judged_before_the_mark, the_rest_cleared];
-    let wrong = news.map(|to_new| Converters { to_new, ..REFERENCE }).into_iter().chain(olds.map(|to_old| Converters { to_old, ..REFERENCE }));
+    let wrong =
+        news.map(|to_new| Converters { to_new, ..REFERENCE }).into_iter().chain(olds.map(|to_old| Converters { to_old, ..REFERENCE }));
     for wrong in wrong {
         assert!(catch_unwind(|| compare(REFERENCE, wrong, 5, 2_000)).is_err());
     }

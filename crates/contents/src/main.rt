@@ -179,7 +179,7 @@ fn read(name: &[u8], into: &mut [u8]) -> usize {
 }
 
 fn main() {
-    let mut file = [0u8; 33600];
+    let mut file = [0u8; 82800];
     let mut trace = [0u8; 4096];
     let mut order = [0u8; 4096];
     let f = read(b"task.bin", &mut file);

@@ -1,32 +1,32 @@
 -- `becomes-new`, `goes-back`, `becomes-old`: what specs/BothWays claims of the two forms. A file is what its own form makes of it, so both ways together return
 -- it. In order: the bytes of a file in either form; all counts 0; an old file; a new file. Assumes nothing.
 use mathlib.Core.Path.{_≡_, refl, sym, ap, ap₂, _∙_, subst}
-use mathlib.Core.Logic.{_⊎_, inl, inr}
+use mathlib.Core.Logic.{inl, inr}
 use mathlib.Core.Bool.{Bool, true, false}
 use mathlib.Core.List.{List, [], _∷_, _++_, append-assoc}
 use Prim.Native.Nat.{ℕ, zero, suc, _+_, _-_, _*_, _≤_, _<_}
 use native.Mathlib.Omega.{arith}
-use borrow.Author.Tests.{le-leb, leb-true, eq-eqb, eqb-true, ltb-true, ltb-false}
-use lib.Dec.{T, ltb, leb, eqb}
+use borrow.Author.Tests.{le-leb, eq-eqb, eqb-true, ltb-true, ltb-false}
+use lib.Dec.{ltb, eqb}
 use lib.ListN.{length, take, drop, length-append, length-replicate, length-drop, take-append-drop}
 use lib.Seq.{take-all, take-add, getD-drop}
-use Rattle.verdict.specs.Verdict.{pick, upto, both, next, unless}
+use Rattle.verdict.specs.Verdict.{upto, unless}
 use Rattle.verdict.proofs.Verdict.{pick-true, pick-false, yes, next-zero, next-none, unless-zero, below}
 use Rattle.verdict.proofs.Truth.{holds, tested}
-use Rattle.memory.specs.Memory.{byte, word, part, readLE, valueLE}
+use Rattle.memory.specs.Memory.{byte, word, part}
 use Rattle.memory.proofs.Laws.{length-part}
 use Rattle.memory.proofs.Number.{read-word, read-beyond}
 use Rattle.protocol.specs.Fresh.{zeros}
-use Rattle.records.specs.File.{cores, dataSize, variables, recordPlace}
+use Rattle.records.specs.File.{cores}
 use Rattle.records.specs.Records.{present}
 use Rattle.code.specs.declared.Profile.the-variants.{Full}
 use Rattle.taskset.specs.Judge.{oldMark, newMark, marked, isOld, isNew, codePlace, codeOf, startSections, startPlace, fileEnd, judge}
 use Rattle.taskset.specs.Rules.{Mark, WellFormed}
 use Rattle.taskset.specs.Starts.{startCount}
-use Rattle.taskset.proofs.Exact.{keeps-rules, accepts, marked-is, old-not-new, starts-begin, code-inside, records-inside}
+use Rattle.taskset.proofs.Exact.{keeps-rules, accepts, marked-is, old-not-new, starts-begin, code-inside}
 use Rattle.forms.specs.Forms.{bodyOf, toNew, toOld, noStarts, toOldRefusal}
 use Rattle.forms.specs.BothWays.{Same, NoStarts, BecomesNew, GoesBack, BecomesOld}
-use Rattle.forms.proofs.Alike.{Alike, alike-zeros, turned, code-least, start-least, code-rises, word-alike, part-alike, cores-alike, data-alike, input-alike, limit-alike, all-variables-alike, code-place-alike, start-place-alike, code-alike, no-code-alike, well-alike}
+use Rattle.forms.proofs.Alike.{Alike, alike-zeros, turned, start-least, code-rises, word-alike, part-alike, cores-alike, data-alike, input-alike, limit-alike, all-variables-alike, start-place-alike, code-alike, no-code-alike, well-alike}
 
 -- ---- the bytes of a file
 

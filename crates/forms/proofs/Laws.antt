@@ -2,22 +2,21 @@
 use mathlib.Core.Path.{_≡_, refl, sym, ap, ap₂, _∙_, subst}
 use mathlib.Core.Logic.{_≢_}
 use mathlib.Core.Bool.{Bool, true, false}
-use mathlib.Core.List.{List, [], _∷_, _++_}
+use mathlib.Core.List.{List, _∷_, _++_}
 use Prim.Native.Nat.{ℕ, zero, suc, _+_, _-_, _*_, _≤_, _<_}
 use native.Mathlib.Omega.{arith}
 use borrow.Author.Tests.{le-leb, lt-leb, eq-eqb, ne-eqb}
-use lib.Dec.{eqb}
 use lib.ListN.{length}
 use lib.Seq.{take-all}
-use Rattle.verdict.proofs.Verdict.{pick-true, pick-false, skip, stop, halt, yes, no, next-none, absurd-bool}
+use Rattle.verdict.proofs.Verdict.{pick-true, pick-false, skip, stop, halt, yes, no, next-none}
 use Rattle.memory.specs.Memory.{splice, part, bytesLE}
 use Rattle.memory.proofs.Laws.{splice-append}
 use Rattle.protocol.specs.Fresh.{zeros}
 use Rattle.records.specs.File.{cores}
 use Rattle.taskset.specs.Judge.{oldMark, newMark, isOld, isNew, codePlace, startPlace, judge}
 use Rattle.forms.specs.declared.Converted.{Converted}
-use Rattle.forms.specs.Forms.{bodyOf, toNew, toOld, noStarts, toNewRefusal, toOldRefusal, Given, convertCall, ConvertedLent, convertedLent, lentBy}
-use Rattle.forms.proofs.BothWays.{long, length-body, body-begins, length-old, length-new, old-ends, none-short, short-none, none-tested, tested-none}
+use Rattle.forms.specs.Forms.{bodyOf, toNew, toOld, noStarts, toNewRefusal, toOldRefusal, Given, convertCall, convertedLent, lentBy}
+use Rattle.forms.proofs.BothWays.{length-body, body-begins, length-old, length-new, old-ends, none-short, short-none, none-tested, tested-none}
 
 -- ---- a call
 

@@ -9,19 +9,18 @@ use lib.ListN.{length, getD, replicate}
 use Rattle.verdict.specs.Verdict.{pick, both, either, upto, next, unless}
 use Rattle.verdict.proofs.Verdict.{pick-true}
 use Rattle.memory.specs.Memory.{splice, readLE, part, word, total, split, flat}
-use Rattle.protocol.specs.declared.Registers.{Registers}
-use Rattle.protocol.specs.State.{Sample, Semaphore, State as Whole, Task}
+use Rattle.protocol.specs.State.{Sample}
 use Rattle.protocol.specs.Step.{inLine, step, run, takingOf, orderList}
 use Rattle.protocol.specs.Registers.{flagBound}
 use Rattle.protocol.specs.Instruction.{instructionBy}
-use Rattle.protocol.specs.Variables.{Variable, readsOf, writesOf}
+use Rattle.protocol.specs.Variables.{readsOf, writesOf}
 use Rattle.protocol.specs.Fresh.{zeros}
 use Rattle.processor.specs.Processor.{executed}
-use Rattle.records.specs.File.{cores, dataSize, inputSize, limit}
-use Rattle.taskset.specs.Judge.{isOld, isNew, codeOf, startPlace, judge}
+use Rattle.records.specs.File.{cores, dataSize, limit}
+use Rattle.taskset.specs.Judge.{isOld, isNew, startPlace, judge}
 use Rattle.taskset.specs.Trace.{blank, tracePlace, recordCount, traceRefusal}
-use Rattle.taskset.specs.Task.{listed, sizesOf, variablesOf, sampleAt, samplesOf}
-use Rattle.taskset.specs.Starts.{startCount, withPairs, startData, withWritten, startShared, startBuffer}
+use Rattle.taskset.specs.Task.{listed, sizesOf, sampleAt, samplesOf}
+use Rattle.taskset.specs.Starts.{withPairs, startData, withWritten, startShared, startBuffer}
 use Rattle.taskset.proofs.Exact.{old-not-new}
 use Rattle.taskset.proofs.Starts.{old-data}
 use Rattle.semaphore.specs.Line.{semaphoreOf}
@@ -31,8 +30,8 @@ use Rattle.states.specs.Machine.{none, stackIn, stateIn, stateOf, heldAfter, da
 use Rattle.states.specs.Fit.{entry, executionFit, exchangesFit, freedFit, coreFit, fitAt, mayWait, lineFitIn, lineFit, stateFit, stateRefusal}
 use Rattle.states.specs.Preparing.{heldRefusal}
 use Rattle.runner.specs.Runs.{allBelow, Left, left, ranCall}
-use Rattle.machine.specs.Calls.{lentFits, callRefusal, answerOf, tableOf, freshLeft, freshRefusal, freshCall, runRefusal, runCall, stepRefusal, stepped, stepCall}
-use Rattle.machine.specs.Calling.{lentOf, Call, stepping, running, restored, leaves, calls, stepsIn, countsAs, stepsOf}
+use Rattle.machine.specs.Calls.{lentFits, callRefusal, answerOf, tableOf, freshRefusal, freshCall, runRefusal, runCall, stepRefusal, stepCall}
+use Rattle.machine.specs.Calling.{lentOf, Call, stepping, running, restored, leaves, calls, stepsIn, stepsOf}
 use Rattle.forms.specs.Forms.{toNew, toOld}
 use Rattle.forms.specs.BothWays.{Same, NoStarts, BecomesNew}
 use Rattle.forms.specs.Alike.{RunsAlike}

@@ -1,11 +1,10 @@
 -- Document 02, 2.12: "An old file becomes new with counts of 0. A new file goes back exactly if all its counts are 0, and both ways together return the first
 -- file." As claims of every accepted file, proved in proofs/BothWays (`becomes-new`, `goes-back`). In order: what two files share; an old file; a new file.
 -- Not here: what the calls do for every input (`Forms`); that both files run alike (`Alike`).
-use Prim.Native.Nat.{ℕ, _≤_, _<_}
+use Prim.Native.Nat.{ℕ, _<_}
 use mathlib.Core.Path.{_≡_}
 use mathlib.Core.Bool.{true}
 use mathlib.Core.List.{List}
-use lib.ListN.{length}
 use Rattle.records.specs.File.{cores, dataSize, inputSize, limit}
 use Rattle.taskset.specs.Judge.{isOld, isNew, codeOf, judge}
 use Rattle.taskset.specs.Task.{variablesOf}

@@ -52,7 +52,8 @@ fn main() {
     #[cfg(not(feature = "linked"))]
     let converted = forms::compare(forms::REFERENCE, forms::REFERENCE, seed as u64, rounds);
     converted.print();
-    let reports = [tally.missing(), lowest.missing(), lines.missing(), windows.missing(), takes.missing(), loaded.missing(), converted.missing()];
+    let reports =
+        [tally.missing(), lowest.missing(), lines.missing(), windows.missing(), takes.missing(), loaded.missing(), converted.missing()];
     let missing = reports.concat();
     assert!(missing.is_empty(), "never came: {missing:?}");
     println!("{rounds} rounds: the reference and {second} agree");
