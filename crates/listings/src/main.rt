@@ -90,7 +90,7 @@ fn refusals() {
     show(b"missing task", b"", b"", b"");
     show(
         b"refused task before trace and order",
-        b"MCS2",
+        b"MCS3",
         b"\x01",
         b"\x01",
     );

@@ -530,7 +530,7 @@ fn bad_files() {
         b"MCS1\x01\x01\x00\x00\x00\x01\x00\x00\x01\x00\x00\x00",
         24,
     );
-    bad_file(b"mark 2", b"MCS2", 2);
+    bad_file(b"mark 3", b"MCS3", 2);
     bad_file(b"mark in small letters", b"mcs1", 2);
     bad_file(b"five cores", b"MCS1\x05", 3);
     bad_file(b"no cores", b"MCS1\x00", 3);
