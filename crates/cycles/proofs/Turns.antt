@@ -13,7 +13,7 @@ use borrow.Author.Tests.{ne-eqb}
 use lib.ListN.{length, drop, replicate, length-drop}
 use Rattle.protocol.specs.Registers.{readAcquired, byteCopied, readReleased, writeAcquired, writeReleased}
 use Rattle.verdict.proofs.Verdict.{absurd-bool}
-use Rattle.protocol.specs.State.{Core, Plant, Semaphore, State, Task, core, mode}
+use Rattle.protocol.specs.State.{Core, Plant, Semaphore, State, Task, core, mode, untaken}
 use Rattle.protocol.specs.Step.{turn, readTaken, readNext, readDone, writeTaken, writeNext, writeDone, step, run, Taking, reading, writing, takingOf, takings}
 use Rattle.protocol.specs.Whole.{wholeOne, whole}
 use Rattle.protocol.specs.Laws.{Laws, Fresh}
@@ -21,7 +21,7 @@ use Rattle.protocol.specs.Cycles.{cycle, cycles, EachRuns}
 use Rattle.protocol.proofs.View.{after, at, readByte, there, Wants, Moves, rests, waits, takesRead, readsOn, readsLast, runs, takesWrite, writesOn, writesLast, view}
 use Rattle.protocol.proofs.Steps.{others-stay, run-append}
 use Rattle.protocol.proofs.Whole.{as-whole, between-still}
-use Rattle.cycles.specs.Serial.{inTurn, untaken, Turns}
+use Rattle.cycles.specs.Serial.{inTurn, Turns}
 
 -- ---- a core alone
 

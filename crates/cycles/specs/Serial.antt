@@ -7,7 +7,7 @@ use mathlib.Core.Path.{_≡_}
 use mathlib.Core.List.{List, [], _∷_, _++_}
 use Prim.Native.Nat.{ℕ}
 use lib.ListN.{replicate}
-use Rattle.protocol.specs.State.{Semaphore, State, Task}
+use Rattle.protocol.specs.State.{State, Task, untaken}
 use Rattle.protocol.specs.Step.{run}
 use Rattle.protocol.specs.Laws.{Between}
 use Rattle.protocol.specs.Cycles.{readsFrom, lineBetween, OneWay, NoRing, cycle, Serial}
@@ -37,10 +37,6 @@ abbrev pub inTurn : List ℕ → List ℕ → List ℕ
 inTurn [] ns = []
 inTurn (k ∷ ks) [] = []
 inTurn (k ∷ ks) (n ∷ ns) = replicate n k ++ inTurn ks ns
-
--- a free semaphore, with nobody in line
-abbrev pub untaken : Semaphore
-untaken = record { holder = 0; line = [] }
 
 -- each turn is a whole cycle, and leaves the semaphore free with nobody in line
 abbrev pub Turns : Task → List ℕ → List ℕ → State → Type 0

@@ -36,10 +36,10 @@ module _ (k : ℕ) (h : k < 4) where
   unfolding writesIt namedBy
   writes-named v = both-first (ltb k 4) (namedBy k v) (lt-ltb k 4 h)
 
-  reads-by-bit : (vs : List Variable) → readsOf vs k ≡ moves (namedBy (4 + k)) (λ v. v .place) (local k) vs
+  pub reads-by-bit : (vs : List Variable) → readsOf vs k ≡ moves (namedBy (4 + k)) (λ v. v .place) (local k) vs
   reads-by-bit vs = moves-same (readsIt k) (namedBy (4 + k)) (λ v. v .place) (local k) reads-named vs
 
-  writes-by-bit : (vs : List Variable) → writesOf vs k ≡ moves (namedBy k) (local k) (λ v. v .place) vs
+  pub writes-by-bit : (vs : List Variable) → writesOf vs k ≡ moves (namedBy k) (local k) (λ v. v .place) vs
   writes-by-bit vs = moves-same (writesIt k) (namedBy k) (local k) (λ v. v .place) writes-named vs
 
 module _ (f : List ℕ) where
@@ -54,7 +54,7 @@ module _ (f : List ℕ) where
   length-writes k h = ap length (writes-by-bit k h (variablesOf f)) ∙ length-exchange k (local k) (λ v. v .place)
 
   -- the place in the data of core k, as the record at p has it
-  local-at : (k p : ℕ) → k < 4 → local k (variableIn f p) ≡ word f (p + 4 + 2 * k)
+  pub local-at : (k p : ℕ) → k < 4 → local k (variableIn f p) ≡ word f (p + 4 + 2 * k)
   local-at zero p h = ap (word f) (omega arith)
   local-at (suc zero) p h = ap (word f) (omega arith)
   local-at (suc (suc zero)) p h = ap (word f) (omega arith)

@@ -2,3 +2,4 @@ pub mod Moves
 pub mod Records
 pub mod Cursors
 pub mod Accepted
+pub mod Stretches

@@ -37,7 +37,7 @@ module _ (named : Variable → Bool) (from to : Variable → ℕ) where
   pub moves-unnamed : (v : Variable) (vs : List Variable) → named v ≡ false → moves named from to (v ∷ vs) ≡ moves named from to vs
   moves-unnamed v vs e = ap (λ (l : List Move). l ++ moves named from to vs) (pick-false (named v) (span (v .width) (from v) (to v)) [] e)
 
-  moves-named : (v : Variable) (vs : List Variable) → named v ≡ true → moves named from to (v ∷ vs) ≡ span (v .width) (from v) (to v) ++ moves named from to vs
+  pub moves-named : (v : Variable) (vs : List Variable) → named v ≡ true → moves named from to (v ∷ vs) ≡ span (v .width) (from v) (to v) ++ moves named from to vs
   moves-named v vs e = ap (λ (l : List Move). l ++ moves named from to vs) (pick-true (named v) (span (v .width) (from v) (to v)) [] e)
 
   -- all its bytes are copied

@@ -1,6 +1,6 @@
 // Document 01, exchanges byte by byte: where an exchange under way stands, without a walk over all variables for each byte. Only the
 // semaphore's holder exchanges, so one cursor serves the whole machine.
-// In order: the search for a variable; the cursor; the bytes of an exchange; the copy of one byte.
+// In order: the search for a variable; the cursor; the bytes of an exchange; the copy of one byte; the copy of all.
 // `first` and `end` are the places of the first variable's record and past the last; `bit` picks the exchange: k for the writing of
 // core k, 4 + k for its reading; x is the exchange number.
 ghost use mathlib.Core.Path.{_≡_};
@@ -152,4 +152,38 @@ pub fn publish(file: &[u8], k: usize, x: u16, cursor: Cursor, d: &[u8], shared: 
     let from = byte_place(file, place + LOCAL + 2 * k, byte);
     let to = byte_place(file, place, byte);
     shared[to] = d[from];
+}
+
+// ---- the copy of all bytes, a variable at a time
+
+// Core k's reading, whole.
+pub fn bring_all(file: &[u8], first: usize, end: usize, k: usize, d: &mut [u8], shared: &[u8])
+    requires { ⌜ Laid (now file) × (k < cores (now file)) × (first ≡ recordPlace (now file) 0) × (end ≡ recordPlace (now file) (variables (now file))) × (length (now d) ≡ dataSize (now file) k) × (length (now shared) ≡ 1024) ⌝ }
+    ensures { λ _. ⌜ now (d .exit) ≡ copy (readsOf (variablesOf (now (file .entry))) k) (now (shared .entry)) (now (d .entry)) ⌝ }
+{
+    let mut place = first;
+    while place < end {
+        if named(file, place, 4 + k) {
+            let from = code::word(file, place) as usize;
+            let to = code::word(file, place + LOCAL + 2 * k) as usize;
+            memory::copy(d, to, shared, from, file[place + WIDTH] as usize);
+        }
+        place += RECORD;
+    }
+}
+
+// Core k's writing, whole.
+pub fn publish_all(file: &[u8], first: usize, end: usize, k: usize, d: &[u8], shared: &mut [u8])
+    requires { ⌜ Laid (now file) × (k < cores (now file)) × (first ≡ recordPlace (now file) 0) × (end ≡ recordPlace (now file) (variables (now file))) × (length (now d) ≡ dataSize (now file) k) × (length (now shared) ≡ 1024) ⌝ }
+    ensures { λ _. ⌜ now (shared .exit) ≡ copy (writesOf (variablesOf (now (file .entry))) k) (now (d .entry)) (now (shared .entry)) ⌝ }
+{
+    let mut place = first;
+    while place < end {
+        if named(file, place, k) {
+            let from = code::word(file, place + LOCAL + 2 * k) as usize;
+            let to = code::word(file, place) as usize;
+            memory::copy(shared, to, d, from, file[place + WIDTH] as usize);
+        }
+        place += RECORD;
+    }
 }

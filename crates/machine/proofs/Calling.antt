@@ -63,7 +63,7 @@ pub record Counted (f t : List ℕ) (x y : Left) (ks : List ℕ) : Type 0 where
   pub taken : y .answer .taken ≡ length (takings (taskOf f t) ks (wholeOf f x))
   pub lendable : Lendable f t y
 
-run-fit : (f t : List ℕ) → Set f t → (ks : List ℕ) (s : Whole) → Fit f t s → Fit f t (run (taskOf f t) ks s)
+pub run-fit : (f t : List ℕ) → Set f t → (ks : List ℕ) (s : Whole) → Fit f t s → Fit f t (run (taskOf f t) ks s)
 run-fit f t ok [] s fit = fit
 run-fit f t ok (k ∷ ks) s fit = run-fit f t ok ks (step (taskOf f t) k s) (fit-kept f t ok (executes f t ok) k s fit)
 

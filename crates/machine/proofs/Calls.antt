@@ -217,3 +217,8 @@ fresh-none f d sh z e = fresh-none-for Full f d sh z e
 pub fresh-full : (f d sh : List ℕ) → freshCallFor Full f d sh ≡ freshCall f d sh
 unfolding freshCallFor freshCall freshRefusal
 fresh-full f d sh = refl
+
+-- where nothing is refused, the profile makes no difference
+pub fresh-any : (o : Profile) (f d sh : List ℕ) → judgeFor o f ≡ 0 → judge f ≡ 0 → lentFits f (length d) (length sh) ≡ true → freshCall f d sh ≡ freshCallFor o f d sh
+unfolding freshCallFor
+fresh-any o f d sh z w e = sym (fresh-full f d sh) ∙ ap (λ (r : ℕ). freshLeft r f d sh) (fresh-none-for Full f d sh w e ∙ sym (fresh-none-for o f d sh z e))

@@ -69,7 +69,7 @@ pub fn check_state(file: &[u8], trace: &[u8], s: State) -> u8
 // ---- lent memory
 
 // Whether data buffer and shared memory have their sizes.
-fn lent_fits(file: &[u8], layout: Layout, buffer: usize, shared: usize) -> bool
+pub fn lent_fits(file: &[u8], layout: Layout, buffer: usize, shared: usize) -> bool
     requires { ⌜ (judge (now file) ≡ 0) × (layout ≡ layoutOf (now file)) ⌝ }
     ensures { λ r. ⌜ r ≡ lentFits (now (file .entry)) buffer shared ⌝ }
 {
@@ -110,7 +110,7 @@ fn cleared(flags: u8) -> Registers
 }
 
 // A table of n cores with these flags, all else 0: the semaphore free, and nobody in line.
-fn table_of(n: u8, flags: u8) -> State
+pub fn table_of(n: u8, flags: u8) -> State
     ensures { λ r. ⌜ r ≡ tableOf n flags ⌝ }
 {
     let core = cleared(flags);
@@ -132,6 +132,15 @@ fn table_of(n: u8, flags: u8) -> State
     }
 }
 
+// The fresh state of an accepted file, in memories of its sizes: zero but for the start values.
+pub fn fresh_judged(file: &[u8], layout: Layout, buffer: &mut [u8], shared: &mut [u8]) -> Ran
+    requires { ⌜ (judge (now file) ≡ 0) × (layout ≡ layoutOf (now file)) × (lentFits (now file) (length (now buffer)) (length (now shared)) ≡ true) ⌝ }
+    ensures { λ r. ⌜ left r (now (buffer .exit)) (now (shared .exit)) [] ≡ freshCall (now (file .entry)) (now (buffer .entry)) (now (shared .entry)) ⌝ }
+{
+    starts::fill(file, layout, buffer, shared);
+    answer(0, table_of(layout.cores as u8, COLD_START))
+}
+
 // The fresh state of a file that is loaded under a profile: memories zero but for the start values, mode 0, registers 0, flags 4, semaphore free, nobody in line. A refused call gives a table of no cores.
 pub fn fresh_for(profile: Profile, file: &[u8], buffer: &mut [u8], shared: &mut [u8]) -> Ran
     ensures { λ r. ⌜ left r (now (buffer .exit)) (now (shared .exit)) [] ≡ freshCallFor profile (now (file .entry)) (now (buffer .entry)) (now (shared .entry)) ⌝ }
@@ -140,11 +149,11 @@ pub fn fresh_for(profile: Profile, file: &[u8], buffer: &mut [u8], shared: &mut 
     if loaded.refusal != 0 {
         return answer(loaded.refusal, table_of(0, 0));
     }
-    if !lent_fits(file, loaded.layout, buffer.len(), shared.len()) {
+    let layout = loaded.layout;
+    if !lent_fits(file, layout, buffer.len(), shared.len()) {
         return answer(21, table_of(0, 0));
     }
-    starts::fill(file, loaded.layout, buffer, shared);
-    answer(0, table_of(loaded.layout.cores as u8, COLD_START))
+    fresh_judged(file, layout, buffer, shared)
 }
 
 // Under the full profile.
@@ -204,7 +213,7 @@ fn aim_of(
 }
 
 // What a call answers that steps no core.
-fn answer(number: u8, s: State) -> Ran
+pub fn answer(number: u8, s: State) -> Ran
     ensures { λ r. ⌜ r ≡ answerOf number s ⌝ }
 {
     Ran {

@@ -16,3 +16,4 @@ pub mod Cycles
 pub mod Tests
 pub mod Fair
 pub mod Attained
+pub mod Rerun

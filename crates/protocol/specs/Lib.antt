@@ -10,3 +10,4 @@ pub mod Fresh
 pub mod Interleaving
 pub mod Cycles
 pub mod Fair
+pub mod Rerun

@@ -23,6 +23,10 @@ pub record Semaphore : Type 0 where
   pub holder : ℕ
   pub line : List ℕ
 
+-- nobody holds it, and nobody waits for it
+abbrev pub untaken : Semaphore
+untaken = record { holder = 0; line = [] }
+
 pub record State : Type 0 where
   pub plant : Plant
   pub semaphore : Semaphore

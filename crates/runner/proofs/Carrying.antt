@@ -73,6 +73,15 @@ module _ (before : Registers) (counter offset depth count : ℕ) {counter′ off
   unfolding returned
   returned-at a b e = λ i. executingAt before (a i) (b i) (e i) (count + 1)
 
+-- the mode after a fault, and after the cycle's end
+pub faulted-mode : (b : ℕ) (r : Registers) → faulted b r .mode ≡ 5
+unfolding faulted
+faulted-mode b r = refl
+
+pub ended-mode : (r : Registers) → cycleEnded r .mode ≡ 3
+unfolding cycleEnded
+ended-mode r = refl
+
 -- what holds of the run under way
 module _ {f t order : List ℕ} {from i k : ℕ} {before r : Registers} {p₀ o₀ d₀ places offsets d : List ℕ} (s : Stands f t order from k before p₀ o₀ d₀)
     (w : Carries f t order k from before p₀ o₀ d₀ i r places offsets d) where

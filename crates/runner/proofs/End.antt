@@ -93,7 +93,7 @@ module _ (f t : List ℕ) (order list₀ : List ℕ) (s₀ : State) (s : Held) (
       go false e =
           sym (here old) ∙ ap (λ (m : List ℕ). getD m (n % 16) 0) (sym (b (n / 16)) ∙ ap field (sym (w .spare (n / 16) (ltb-false (n / 16) (cores f) e) .1)) ∙ a (n / 16)) ∙ here l
 
-  held-back : (m : HeldSemaphore) → m ≡ semaphoreBack h → heldAfter (cores f) s (stateIn f cs places offsets h d sh) ≡ record { count = s .count; semaphore = m; cores = cs; places = places; offsets = offsets }
+  pub held-back : (m : HeldSemaphore) → m ≡ semaphoreBack h → heldAfter (cores f) s (stateIn f cs places offsets h d sh) ≡ record { count = s .count; semaphore = m; cores = cs; places = places; offsets = offsets }
   unfolding heldAfter
   held-back m e = same
       (ap semaphoreBack (semaphore-in f cs places offsets h d sh) ∙ sym e)

@@ -3,3 +3,4 @@ pub mod Loop
 pub mod Arms
 pub mod End
 pub mod Carrying
+pub mod Executing

@@ -82,6 +82,7 @@ looping-start {f} {t} {tasks} {first} {end} {order} {s} {cursor} {d} {sh} {list}
       rw (y .is, a .0, b .0, e .0) record {
         running = record {
           within = omega arith;
+          reached = refl;
           rest = refl;
           listed = refl;
           counted = zero-add (length (takings (taskOf f t) order (stateOf f s d sh)));

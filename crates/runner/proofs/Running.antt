@@ -13,8 +13,8 @@ use borrow.Author.Tests.{ltb-true}
 use Rattle.verdict.proofs.Verdict.{both-true}
 use Rattle.runner.specs.Runs.{allBelow}
 use native.Mathlib.Numerals.{add-one}
-use lib.ListN.{length, getD, set, drop, length-set, length-append, length-map}
-use lib.Seq.{getD-set-same, getD-set-other, drop-cons}
+use lib.ListN.{length, getD, set, take, drop, length-set, length-append, length-map}
+use lib.Seq.{getD-set-same, getD-set-other, take-suc, drop-cons}
 use Rattle.memory.specs.Memory.{splice, split}
 use Rattle.memory.proofs.Laws.{splice-append, length-splice}
 use Rattle.memory.proofs.Cores.{length-split}
@@ -22,6 +22,7 @@ use Rattle.protocol.specs.declared.Registers.{Registers}
 use Rattle.protocol.specs.declared.Stack.{Stack}
 use Rattle.protocol.specs.State.{Core, Semaphore, State, Task, absent, core}
 use Rattle.protocol.specs.Step.{step, run, Taking, takingOf, takings, encoded, orderList}
+use Rattle.protocol.proofs.Steps.{run-append}
 use Rattle.records.specs.File.{cores, dataSize}
 use Rattle.taskset.specs.Task.{listed, sizesOf}
 use Rattle.taskset.proofs.Accepted.{length-listed, listed-at}
@@ -126,6 +127,9 @@ counts t k ks s s′ n n′ xs e f g =
 rest-from : (order : List ℕ) (i k : ℕ) → i < length order → getD order i 0 ≡ k → drop i order ≡ k ∷ drop (i + 1) order
 rest-from order i k h e = drop-cons order i 0 h ∙ rw (e, ← add-one i)
 
+front-to : (order : List ℕ) (i k : ℕ) → i < length order → getD order i 0 ≡ k → take (i + 1) order ≡ take i order ++ (k ∷ [])
+front-to order i k h e = ap (λ (n : ℕ). take n order) (add-one i) ∙ take-suc order i 0 h ∙ ap (λ (j : ℕ). take i order ++ (j ∷ [])) e
+
 module _ (f t : List ℕ) (ok : Set f t) (ex : Executes f t) where
   -- the effect z of core k, with the data m of core k and the shared memory sh′ afterwards, is its step
   next-state : (cs : List Registers) (places offsets : List ℕ) (h : Semaphore) (d sh : List ℕ) (k : ℕ) → k < cores f → cores f ≤ length cs
@@ -158,6 +162,7 @@ module _ (f t : List ℕ) (ok : Set f t) (ex : Executes f t) (order list₀ : Li
       let r : drop i order ≡ k ∷ drop (i + 1) order = rest-from order i k b e in
       record {
         within = omega arith;
+        reached = ap (λ (ks : List ℕ). run (taskOf f t) ks s₀) (front-to order i k b e) ∙ run-append (taskOf f t) (take i order) (k ∷ []) s₀ ∙ ap (step (taskOf f t) k) (w .reached) ∙ sym (q .0);
         rest = ap (run (taskOf f t) (drop (i + 1) order)) (q .0) ∙ ap (λ (ks : List ℕ). run (taskOf f t) ks (stateIn f cs places offsets h d sh)) (sym r) ∙ w .rest;
         listed =
             ap₂ (λ (l : List ℕ) (n : ℕ). splice l n (orderList (taskOf f t) (drop (i + 1) order) (stateIn f cs′ places′ offsets′ h′ d′ sh′))) le te

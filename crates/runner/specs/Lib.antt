@@ -1,3 +1,4 @@
 pub mod Runs
 pub mod Running
 pub mod Going
+pub mod Executing

@@ -5,7 +5,7 @@ use mathlib.Core.Bool.{Bool}
 use mathlib.Core.List.{List}
 use Prim.Native.Nat.{ℕ, suc, _+_, _≤_, _<_}
 use lib.Dec.{ltb, eqb}
-use lib.ListN.{length, getD, set, drop}
+use lib.ListN.{length, getD, set, take, drop}
 use Rattle.verdict.specs.Verdict.{both}
 use Rattle.memory.specs.Memory.{splice, total}
 use Rattle.protocol.specs.declared.Registers.{Registers}
@@ -44,10 +44,11 @@ executingAt r counter offset depth count = record {
 
 -- ---- the invariant
 
--- What holds before step i of a run: what is left of the order makes of the state now what the whole makes of the first one
+-- What holds before step i of a run: the first i steps made the state now, and what is left of the order makes of it what the whole makes of the first one
 pub record Running (f t : List ℕ) (order list₀ : List ℕ) (s₀ : State) (cs₀ : List Registers) (places₀ offsets₀ : List ℕ)
     (i : ℕ) (cs : List Registers) (places offsets : List ℕ) (h : Semaphore) (taken : ℕ) (d sh list : List ℕ) : Type 0 where
   pub within : i ≤ length order
+  pub reached : run (taskOf f t) (take i order) s₀ ≡ stateIn f cs places offsets h d sh
   pub rest : run (taskOf f t) (drop i order) (stateIn f cs places offsets h d sh) ≡ run (taskOf f t) order s₀
   pub listed : splice list taken (orderList (taskOf f t) (drop i order) (stateIn f cs places offsets h d sh)) ≡ splice list₀ 0 (orderList (taskOf f t) order s₀)
   pub counted : taken + length (takings (taskOf f t) (drop i order) (stateIn f cs places offsets h d sh)) ≡ length (takings (taskOf f t) order s₀)

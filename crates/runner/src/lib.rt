@@ -7,7 +7,8 @@ use states::CoreTask;
 use states::State;
 use steps::Exchange;
 ghost use mathlib.Core.Path.{_≡_};
-ghost use mathlib.Core.Bool.{true};
+ghost use mathlib.Core.Bool.{true, false};
+ghost use mathlib.Core.Logic.{_≢_};
 ghost use Prim.Native.Nat.{_+_, _*_, _<_, _≤_};
 ghost use lib.ListN.{length, getD, set};
 ghost use Rattle.records.specs.File.{cores};
@@ -15,6 +16,7 @@ ghost use Rattle.runner.specs.Runs.{allBelow, left, ranCall};
 ghost use Rattle.states.specs.Tasks.{coreTask};
 ghost use Rattle.runner.specs.Going.{Going};
 ghost use Rattle.runner.specs.Running.{stepsOn, executingAt, Stands, Carries};
+ghost use Rattle.runner.specs.Executing.{Executing, Executes};
 
 // What a call that moves the machine answers: the refusal number, 0 for none; how many takings it wrote; the state.
 pub struct Ran {
@@ -113,7 +115,7 @@ fn run_core(
     buffer: &mut [u8],
 ) -> Reached
     requires { ⌜ Stands (now file) (now trace) (now order) from k before (now places) (now offsets) (now buffer) × (c ≡ coreTask (now file) (now trace) k) × (stepsOn (now order) from k ≡ true) × (before .mode ≡ 2) ⌝ }
-    ensures { λ x. ⌜ (from < x .step) × Carries (now (file .entry)) (now (trace .entry)) (now (order .entry)) k from before (now (places .entry)) (now (offsets .entry)) (now (buffer .entry)) (x .step) (x .registers) (now (places .exit)) (now (offsets .exit)) (now (buffer .exit)) ⌝ }
+    ensures { λ x. ⌜ (from < x .step) × Carries (now (file .entry)) (now (trace .entry)) (now (order .entry)) k from before (now (places .entry)) (now (offsets .entry)) (now (buffer .entry)) (x .step) (x .registers) (now (places .exit)) (now (offsets .exit)) (now (buffer .exit)) × (x .registers .mode ≡ 2 → (stepsOn (now (order .entry)) (x .step) k ≡ false) × (x .registers .count + from ≡ before .count + x .step)) ⌝ }
 {
     let mut counter = before.counter;
     let mut offset = before.offset;
@@ -163,6 +165,33 @@ fn run_core(
         step,
         registers: executing_at(before, counter, offset, depth, count),
     }
+}
+
+// Steps of an order that names one core alone.
+const STRETCH: usize = 256;
+
+// The instructions of core k with the registers `before`, until it leaves mode 2, where no core exchanges.
+pub fn run_alone(
+    file: &[u8],
+    trace: &[u8],
+    c: CoreTask,
+    k: usize,
+    before: Registers,
+    places: &mut [u16; 64],
+    offsets: &mut [u16; 64],
+    buffer: &mut [u8],
+) -> Registers
+    requires { ⌜ Executing (now file) (now trace) k before (now places) (now offsets) (now buffer) × (c ≡ coreTask (now file) (now trace) k) ⌝ }
+    ensures { λ r. ⌜ (r .mode ≢ 2) × Executes (now (file .entry)) (now (trace .entry)) k before (now (places .entry)) (now (offsets .entry)) (now (buffer .entry)) r (now (places .exit)) (now (offsets .exit)) (now (buffer .exit)) ⌝ }
+{
+    let order = [k as u8; STRETCH];
+    let mut r = before;
+    while r.mode == EXECUTING {
+        let x = run_core(file, trace, c, &order, 0, k, r, places, offsets, buffer);
+        let registers = x.registers;
+        r = registers;
+    }
+    r
 }
 
 // The steps of an order, one after another; everything is judged before.

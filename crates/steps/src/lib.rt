@@ -50,7 +50,14 @@ fn clear(d: &mut [u8], n: usize)
 }
 
 // The input bytes of the record of this cycle go to the first data bytes; its time is the answer. A trace of no bytes means time 0 and zeros.
-fn take_record(r: Registers, k: usize, c: CoreTask, file: &[u8], trace: &[u8], d: &mut [u8]) -> u32
+pub fn take_record(
+    r: Registers,
+    k: usize,
+    c: CoreTask,
+    file: &[u8],
+    trace: &[u8],
+    d: &mut [u8],
+) -> u32
     requires { ⌜ Ready (now file) (now trace) k c r (now d) × (r .cycles < c .count) ⌝ }
     ensures { λ x. ⌜ (x ≡ sampleAt (now (file .entry)) (now (trace .entry)) k (r .cycles) .time) × (now (d .exit) ≡ splice (now (d .entry)) 0 (sampleAt (now (file .entry)) (now (trace .entry)) k (r .cycles) .input)) ⌝ }
 {

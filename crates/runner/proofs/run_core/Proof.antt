@@ -2,26 +2,27 @@
 use mathlib.Core.Path.{_≡_, refl, sym, ap, _∙_}
 use mathlib.Core.Bool.{true, false}
 use mathlib.Core.Logic.{⊎-elim}
-use Prim.Native.Nat.{_-_, _<_, _≤_}
+use Prim.Native.Nat.{_+_, _-_, _<_, _≤_}
 use native.Mathlib.Omega.{arith}
 use lib.ListN.{length}
 use borrow.Author.Needs.{needs}
 use Rattle.verdict.proofs.Verdict.{absurd-bool}
+use Rattle.protocol.specs.declared.Registers.{Registers}
 use Rattle.protocol.specs.Registers.{cycleEnded, faulted}
 use Rattle.runner.specs.Running.{stepsOn, executingAt, Carries}
-use Rattle.runner.proofs.Carrying.{step-in, carry-none, carries-as, instructs-as, ended-takes, returned-takes, advanced-at, called-at, returned-at, ready-now, buffer-now, length-now, core-few, takes-outcome, carry-next, carry-fault, carry-ended, carry-call, carry-return}
+use Rattle.runner.proofs.Carrying.{step-in, carry-none, carries-as, instructs-as, ended-takes, returned-takes, advanced-at, called-at, returned-at, ready-now, buffer-now, length-now, core-few, faulted-mode, ended-mode, takes-outcome, carry-next, carry-fault, carry-ended, carry-call, carry-return}
 use Rattle.runner.proofs.run_core.Statement.{statement}
 use Rattle.runner.proofs.run_core.Tie as tie
 
 abbrev Inv-loop : tie.InvT-loop
 Inv-loop file trace c order from k before places₀ offsets₀ buffer₀ counter₀ offset₀ depth₀ count₀ step₀ on₀ places offsets buffer counter offset depth count step on =
-    (from ≤ step) × (on ≡ false → from < step) × (on ≡ true → stepsOn order step k ≡ true) × Carries file trace order k from before places₀ offsets₀ buffer₀ step (executingAt before counter offset depth count) places offsets buffer
+    (from ≤ step) × (on ≡ false → from < step) × (on ≡ true → stepsOn order step k ≡ true) × Carries file trace order k from before places₀ offsets₀ buffer₀ step (executingAt before counter offset depth count) places offsets buffer × (on ≡ false → stepsOn order step k ≡ false) × (count + from ≡ before .count + step)
 
 abbrev μ-loop : tie.MeasureT-loop
 μ-loop file trace c order from k before places₀ offsets₀ buffer₀ counter₀ offset₀ depth₀ count₀ step₀ on₀ places offsets buffer counter offset depth count step on = length order - step
 
 loop-holds : tie.Need-loop-holds Inv-loop μ-loop
-loop-holds c = (omega arith, (λ e. absurd-bool (sym e)), (λ e. c .before .before .before .before .pre .2), carry-none _ _ _ _ _ _ _ _ _)
+loop-holds c = (omega arith, (λ e. absurd-bool (sym e)), (λ e. c .before .before .before .before .pre .2), carry-none _ _ _ _ _ _ _ _ _, (λ e. absurd-bool (sym e)), refl)
 
 executing-at-requires : tie.Need-executing-at-requires Inv-loop μ-loop
 executing-at-requires c κs = search needs
@@ -42,7 +43,7 @@ same-length : tie.Need-same-length Inv-loop μ-loop
 same-length c = search (needs, length-now (c .before .before .before .before .before .before .before .before .before .before .before .before .before .before .before .pre .0) (c .before .before .before .before .before .before .before .before .before .before .loop .inv .3), c .before .before .before .before .before .buffer .given)
 
 returns : tie.Need-returns Inv-loop μ-loop
-returns c = (omega (arith, c .before .before .before .before .before .before .before .before .before .before .loop .inv .0), carries-as (c .faulted .ensures ∙ ap (faulted _) (c .before .before .before .before .before .before .before .before .executing-at .ensures)) refl refl (carry-fault (c .before .before .before .before .before .before .before .before .before .before .before .before .before .before .before .pre .0 .accepted) (c .before .before .before .before .before .before .before .before .before .before .loop .inv .2 (c .before .before .before .before .before .before .before .before .before .loop-test .taken)) (c .before .before .before .before .before .before .before .before .before .before .before .before .before .before .before .pre .0 .known) (c .before .before .before .before .before .before .before .before .before .before .loop .inv .3) (c .before .before .before .before .before .before .instruction-of .result) (instructs-as (c .before .before .before .before .before .before .instruction-of .result) (c .before .before .before .before .before .before .before .before .executing-at .ensures) (c .before .before .before .before .before .before .instruction-of .ensures)) (search (needs, c .before .before .before .before .before .buffer .given)) _ (c .before .before .o .given .1)))
+returns c = (omega (arith, c .before .before .before .before .before .before .before .before .before .before .loop .inv .0), carries-as (c .faulted .ensures ∙ ap (faulted _) (c .before .before .before .before .before .before .before .before .executing-at .ensures)) refl refl (carry-fault (c .before .before .before .before .before .before .before .before .before .before .before .before .before .before .before .pre .0 .accepted) (c .before .before .before .before .before .before .before .before .before .before .loop .inv .2 (c .before .before .before .before .before .before .before .before .before .loop-test .taken)) (c .before .before .before .before .before .before .before .before .before .before .before .before .before .before .before .pre .0 .known) (c .before .before .before .before .before .before .before .before .before .before .loop .inv .3) (c .before .before .before .before .before .before .instruction-of .result) (instructs-as (c .before .before .before .before .before .before .instruction-of .result) (c .before .before .before .before .before .before .before .before .executing-at .ensures) (c .before .before .before .before .before .before .instruction-of .ensures)) (search (needs, c .before .before .before .before .before .buffer .given)) _ (c .before .before .o .given .1)), (λ e. absurd (omega (arith, sym (ap (λ (r : Registers). r .mode) (c .faulted .ensures) ∙ faulted-mode _ _) ∙ e))))
 
 enum-known-o-2 : tie.Need-enum-known-o-2 Inv-loop μ-loop
 enum-known-o-2 c = search needs
@@ -69,7 +70,7 @@ same-length-2 : tie.Need-same-length-2 Inv-loop μ-loop
 same-length-2 c = search (needs, length-now (c .before .before .before .before .before .before .before .before .before .before .before .before .before .before .before .pre .0) (c .before .before .before .before .before .before .before .before .before .before .loop .inv .3), c .before .before .before .before .before .buffer .given)
 
 returns-2 : tie.Need-returns-2 Inv-loop μ-loop
-returns-2 c = (omega (arith, c .before .before .before .before .before .before .before .before .before .before .loop .inv .0), carries-as (c .cycle-ended .ensures ∙ ap cycleEnded (c .before .before .before .before .before .before .before .before .executing-at .ensures)) refl refl (carry-ended (c .before .before .before .before .before .before .before .before .before .before .before .before .before .before .before .pre .0 .accepted) (c .before .before .before .before .before .before .before .before .before .before .loop .inv .2 (c .before .before .before .before .before .before .before .before .before .loop-test .taken)) (c .before .before .before .before .before .before .before .before .before .before .before .before .before .before .before .pre .0 .known) (c .before .before .before .before .before .before .before .before .before .before .loop .inv .3) (c .before .before .before .before .before .before .instruction-of .result) (instructs-as (c .before .before .before .before .before .before .instruction-of .result) (c .before .before .before .before .before .before .before .before .executing-at .ensures) (c .before .before .before .before .before .before .instruction-of .ensures)) (search (needs, c .before .before .before .before .before .buffer .given)) (c .before .before .enum-told .given .1) (c .before .if1 .taken)))
+returns-2 c = (omega (arith, c .before .before .before .before .before .before .before .before .before .before .loop .inv .0), carries-as (c .cycle-ended .ensures ∙ ap cycleEnded (c .before .before .before .before .before .before .before .before .executing-at .ensures)) refl refl (carry-ended (c .before .before .before .before .before .before .before .before .before .before .before .before .before .before .before .pre .0 .accepted) (c .before .before .before .before .before .before .before .before .before .before .loop .inv .2 (c .before .before .before .before .before .before .before .before .before .loop-test .taken)) (c .before .before .before .before .before .before .before .before .before .before .before .before .before .before .before .pre .0 .known) (c .before .before .before .before .before .before .before .before .before .before .loop .inv .3) (c .before .before .before .before .before .before .instruction-of .result) (instructs-as (c .before .before .before .before .before .before .instruction-of .result) (c .before .before .before .before .before .before .before .before .executing-at .ensures) (c .before .before .before .before .before .before .instruction-of .ensures)) (search (needs, c .before .before .before .before .before .buffer .given)) (c .before .before .enum-told .given .1) (c .before .if1 .taken)), (λ e. absurd (omega (arith, sym (ap (λ (r : Registers). r .mode) (c .cycle-ended .ensures) ∙ ended-mode _) ∙ e))))
 
 sub-depth : tie.Need-sub-depth Inv-loop μ-loop
 sub-depth c = search needs
@@ -96,7 +97,7 @@ loop-less : tie.Need-loop-less Inv-loop μ-loop
 loop-less c = omega (arith, step-in (c .before .before .before .before .before .before .before .before .before .before .before .before .before .args .order .now) (c .before .before .before .before .before .before .before .before .loop .step) (c .before .before .before .before .before .before .before .before .before .before .before .before .before .args .k) (c .before .before .before .before .before .before .before .before .loop .inv .2 (c .before .before .before .before .before .before .before .loop-test .taken)) .0)
 
 loop-again : tie.Need-loop-again Inv-loop μ-loop
-loop-again c = ⊎-elim (λ w. (omega (arith, c .before .before .before .before .before .before .before .before .loop .inv .0), (λ e. omega (arith, c .before .before .before .before .before .before .before .before .loop .inv .0)), (λ e. sym (c .stays .ensures) ∙ e), carries-as (advanced-at (c .before .before .before .before .before .before .before .before .before .before .before .before .before .args .before) (c .before .before .before .before .before .before .before .before .loop .counter) (c .before .before .before .before .before .before .before .before .loop .offset) (c .before .before .before .before .before .before .before .before .loop .depth) (c .before .before .before .before .before .before .before .before .loop .count) (w .5) (w .6) (w .7)) (w .3) (w .4) (carry-next (c .before .before .before .before .before .before .before .before .before .before .before .before .before .pre .0 .accepted) (c .before .before .before .before .before .before .before .before .loop .inv .2 (c .before .before .before .before .before .before .before .loop-test .taken)) (c .before .before .before .before .before .before .before .before .before .before .before .before .before .pre .0 .known) (c .before .before .before .before .before .before .before .before .loop .inv .3) (c .before .before .before .before .instruction-of .result) (instructs-as (c .before .before .before .before .instruction-of .result) (c .before .before .before .before .before .before .executing-at .ensures) (c .before .before .before .before .instruction-of .ensures)) (search (needs, c .before .before .before .buffer .given)) _ (w .1 .given .1)))) (⊎-elim (λ w. (omega (arith, c .before .before .before .before .before .before .before .before .loop .inv .0), (λ e. omega (arith, c .before .before .before .before .before .before .before .before .loop .inv .0)), (λ e. sym (c .stays .ensures) ∙ e), carries-as (called-at (c .before .before .before .before .before .before .before .before .before .before .before .before .before .args .before) (c .before .before .before .before .before .before .before .before .loop .counter) (c .before .before .before .before .before .before .before .before .loop .offset) (c .before .before .before .before .before .before .before .before .loop .depth) (c .before .before .before .before .before .before .before .before .loop .count) (w .9) (w .10) (w .11)) (w .7 ∙ w .4 .ensures) (w .8 ∙ w .6 .ensures) (carry-call (c .before .before .before .before .before .before .before .before .before .before .before .before .before .pre .0 .accepted) (c .before .before .before .before .before .before .before .before .loop .inv .2 (c .before .before .before .before .before .before .before .loop-test .taken)) (c .before .before .before .before .before .before .before .before .before .before .before .before .before .pre .0 .known) (c .before .before .before .before .before .before .before .before .loop .inv .3) (c .before .before .before .before .instruction-of .result) (instructs-as (c .before .before .before .before .instruction-of .result) (c .before .before .before .before .before .before .executing-at .ensures) (c .before .before .before .before .instruction-of .ensures)) (search (needs, c .before .before .before .buffer .given)) _ _ _ (w .1 .given .1)))) (λ w. (omega (arith, c .before .before .before .before .before .before .before .before .loop .inv .0), (λ e. omega (arith, c .before .before .before .before .before .before .before .before .loop .inv .0)), (λ e. sym (c .stays .ensures) ∙ e), carries-as (returned-at (c .before .before .before .before .before .before .before .before .before .before .before .before .before .args .before) (c .before .before .before .before .before .before .before .before .loop .counter) (c .before .before .before .before .before .before .before .before .loop .offset) (c .before .before .before .before .before .before .before .before .loop .depth) (c .before .before .before .before .before .before .before .before .loop .count) (w .13 ∙ w .4 .ensures) (w .14 ∙ w .6 .ensures) (w .15)) (w .11 ∙ w .8 .ensures) (w .12 ∙ w .10 .ensures) (carry-return (c .before .before .before .before .before .before .before .before .before .before .before .before .before .pre .0 .accepted) (c .before .before .before .before .before .before .before .before .loop .inv .2 (c .before .before .before .before .before .before .before .loop-test .taken)) (c .before .before .before .before .before .before .before .before .before .before .before .before .before .pre .0 .known) (c .before .before .before .before .before .before .before .before .loop .inv .3) (c .before .before .before .before .instruction-of .result) (instructs-as (c .before .before .before .before .instruction-of .result) (c .before .before .before .before .before .before .executing-at .ensures) (c .before .before .before .before .instruction-of .ensures)) (search (needs, c .before .before .before .buffer .given)) (c .before .before .before .before .before .before .before .before .loop .depth - 1) (w .1 .given .1) (omega (arith, w .2 .left)))))) (c .before .match .came)
+loop-again c = ⊎-elim (λ w. (omega (arith, c .before .before .before .before .before .before .before .before .loop .inv .0), (λ e. omega (arith, c .before .before .before .before .before .before .before .before .loop .inv .0)), (λ e. sym (c .stays .ensures) ∙ e), carries-as (advanced-at (c .before .before .before .before .before .before .before .before .before .before .before .before .before .args .before) (c .before .before .before .before .before .before .before .before .loop .counter) (c .before .before .before .before .before .before .before .before .loop .offset) (c .before .before .before .before .before .before .before .before .loop .depth) (c .before .before .before .before .before .before .before .before .loop .count) (w .5) (w .6) (w .7)) (w .3) (w .4) (carry-next (c .before .before .before .before .before .before .before .before .before .before .before .before .before .pre .0 .accepted) (c .before .before .before .before .before .before .before .before .loop .inv .2 (c .before .before .before .before .before .before .before .loop-test .taken)) (c .before .before .before .before .before .before .before .before .before .before .before .before .before .pre .0 .known) (c .before .before .before .before .before .before .before .before .loop .inv .3) (c .before .before .before .before .instruction-of .result) (instructs-as (c .before .before .before .before .instruction-of .result) (c .before .before .before .before .before .before .executing-at .ensures) (c .before .before .before .before .instruction-of .ensures)) (search (needs, c .before .before .before .buffer .given)) _ (w .1 .given .1)), (λ e. sym (c .stays .ensures) ∙ e), omega (arith, c .before .before .before .before .before .before .before .before .loop .inv .5))) (⊎-elim (λ w. (omega (arith, c .before .before .before .before .before .before .before .before .loop .inv .0), (λ e. omega (arith, c .before .before .before .before .before .before .before .before .loop .inv .0)), (λ e. sym (c .stays .ensures) ∙ e), carries-as (called-at (c .before .before .before .before .before .before .before .before .before .before .before .before .before .args .before) (c .before .before .before .before .before .before .before .before .loop .counter) (c .before .before .before .before .before .before .before .before .loop .offset) (c .before .before .before .before .before .before .before .before .loop .depth) (c .before .before .before .before .before .before .before .before .loop .count) (w .9) (w .10) (w .11)) (w .7 ∙ w .4 .ensures) (w .8 ∙ w .6 .ensures) (carry-call (c .before .before .before .before .before .before .before .before .before .before .before .before .before .pre .0 .accepted) (c .before .before .before .before .before .before .before .before .loop .inv .2 (c .before .before .before .before .before .before .before .loop-test .taken)) (c .before .before .before .before .before .before .before .before .before .before .before .before .before .pre .0 .known) (c .before .before .before .before .before .before .before .before .loop .inv .3) (c .before .before .before .before .instruction-of .result) (instructs-as (c .before .before .before .before .instruction-of .result) (c .before .before .before .before .before .before .executing-at .ensures) (c .before .before .before .before .instruction-of .ensures)) (search (needs, c .before .before .before .buffer .given)) _ _ _ (w .1 .given .1)), (λ e. sym (c .stays .ensures) ∙ e), omega (arith, c .before .before .before .before .before .before .before .before .loop .inv .5))) (λ w. (omega (arith, c .before .before .before .before .before .before .before .before .loop .inv .0), (λ e. omega (arith, c .before .before .before .before .before .before .before .before .loop .inv .0)), (λ e. sym (c .stays .ensures) ∙ e), carries-as (returned-at (c .before .before .before .before .before .before .before .before .before .before .before .before .before .args .before) (c .before .before .before .before .before .before .before .before .loop .counter) (c .before .before .before .before .before .before .before .before .loop .offset) (c .before .before .before .before .before .before .before .before .loop .depth) (c .before .before .before .before .before .before .before .before .loop .count) (w .13 ∙ w .4 .ensures) (w .14 ∙ w .6 .ensures) (w .15)) (w .11 ∙ w .8 .ensures) (w .12 ∙ w .10 .ensures) (carry-return (c .before .before .before .before .before .before .before .before .before .before .before .before .before .pre .0 .accepted) (c .before .before .before .before .before .before .before .before .loop .inv .2 (c .before .before .before .before .before .before .before .loop-test .taken)) (c .before .before .before .before .before .before .before .before .before .before .before .before .before .pre .0 .known) (c .before .before .before .before .before .before .before .before .loop .inv .3) (c .before .before .before .before .instruction-of .result) (instructs-as (c .before .before .before .before .instruction-of .result) (c .before .before .before .before .before .before .executing-at .ensures) (c .before .before .before .before .instruction-of .ensures)) (search (needs, c .before .before .before .buffer .given)) (c .before .before .before .before .before .before .before .before .loop .depth - 1) (w .1 .given .1) (omega (arith, w .2 .left))), (λ e. sym (c .stays .ensures) ∙ e), omega (arith, c .before .before .before .before .before .before .before .before .loop .inv .5)))) (c .before .match .came)
 
 executing-at-requires-2 : tie.Need-executing-at-requires-2 Inv-loop μ-loop
 executing-at-requires-2 c κs = search needs
@@ -105,7 +106,7 @@ same-length-3 : tie.Need-same-length-3 Inv-loop μ-loop
 same-length-3 c = length-now (c .before .before .before .before .before .before .before .pre .0) (c .before .before .loop .inv .3)
 
 returns-3 : tie.Need-returns-3 Inv-loop μ-loop
-returns-3 c = (c .before .before .loop .inv .1 (c .before .loop-test .left), carries-as (c .executing-at2 .ensures) refl refl (c .before .before .loop .inv .3))
+returns-3 c = (c .before .before .loop .inv .1 (c .before .loop-test .left), carries-as (c .executing-at2 .ensures) refl refl (c .before .before .loop .inv .3), (λ e. (c .before .before .loop .inv .4 (c .before .loop-test .left), omega (arith, ap (λ (r : Registers). r .count) (c .executing-at2 .ensures), c .before .before .loop .inv .5))))
 
 pub run-core-spec : {M : Type 1} → statement M
 run-core-spec =

@@ -1,0 +1,40 @@
+-- `machine::fresh_judged` meets its contract: both memories are filled. Assumes nothing.
+use mathlib.Core.Path.{refl, _∙_}
+use native.Mathlib.Omega.{arith}
+use borrow.Author.Needs.{needs}
+use Rattle.code.specs.declared.Profile.the-variants.{Full}
+use Rattle.taskset.proofs.Exact.{keeps-rules}
+use Rattle.machine.proofs.Calls.{lent-sizes, fresh-none-for, fresh-granted-for, fresh-full}
+use Rattle.machine.proofs.fresh_judged.Statement.{statement}
+use Rattle.machine.proofs.fresh_judged.Tie as tie
+
+fill-requires : tie.Need-fill-requires
+fill-requires c κs = let given = @start .pre in let sized = lent-sizes (@start .args .file .now) _ _ (given .2) in (given .0, given .1, sized .0, sized .1)
+
+cast-table-of : tie.Need-cast-table-of
+cast-table-of c = rw (@start .pre .1) (omega (arith, keeps-rules (@start .args .file .now) (@start .pre .0) .most-cores))
+
+table-of-requires : tie.Need-table-of-requires
+table-of-requires c κs = search needs
+
+answer-requires : tie.Need-answer-requires
+answer-requires c κs = search needs
+
+same-length : tie.Need-same-length
+same-length c = search needs
+
+same-length-2 : tie.Need-same-length-2
+same-length-2 c = search needs
+
+returns : tie.Need-returns
+returns c =
+    let a = @start .args in
+    fresh-granted-for Full (a .file .now) (a .buffer .now) (a .shared .now) _ _ _
+    (fresh-none-for Full (a .file .now) (a .buffer .now) (a .shared .now) (@start .pre .0) (@start .pre .2))
+    (rw (@answer .ensures, @table-of .ensures, @start .pre .1) refl)
+    (@fill .ensures .0)
+    (@fill .ensures .1)
+    ∙ fresh-full (a .file .now) (a .buffer .now) (a .shared .now)
+
+pub fresh-judged-spec : {M : Type 1} → statement M
+fresh-judged-spec = tie.close (tie.spec fill-requires cast-table-of table-of-requires answer-requires same-length same-length-2 returns)

@@ -1,0 +1,98 @@
+-- What the functions of a rerun are given and what they promise. In order: a byte of the list; a state at rest; a reading; the whole list.
+use mathlib.Core.Path.{_≡_}
+use mathlib.Core.Logic.{_≢_}
+use mathlib.Core.Bool.{Bool, true}
+use mathlib.Core.List.{List, [], map}
+use Prim.Native.Nat.{ℕ, _+_, _-_, _≤_, _<_}
+use lib.Dec.{eqb, ltb}
+use lib.ListN.{length, getD, set, take}
+use Rattle.verdict.specs.Verdict.{pick, both}
+use Rattle.memory.specs.Memory.{splice, total, split}
+use Rattle.protocol.specs.declared.Registers.{Registers}
+use Rattle.protocol.specs.State.{core, untaken}
+use Rattle.protocol.specs.Step.{copy, reading}
+use Rattle.protocol.specs.Whole.{wholeOne, whole}
+use Rattle.protocol.specs.Laws.{Still}
+use Rattle.protocol.specs.Variables.{readsOf}
+use Rattle.protocol.specs.Rerun.{legal, decoded}
+use Rattle.records.specs.File.{cores, variables, recordPlace}
+use Rattle.taskset.specs.Task.{sizesOf, variablesOf, sampleAt}
+use Rattle.taskset.specs.Trace.{recordCount}
+use Rattle.taskset.specs.Fresh.{freshOf}
+use Rattle.states.specs.declared.State.{State}
+use Rattle.states.specs.declared.CoreTask.{CoreTask}
+use Rattle.states.specs.Task.{taskOf}
+use Rattle.states.specs.Tasks.{coreTask}
+use Rattle.states.specs.Machine.{none, stackIn, stateIn}
+use Rattle.states.specs.Set.{Set}
+use Rattle.runner.specs.declared.Ran.{Ran}
+use Rattle.runner.specs.Runs.{Left, left}
+use Rattle.runner.specs.Executing.{Standing}
+use Rattle.machine.specs.Calls.{answerOf, tableOf}
+use Rattle.rerun.specs.Calls.{listRefusal, rerunLeft}
+
+-- ---- a byte of the list
+
+-- the core that it names
+abbrev pub namedCore : ℕ → ℕ
+namedCore b = pick (ltb b 16) b (b - 16)
+
+-- a core with these registers and so many records has it to do: a reading in mode 0 with records left, a writing in mode 3
+abbrev pub dueBy : ℕ → Registers → ℕ → Bool
+dueBy b r count = pick (ltb b 16) (both (eqb (r .mode) 0) (ltb (r .cycles) count)) (eqb (r .mode) 3)
+
+-- ---- a state at rest: no exchange, no execution
+
+pub record Resting (f t : List ℕ) (cs : List Registers) (places offsets d sh : List ℕ) : Type 0 where
+  pub stands : Standing f t cs places offsets d sh
+  pub still : (j : ℕ) → Still (core (stateIn f cs places offsets untaken d sh .plant) j)
+
+-- ---- a reading
+
+-- the data of a core after it: input bytes, then all read variables
+abbrev pub broughtTo : List ℕ → List ℕ → ℕ → Registers → List ℕ → List ℕ → List ℕ
+broughtTo f t k r sh d = copy (readsOf (variablesOf f) k) sh (splice d 0 (sampleAt f t k (r .cycles) .input))
+
+-- a core k with the registers r that has a reading to do, in some state at rest
+pub record Reading (f t : List ℕ) (k : ℕ) (c : CoreTask) (first end : ℕ) (r : Registers) (places offsets d sh : List ℕ) : Type 0 where
+  pub accepted : Set f t
+  pub known : k < cores f
+  pub task : c ≡ coreTask f t k
+  pub from : first ≡ recordPlace f 0
+  pub upto : end ≡ recordPlace f (variables f)
+  pub idle : r .mode ≡ 0
+  pub due : r .cycles < recordCount f t k
+  pub cs : List Registers
+  pub here : getD cs k none ≡ r
+  pub rests : Resting f t cs places offsets d sh
+
+-- what it makes of a state: what the whole-exchange machine does
+pub record Reread (f t : List ℕ) (k : ℕ) (cs : List Registers) (places offsets d sh : List ℕ) (r′ : Registers) (places′ offsets′ d′ : List ℕ) : Type 0 where
+  pub plant : stateIn f (set cs k r′) places′ offsets′ untaken d′ sh .plant ≡ wholeOne (taskOf f t) (reading k) (stateIn f cs places offsets untaken d sh .plant)
+  pub entries : (length places′ ≡ 64) × (length offsets′ ≡ 64)
+  pub buffer : length d′ ≡ total (sizesOf f)
+  pub spare : (j : ℕ) → cores f ≤ j → stackIn places′ offsets′ j ≡ stackIn places offsets j
+
+-- in every state at rest with the registers r of core k
+abbrev pub Reads : List ℕ → List ℕ → ℕ → Registers → List ℕ → List ℕ → List ℕ → List ℕ → Registers → List ℕ → List ℕ → List ℕ → Type 0
+Reads f t k r places offsets d sh r′ places′ offsets′ d′ =
+    (cs : List Registers) → getD cs k none ≡ r → Resting f t cs places offsets d sh → Reread f t k cs places offsets d sh r′ places′ offsets′ d′
+
+-- ---- the whole list
+
+-- before byte i of the list: the takings so far are legal, and made the state now; cores from n on are as in the fresh table h
+pub record Rerunning (f t list : List ℕ) (h : State) (i : ℕ) (cs : List Registers) (places offsets d sh : List ℕ) : Type 0 where
+  pub within : i ≤ length list
+  pub lawful : legal (taskOf f t) (map decoded (take i list)) (freshOf f .plant) ≡ true
+  pub plant : stateIn f cs places offsets untaken d sh .plant ≡ whole (taskOf f t) (map decoded (take i list)) (freshOf f .plant)
+  pub four : length cs ≡ 4
+  pub entries : (length places ≡ 64) × (length offsets ≡ 64)
+  pub buffer : length d ≡ total (sizesOf f)
+  pub shared : length sh ≡ 1024
+  pub spare : (j : ℕ) → cores f ≤ j → (getD cs j none ≡ getD (h .cores) j none) × (stackIn places offsets j ≡ stackIn (h .places) (h .offsets) j)
+
+-- in memories of its own, whose bytes are d and sh afterwards
+pub record Reran (f t list : List ℕ) (r : Ran) (d sh : List ℕ) : Type 0 where
+  pub number : r .refusal ≡ listRefusal f t list
+  pub done : r .refusal ≡ 0 → left r d sh [] ≡ rerunLeft f t list
+  pub refused : r .refusal ≢ 0 → r ≡ answerOf (r .refusal) (tableOf 0 0)

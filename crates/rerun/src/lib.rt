@@ -1,0 +1,291 @@
+// Document 02, 2.13: rerun from the order of takings, with every exchange whole and each execution straight after its reading. Whether steps produce the
+// list is known at its end alone, so the rerun works in memories of its own and copies them out where nothing is refused.
+// In order: a byte of the list; a reading; a writing; the list; the call.
+use protocol::Registers;
+use runner::Ran;
+use states::CoreTask;
+use states::State;
+use taskset::Layout;
+ghost use mathlib.Core.Path.{_≡_};
+ghost use mathlib.Core.Bool.{true};
+ghost use mathlib.Core.List.{[]};
+ghost use Prim.Native.Nat.{_+_, _<_, _≤_};
+ghost use lib.ListN.{length, getD, set};
+ghost use Rattle.memory.specs.Memory.{total, split};
+ghost use Rattle.protocol.specs.Step.{copy};
+ghost use Rattle.protocol.specs.Variables.{writesOf};
+ghost use Rattle.records.specs.File.{variables, recordPlace};
+ghost use Rattle.taskset.specs.Judge.{judge};
+ghost use Rattle.taskset.specs.Trace.{traceRefusal};
+ghost use Rattle.taskset.specs.Layout.{layoutOf};
+ghost use Rattle.taskset.specs.Task.{sizesOf, variablesOf, sampleAt};
+ghost use Rattle.states.specs.Set.{Set};
+ghost use Rattle.states.specs.Tasks.{tasksOf};
+ghost use Rattle.steps.specs.Moving.{Ready};
+ghost use Rattle.runner.specs.Runs.{left};
+ghost use Rattle.machine.specs.Calls.{lentFits, answerOf, tableOf};
+ghost use Rattle.rerun.specs.Calls.{rerunCall};
+ghost use Rattle.rerun.specs.Rerunning.{namedCore, dueBy, broughtTo, Reading, Reads, Reran};
+
+// Bytes of a variable's record, of the largest data buffer, and of shared memory.
+const RECORD: usize = 12;
+
+const LARGEST: usize = 16384;
+
+const SHARED: usize = 1024;
+
+// A byte of the list from here on is a writing.
+const WRITINGS: usize = 16;
+
+// A list that no order of steps produces.
+const UNPRODUCED: u8 = 33;
+
+// ---- a byte of the list
+
+// The core that it names.
+fn named_core(b: usize) -> usize
+    ensures { λ k. ⌜ k ≡ namedCore b ⌝ }
+{
+    if b < WRITINGS {
+        return b;
+    }
+    b - WRITINGS
+}
+
+// Whether a core with these registers and so many records has it to do.
+fn is_due(b: usize, r: Registers, count: usize) -> bool
+    ensures { λ x. ⌜ x ≡ dueBy b r count ⌝ }
+{
+    if b < WRITINGS {
+        if r.mode != protocol::BETWEEN {
+            return false;
+        }
+        return (r.cycles as usize) < count;
+    }
+    r.mode == protocol::WAITING
+}
+
+// ---- a reading
+
+// The record of this cycle and all read variables go to the data d of core k; the record's time is the answer.
+fn read_data(
+    r: Registers,
+    k: usize,
+    c: CoreTask,
+    file: &[u8],
+    trace: &[u8],
+    first: usize,
+    end: usize,
+    d: &mut [u8],
+    shared: &[u8],
+) -> u32
+    requires { ⌜ Ready (now file) (now trace) k c r (now d) × (r .cycles < c .count) × (first ≡ recordPlace (now file) 0) × (end ≡ recordPlace (now file) (variables (now file))) × (length (now shared) ≡ 1024) ⌝ }
+    ensures { λ x. ⌜ (x ≡ sampleAt (now (file .entry)) (now (trace .entry)) k (r .cycles) .time) × (now (d .exit) ≡ broughtTo (now (file .entry)) (now (trace .entry)) k r (now (shared .entry)) (now (d .entry))) ⌝ }
+{
+    let time = steps::take_record(r, k, c, file, trace, d);
+    exchange::bring_all(file, first, end, k, d, shared);
+    time
+}
+
+// The same in the data buffer of all cores.
+fn read_exchange(
+    r: Registers,
+    k: usize,
+    c: CoreTask,
+    file: &[u8],
+    trace: &[u8],
+    first: usize,
+    end: usize,
+    buffer: &mut [u8],
+    shared: &[u8],
+) -> u32
+    requires { ⌜ Ready (now file) (now trace) k c r (getD (split (sizesOf (now file)) (now buffer)) k []) × (length (now buffer) ≡ total (sizesOf (now file))) × (r .cycles < c .count) × (first ≡ recordPlace (now file) 0) × (end ≡ recordPlace (now file) (variables (now file))) × (length (now shared) ≡ 1024) ⌝ }
+    ensures { λ x. ⌜ (x ≡ sampleAt (now (file .entry)) (now (trace .entry)) k (r .cycles) .time) × (split (sizesOf (now (file .entry))) (now (buffer .exit)) ≡ set (split (sizesOf (now (file .entry))) (now (buffer .entry))) k (broughtTo (now (file .entry)) (now (trace .entry)) k r (now (shared .entry)) (getD (split (sizesOf (now (file .entry))) (now (buffer .entry))) k []))) ⌝ }
+{
+    let a = c.base;
+    let e = a + c.size;
+    read_data(r, k, c, file, trace, first, end, &mut buffer[a..e], shared)
+}
+
+// A reading of core k, whole, and the execution straight after it.
+fn read(
+    file: &[u8],
+    trace: &[u8],
+    c: CoreTask,
+    first: usize,
+    end: usize,
+    k: usize,
+    r: Registers,
+    places: &mut [u16; 64],
+    offsets: &mut [u16; 64],
+    buffer: &mut [u8],
+    shared: &[u8],
+) -> Registers
+    requires { ⌜ Reading (now file) (now trace) k c first end r (now places) (now offsets) (now buffer) (now shared) ⌝ }
+    ensures { λ x. ⌜ Reads (now (file .entry)) (now (trace .entry)) k r (now (places .entry)) (now (offsets .entry)) (now (buffer .entry)) (now (shared .entry)) x (now (places .exit)) (now (offsets .exit)) (now (buffer .exit)) ⌝ }
+{
+    let time = read_exchange(r, k, c, file, trace, first, end, buffer, shared);
+    let started = protocol::read_released(protocol::read_acquired(r, time));
+    runner::run_alone(file, trace, c, k, started, places, offsets, buffer)
+}
+
+// ---- a writing
+
+// All variables that core k writes go to shared memory.
+fn write_exchange(
+    r: Registers,
+    k: usize,
+    c: CoreTask,
+    file: &[u8],
+    trace: &[u8],
+    first: usize,
+    end: usize,
+    buffer: &[u8],
+    shared: &mut [u8],
+)
+    requires { ⌜ Ready (now file) (now trace) k c r (getD (split (sizesOf (now file)) (now buffer)) k []) × (length (now buffer) ≡ total (sizesOf (now file))) × (first ≡ recordPlace (now file) 0) × (end ≡ recordPlace (now file) (variables (now file))) × (length (now shared) ≡ 1024) ⌝ }
+    ensures { λ _. ⌜ now (shared .exit) ≡ copy (writesOf (variablesOf (now (file .entry))) k) (getD (split (sizesOf (now (file .entry))) (now (buffer .entry))) k []) (now (shared .entry)) ⌝ }
+{
+    let a = c.base;
+    let e = a + c.size;
+    exchange::publish_all(file, first, end, k, &buffer[a..e], shared);
+}
+
+// ---- the list
+
+// What a refused call answers.
+fn refused(number: u8) -> Ran
+    ensures { λ r. ⌜ r ≡ answerOf number (tableOf 0 0) ⌝ }
+{
+    machine::answer(number, machine::table_of(0, 0))
+}
+
+// The takings of the list, one after another, from the fresh state, in memories whose bytes count only where nothing is refused.
+fn rerun_in(
+    file: &[u8],
+    trace: &[u8],
+    layout: Layout,
+    tasks: [CoreTask; 4],
+    list: &[u8],
+    buffer: &mut [u8],
+    shared: &mut [u8],
+) -> Ran
+    requires { ⌜ Set (now file) (now trace) × (layout ≡ layoutOf (now file)) × (tasks ≡ tasksOf (now file) (now trace)) × (lentFits (now file) (length (now buffer)) (length (now shared)) ≡ true) ⌝ }
+    ensures { λ r. ⌜ Reran (now (file .entry)) (now (trace .entry)) (now (list .entry)) r (now (buffer .exit)) (now (shared .exit)) ⌝ }
+{
+    let fresh = machine::fresh_judged(file, layout, buffer, shared);
+    let s = fresh.state;
+    let mut cores = runner::table_of(s);
+    let mut places = runner::places_of(s);
+    let mut offsets = runner::offsets_of(s);
+    let n = layout.cores;
+    let first = layout.first;
+    let end = first + RECORD * layout.variables;
+    let mut i = 0;
+    while i < list.len() {
+        let b = list[i] as usize;
+        let k = named_core(b);
+        if n <= k {
+            return refused(UNPRODUCED);
+        }
+        if !is_due(b, cores[k], tasks[k].count) {
+            return refused(UNPRODUCED);
+        }
+        if b < WRITINGS {
+            cores[k] = read(
+                file,
+                trace,
+                tasks[k],
+                first,
+                end,
+                k,
+                cores[k],
+                &mut places,
+                &mut offsets,
+                buffer,
+                shared,
+            );
+        } else {
+            write_exchange(
+                cores[k],
+                k,
+                tasks[k],
+                file,
+                trace,
+                first,
+                end,
+                buffer,
+                shared,
+            );
+            cores[k] = protocol::write_released(cores[k]);
+        }
+        i += 1;
+    }
+    let semaphore = s.semaphore;
+    let state = State {
+        count: s.count,
+        semaphore,
+        cores,
+        places,
+        offsets,
+    };
+    Ran {
+        refusal: 0,
+        taken: i,
+        state,
+    }
+}
+
+// ---- the call
+
+// The same where only the list may still be refused; the lent memories are written at the end.
+fn rerun_judged(
+    file: &[u8],
+    trace: &[u8],
+    layout: Layout,
+    tasks: [CoreTask; 4],
+    list: &[u8],
+    buffer: &mut [u8],
+    shared: &mut [u8],
+) -> Ran
+    requires { ⌜ Set (now file) (now trace) × (layout ≡ layoutOf (now file)) × (tasks ≡ tasksOf (now file) (now trace)) × (lentFits (now file) (length (now buffer)) (length (now shared)) ≡ true) ⌝ }
+    ensures { λ r. ⌜ left r (now (buffer .exit)) (now (shared .exit)) [] ≡ rerunCall (now (file .entry)) (now (trace .entry)) (now (list .entry)) (now (buffer .entry)) (now (shared .entry)) ⌝ }
+{
+    let mut data: [u8; LARGEST] = [0; LARGEST];
+    let mut common: [u8; SHARED] = [0; SHARED];
+    let size = buffer.len();
+    let x = rerun_in(
+        file,
+        trace,
+        layout,
+        tasks,
+        list,
+        &mut data[..size],
+        &mut common,
+    );
+    if x.refusal == 0 {
+        memory::copy(buffer, 0, &data, 0, size);
+        memory::copy(shared, 0, &common, 0, SHARED);
+    }
+    x
+}
+
+// Reruns an order list from the fresh state of a file on a trace.
+pub fn rerun(file: &[u8], trace: &[u8], list: &[u8], buffer: &mut [u8], shared: &mut [u8]) -> Ran
+    ensures { λ r. ⌜ left r (now (buffer .exit)) (now (shared .exit)) [] ≡ rerunCall (now (file .entry)) (now (trace .entry)) (now (list .entry)) (now (buffer .entry)) (now (shared .entry)) ⌝ }
+{
+    let loaded = taskset::load(file);
+    if loaded.refusal != 0 {
+        return refused(loaded.refusal);
+    }
+    let layout = loaded.layout;
+    if !machine::lent_fits(file, layout, buffer.len(), shared.len()) {
+        return refused(21);
+    }
+    let traces = taskset::load_trace(file, trace);
+    if traces.refusal != 0 {
+        return refused(traces.refusal);
+    }
+    let tasks = states::core_tasks(file, trace, layout, traces);
+    rerun_judged(file, trace, layout, tasks, list, buffer, shared)
+}

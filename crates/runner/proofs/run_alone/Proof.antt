@@ -1,0 +1,55 @@
+-- `runner::run_alone` meets its contract. The invariant: the instructions so far are steps of core k. Assumes nothing.
+use mathlib.Core.Path.{_≡_, refl, sym, ap, _∙_}
+use Prim.Native.Nat.{_-_, _<_, _≤_}
+use native.Mathlib.Omega.{arith}
+use borrow.Author.Needs.{needs}
+use lib.ListN.{length}
+use Rattle.runner.specs.Executing.{Executing, Executes}
+use Rattle.runner.proofs.Executing.{steps-alone, executes-none, executes-on, executing-on, executing-count, executing-length, executes-alone, standing-alone, leftOf, left-less}
+use Rattle.runner.proofs.run_alone.Statement.{statement}
+use Rattle.runner.proofs.run_alone.Tie as tie
+
+abbrev Inv-loop : tie.InvT-loop
+Inv-loop file trace c k places₀ offsets₀ buffer₀ order r₀ places offsets buffer r = Executes file trace k r₀ places₀ offsets₀ buffer₀ r places offsets buffer
+
+abbrev μ-loop : tie.MeasureT-loop
+μ-loop file trace c k places₀ offsets₀ buffer₀ order r₀ places offsets buffer r = leftOf r
+
+cast-order : tie.Need-cast-order Inv-loop μ-loop
+cast-order c = omega (arith, c .before .before .before .pre .0 .known, c .before .before .before .pre .0 .accepted .few)
+
+loop-holds : tie.Need-loop-holds Inv-loop μ-loop
+loop-holds c = executes-none
+
+slice-aggregate-run-core : tie.Need-slice-aggregate-run-core Inv-loop μ-loop
+slice-aggregate-run-core c = search needs
+
+run-core-requires : tie.Need-run-core-requires Inv-loop μ-loop
+run-core-requires c κs = (standing-alone _ (executing-on (c .before .before .before .before .before .before .before .before .before .before .pre .0) (c .before .before .before .before .before .before .loop .inv)), c .before .before .before .before .before .before .before .before .before .before .pre .1, steps-alone 256 (c .before .before .before .before .before .before .before .before .before .before .args .k) (omega arith), c .before .before .before .before .if1 .taken)
+
+loop-less : tie.Need-loop-less Inv-loop μ-loop
+loop-less c = left-less (c .before .before .before .before .before .before .before .before .before .before .loop .r) (c .before .before .before .run-core .result .registers) (c .before .before .before .run-core .result .step) (c .before .before .before .before .before .before .before .before .if1 .taken) (executing-count (executing-on (c .before .before .before .before .before .before .before .before .before .before .before .before .before .before .pre .0) (c .before .before .before .before .before .before .before .before .before .before .loop .inv))) (c .before .before .before .run-core .ensures .0) (λ e. c .before .before .before .run-core .ensures .2 e .1)
+
+loop-again : tie.Need-loop-again Inv-loop μ-loop
+loop-again c = executes-on (c .before .before .before .before .before .before .before .before .before .before .before .before .before .before .pre .0 .accepted) (c .before .before .before .before .before .before .before .before .before .before .before .before .before .before .pre .0 .known) (c .before .before .before .before .before .before .before .before .before .before .loop .inv) (executes-alone 256 (c .before .before .before .before .before .before .before .before .before .before .before .before .before .before .pre .0 .accepted) refl (c .before .before .before .run-core .ensures .1))
+
+same-length : tie.Need-same-length Inv-loop μ-loop
+same-length c = executing-length (c .before .before .before .before .before .before .pre .0) (c .before .before .loop .inv)
+
+returns : tie.Need-returns Inv-loop μ-loop
+returns c = (c .if1 .left, c .before .before .loop .inv)
+
+pub run-alone-spec : {M : Type 1} → statement M
+run-alone-spec =
+    tie.close
+    (tie.spec
+    Inv-loop
+    μ-loop
+    cast-order
+    loop-holds
+    slice-aggregate-run-core
+    run-core-requires
+    loop-less
+    loop-again
+    same-length
+    returns)
