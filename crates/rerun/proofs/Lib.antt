@@ -1,1 +1,5 @@
+pub mod Bytes
 pub mod Reading
+pub mod Listed
+pub mod Turns
+pub mod Ends

@@ -10,7 +10,7 @@ use native.Mathlib.Omega.{arith}
 use borrow.Author.Tests.{lt-ltb, le-ltb, ltb-true, ltb-false, eq-eqb, eqb-true}
 use lib.Dec.{ltb, eqb}
 use lib.ListN.{length, getD, set, take, drop, length-drop, drop-of-length-le, take-append-drop, length-set}
-use lib.Seq.{take-suc, take-all, drop-cons, getD-set-other}
+use lib.Seq.{take-suc, take-all, drop-cons, getD-set-other, set-getD}
 use Rattle.verdict.specs.Verdict.{pick, both, unless}
 use Rattle.verdict.proofs.Verdict.{pick-true, pick-false, both-true}
 use Rattle.memory.specs.Memory.{split, total}
@@ -39,12 +39,11 @@ use Rattle.states.specs.Fit.{Fit}
 use Rattle.states.specs.Set.{Set}
 use Rattle.states.proofs.Executes.{executes}
 use Rattle.states.proofs.Fresh.{fresh-fit}
-use Rattle.states.proofs.Line.{samples-count}
 use Rattle.runner.specs.Executing.{Standing}
 use Rattle.runner.proofs.Running.{core-in, cores-in, shared-in, semaphore-in}
 use Rattle.machine.proofs.Calling.{run-fit}
 use Rattle.rerun.specs.Rerunning.{namedCore, dueBy, Resting, Reread, Rerunning}
-use Rattle.rerun.proofs.Reading.{put-in, record-next}
+use Rattle.rerun.proofs.Reading.{put-in, samples-length, record-next}
 
 -- ---- a byte: core k has it to do exactly if the whole-exchange machine has
 
@@ -53,7 +52,7 @@ any-left f t k i = go (ltb i (recordCount f t k)) refl
   where
     go : (b : Bool) → ltb i (recordCount f t k) ≡ b → anyLeft (drop i (taskOf f t .samples k)) ≡ b
     go true e = ap anyLeft (record-next f t k i (ltb-true i (recordCount f t k) e))
-    go false e = ap anyLeft (drop-of-length-le (taskOf f t .samples k) {i = i} (omega (arith, samples-count f t k, ltb-false i (recordCount f t k) e)))
+    go false e = ap anyLeft (drop-of-length-le (taskOf f t .samples k) {i = i} (omega (arith, samples-length f t k, ltb-false i (recordCount f t k) e)))
 
 module _ (f t : List ℕ) (p : Plant) (r : Registers) (k : ℕ) (e : core p k .registers ≡ r) where
   accepts-reading : accepts (taskOf f t) (reading k) p ≡ both (eqb (r .mode) 0) (ltb (r .cycles) (recordCount f t k))
@@ -94,6 +93,21 @@ unknown-refused t b p h = go (accepts t (decoded b) p) refl
     go true e = absurd (let z : ⊥ = omega (arith, accepted-known t (decoded b) (namedCore b) p (which b) e) in z)
     go false e = refl
 
+read-byte : (b : ℕ) → b < 16 → decoded b ≡ reading (namedCore b)
+unfolding pick
+read-byte b h = rw (lt-ltb b 16 h)
+
+write-byte : (b : ℕ) → 16 ≤ b → decoded b ≡ writing (namedCore b)
+unfolding pick
+write-byte b h = rw (le-ltb b 16 h)
+
+-- what the whole-exchange machine does at a writing
+whole-written : (f t : List ℕ) (p : Plant) (k : ℕ) (c : Core) → core p k ≡ c → mode c ≡ 3
+    → wholeOne (taskOf f t) (writing k) p
+    ≡ record { cores = set (p .cores) k record { registers = writeReleased (c .registers); stack = c .stack; memory = c .memory }; shared = copy (writesOf (variablesOf f) k) (c .memory) (p .shared) }
+unfolding wholeOne taskOf writeDone
+whole-written f t p k c q e = rw (q, e)
+
 -- ---- a list byte by byte
 
 pub bytes-to : (list : List ℕ) (i : ℕ) → i < length list → map decoded (take (i + 1) list) ≡ map decoded (take i list) ++ (decoded (getD list i 0) ∷ [])
@@ -126,11 +140,6 @@ module _ (f t list : List ℕ) (ok : Set f t) (h : Held) (i : ℕ) (cs : List Re
   made : Producing (taskOf f t) (freshOf f) (take i list) (rerunEnd (taskOf f t) far (freshOf f))
   made = rerun-holds (taskOf f t) (executes f t ok .laws) (freshOf f) (fresh-of f) small (take i list) .produced (rerunEnd (taskOf f t) far (freshOf f)) (pick-true _ _ _ (w .lawful))
 
-  settled : {m : ℕ} → (m ≡ 0) ⊎ ((m ≡ 3) ⊎ (m ≡ 5)) → (m ≢ 1) × (m ≢ 2) × (m ≢ 4)
-  settled (inl e) = omega arith
-  settled (inr (inl e)) = omega arith
-  settled (inr (inr e)) = omega arith
-
   pub at-rest : Resting f t cs places offsets d sh
   at-rest = record {
     stands = record {
@@ -156,18 +165,15 @@ module _ (f t list : List ℕ) (ok : Set f t) (h : Held) (i : ℕ) (cs : List Re
   -- ---- the taking at byte i
 
   module _ (less : i < length list) (b : ℕ) (byte : b ≡ getD list i 0) where
-    accepted-here : Bool
-    accepted-here = accepts (taskOf f t) (decoded b) (now .plant)
-
     -- the whole list is refused, where this taking is not to do
     pub list-refused : accepts (taskOf f t) (decoded b) (now .plant) ≡ false → legal (taskOf f t) (map decoded list) (freshOf f .plant) ≡ false
     list-refused e =
         ap (λ (xs : List Taking). legal (taskOf f t) xs (freshOf f .plant)) (bytes-from list i less)
         ∙ legal-append (taskOf f t) far (decoded (getD list i 0) ∷ map decoded (drop (suc i) list)) (freshOf f .plant)
-        ∙ go (w .lawful) (ap₂ (λ (x : ℕ) (p : Plant). accepts (taskOf f t) (decoded x) p) (sym byte) (sym (w .plant)) ∙ e)
+        ∙ go _ (w .lawful) (ap₂ (λ (x : ℕ) (p : Plant). accepts (taskOf f t) (decoded x) p) (sym byte) (sym (w .plant)) ∙ e)
       where
-        go : {a c : Bool} {r : Bool} → a ≡ true → c ≡ false → both a (both c r) ≡ false
-        go p q = rw (p, q)
+        go : {a c : Bool} (r : Bool) → a ≡ true → c ≡ false → both a (both c r) ≡ false
+        go r p q = rw (p, q)
 
     pub none-named : cores f ≤ namedCore b → accepts (taskOf f t) (decoded b) (now .plant) ≡ false
     none-named j = unknown-refused (taskOf f t) b (now .plant) (rw known-cores j)
@@ -199,3 +205,38 @@ module _ (f t list : List ℕ) (ok : Set f t) (h : Held) (i : ℕ) (cs : List Re
       where
         go : {a c : Bool} → a ≡ true → c ≡ true → both a (both c true) ≡ true
         go p q = rw (p, q)
+
+    -- a reading: what the function promises of it
+    pub read-on : b < 16 → namedCore b < cores f → accepts (taskOf f t) (decoded b) (now .plant) ≡ true → (cs′ : List Registers) (r′ : Registers) (places′ offsets′ d′ : List ℕ)
+        → cs′ ≡ set cs (namedCore b) r′ → Reread f t (namedCore b) cs places offsets d sh r′ places′ offsets′ d′
+        → Rerunning f t list h (i + 1) cs′ places′ offsets′ d′ sh
+    read-on small ik a cs′ r′ places′ offsets′ d′ ce y =
+        let k = namedCore b in
+        let which-is : decoded b ≡ reading k = read-byte b small in
+        taken-on a cs′ places′ offsets′ d′ sh
+        (ap (λ (l : List Registers). stateIn f l places′ offsets′ untaken d′ sh .plant) ce ∙ y .plant ∙ ap (λ (x : Taking). wholeOne (taskOf f t) x (now .plant)) (sym which-is))
+        (ap length ce ∙ length-set cs k r′ ∙ w .four) (y .entries) (y .buffer) (w .shared)
+        (λ j g. (ap (λ (l : List Registers). getD l j none) ce ∙ getD-set-other cs k j r′ none (apart j g), y .spare j g))
+      where
+        apart : (j : ℕ) → cores f ≤ j → j ≢ namedCore b
+        apart j g u = omega arith
+
+    -- a writing
+    pub write-on : 16 ≤ b → namedCore b < cores f → accepts (taskOf f t) (decoded b) (now .plant) ≡ true → (cs′ : List Registers) (sh′ : List ℕ)
+        → cs′ ≡ set cs (namedCore b) (writeReleased (getD cs (namedCore b) none)) → sh′ ≡ copy (writesOf (variablesOf f) (namedCore b)) (getD (split (sizesOf f) d) (namedCore b) []) sh → length sh′ ≡ length sh
+        → Rerunning f t list h (i + 1) cs′ places offsets d sh′
+    write-on large ik a cs′ sh′ ce se long =
+        let k = namedCore b in
+        let which-is : decoded b ≡ writing k = write-byte b large in
+        let three : getD cs k none .mode ≡ 3 = eqb-true _ _ (sym (accepts-writing f t (now .plant) (getD cs k none) k (ap (λ (c : Core). c .registers) (own k ik))) ∙ ap (λ (x : Taking). accepts (taskOf f t) x (now .plant)) (sym which-is) ∙ a) in
+        taken-on a cs′ places offsets d sh′
+        (ap (λ (l : List Registers). stateIn f l places offsets untaken d sh′ .plant) ce
+        ∙ ap (λ (s : State). s .plant) (put-in f cs places offsets untaken d sh k (writeReleased (getD cs k none)) (getD (split (sizesOf f) d) k []) d sh′ ik (omega (arith, ok .few, w .four)) (sym (set-getD (split (sizesOf f) d) k [])))
+        ∙ ap (λ (l : List ℕ). record { cores = set (now .plant .cores) k record { registers = writeReleased (getD cs k none); stack = stackIn places offsets k; memory = getD (split (sizesOf f) d) k [] }; shared = l }) (se ∙ ap (copy (writesOf (variablesOf f) k) (getD (split (sizesOf f) d) k [])) (sym (shared-in f cs places offsets untaken d sh)))
+        ∙ sym (whole-written f t (now .plant) k (coreIn f cs places offsets d k) (own k ik) three)
+        ∙ ap (λ (x : Taking). wholeOne (taskOf f t) x (now .plant)) (sym which-is))
+        (ap length ce ∙ length-set cs k _ ∙ w .four) (w .entries) (w .buffer) (long ∙ w .shared)
+        (λ j g. (ap (λ (l : List Registers). getD l j none) ce ∙ getD-set-other cs k j _ none (apart j g), refl))
+      where
+        apart : (j : ℕ) → cores f ≤ j → j ≢ namedCore b
+        apart j g u = omega arith

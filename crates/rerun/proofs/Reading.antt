@@ -3,7 +3,7 @@
 use mathlib.Core.Path.{_≡_, refl, sym, ap, ap₂, _∙_, subst}
 use mathlib.Core.Logic.{_≢_, _⊎_, inl, inr}
 use mathlib.Core.List.{List, [], _∷_}
-use Prim.Native.Nat.{ℕ, zero, suc, _+_, _≤_, _<_}
+use Prim.Native.Nat.{ℕ, zero, suc, _-_, _≤_, _<_}
 use native.Mathlib.Decide.{ℕ-discrete}
 use native.Mathlib.Omega.{arith}
 use lib.ListN.{length, getD, set, drop, replicate, length-set}
@@ -20,23 +20,26 @@ use Rattle.protocol.specs.Laws.{Laws, Still, Held, Holding}
 use Rattle.protocol.specs.Variables.{readsOf}
 use Rattle.protocol.proofs.Copy.{copy-length}
 use Rattle.protocol.proofs.Steps.{each, others-stay, nobody}
-use Rattle.protocol.proofs.Whole.{Sim, sim-run, sim-still, sim-at-rest, finish, ended}
+use Rattle.protocol.proofs.Whole.{Sim, sim-run, sim-still, sim-at-rest, endedIn, ended}
 use Rattle.processor.specs.Placed.{Placed}
-use Rattle.records.specs.File.{cores, dataSize, limit}
+use Rattle.records.specs.File.{cores, variables, recordPlace}
 use Rattle.taskset.specs.Judge.{codeOf}
 use Rattle.taskset.specs.Task.{listed, sizesOf, variablesOf, sampleAt, samplesOf}
 use Rattle.taskset.specs.Trace.{recordCount}
 use Rattle.taskset.proofs.Accepted.{length-listed, listed-at}
+use Rattle.states.specs.declared.CoreTask.{CoreTask}
 use Rattle.states.specs.Task.{taskOf}
+use Rattle.states.specs.Tasks.{coreTask}
 use Rattle.states.specs.Machine.{none, stackIn, coreIn, stateIn}
 use Rattle.states.specs.Fit.{FitCore, Fit}
 use Rattle.states.specs.Set.{Set}
 use Rattle.states.proofs.Executes.{executes}
 use Rattle.states.proofs.Fresh.{sizes-length}
 use Rattle.states.proofs.Tables.{listed-set}
-use Rattle.runner.specs.Executing.{Standing, Executes, Stretch}
+use Rattle.steps.specs.Moving.{Ready}
+use Rattle.runner.specs.Executing.{Standing, Executing, Executes, Stretch}
 use Rattle.runner.proofs.Running.{core-in, cores-in, shared-in, semaphore-in}
-use Rattle.rerun.specs.Rerunning.{Resting, broughtTo, Reread, Reads}
+use Rattle.rerun.specs.Rerunning.{Resting, broughtTo, Reading, Reread, Reads}
 
 -- ---- core k of a state
 
@@ -70,6 +73,10 @@ others-run t k (suc n) s j q = others-run t k n (step t k s) j q ∙ others-stay
 
 -- ---- the next record
 
+pub samples-length : (f t : List ℕ) (k : ℕ) → length (taskOf f t .samples k) ≡ recordCount f t k
+unfolding taskOf samplesOf
+samples-length f t k = length-listed (sampleAt f t k) (recordCount f t k) 0
+
 pub record-next : (f t : List ℕ) (k i : ℕ) → i < recordCount f t k → drop i (taskOf f t .samples k) ≡ sampleAt f t k i ∷ drop (suc i) (taskOf f t .samples k)
 unfolding taskOf samplesOf
 record-next f t k i h =
@@ -83,7 +90,7 @@ whole-read t k p c x xs q e d = rw (q, e, d)
 
 -- ---- the core as its execution starts
 
-abbrev startedAt : List ℕ → List ℕ → ℕ → Registers → Registers
+abbrev pub startedAt : List ℕ → List ℕ → ℕ → Registers → Registers
 startedAt f t k r = readReleased (readAcquired (sampleAt f t k (r .cycles) .time) r)
 
 abbrev startedCore : List ℕ → List ℕ → ℕ → List ℕ → Core → Core
@@ -130,6 +137,11 @@ fit-started f t ok k i sh c x e due =
 
 -- ---- the state then
 
+ended-started : (t : Task) (k : ℕ) (sh : List ℕ) (c : Core) → mode c ≡ 2 → c .registers .count ≡ 0 → execute t (suc (t .limit k)) k c ≡ ended t k sh c
+ended-started t k sh c e z =
+    let all : t .limit k ≡ t .limit k - c .registers .count = omega (arith, z) in
+    ap (λ (n : ℕ). execute t (suc n) k c) all ∙ sym (ap (λ (m : ℕ). endedIn m t k sh c) e)
+
 -- a plant at rest but for a core k whose execution starts is, brought to its end, the plant with that execution
 sim-started : (t : Task) (p : Plant) (k : ℕ) (c : Core) → k < length (p .cores) → ((j : ℕ) → Still (core p j)) → mode c ≡ 2 → c .registers .count ≡ 0
     → Sim t record { plant = put p k c; semaphore = untaken } (put p k (execute t (suc (t .limit k)) k c))
@@ -143,7 +155,7 @@ sim-started t p k c i still e z =
     }
   where
     go : Sim t record { plant = p; semaphore = untaken } p → (j : ℕ) → Dec (j ≡ k) → core (put p k (execute t (suc (t .limit k)) k c)) j ≡ ended t j (p .shared) (core (put p k c) j)
-    go rest j (yes q) = rw (q, getD-set-same (p .cores) k (execute t (suc (t .limit k)) k c) absent i, getD-set-same (p .cores) k c absent i, e, z)
+    go rest j (yes q) = rw (q, getD-set-same (p .cores) k (execute t (suc (t .limit k)) k c) absent i, getD-set-same (p .cores) k c absent i) (ended-started t k (p .shared) c e z)
     go rest j (no q) = rw (getD-set-other (p .cores) k j (execute t (suc (t .limit k)) k c) absent q, getD-set-other (p .cores) k j c absent q) (rest .same-core j)
 
 fit-put : (f t : List ℕ) (p : Plant) (k : ℕ) (c : Core) → k < cores f → Fit f t record { plant = p; semaphore = untaken } → FitCore f t k c → mode c ≡ 2
@@ -161,14 +173,6 @@ fit-put f t p k c i fit x e = record {
     executing (inr a) = omega arith
 
 -- ---- its end
-
--- what the code has: a core that has a reading to do, its registers s and the data buffer d₁ as its execution starts, and that execution
-pub record Started (f t : List ℕ) (k : ℕ) (r : Registers) (places offsets d sh : List ℕ) (s : Registers) (d₁ : List ℕ) (r′ : Registers) (places′ offsets′ d′ : List ℕ) : Type 0 where
-  pub idle : r .mode ≡ 0
-  pub due : r .cycles < recordCount f t k
-  pub registers : s ≡ startedAt f t k r
-  pub memory : split (sizesOf f) d₁ ≡ set (split (sizesOf f) d) k (broughtTo f t k r sh (getD (split (sizesOf f) d) k []))
-  pub long : length d₁ ≡ length d
 
 -- the state as the execution starts stands
 module _ (f t : List ℕ) (ok : Set f t) (k : ℕ) (ik : k < cores f) (cs : List Registers) (places offsets d sh : List ℕ) (x : Resting f t cs places offsets d sh)
@@ -271,3 +275,59 @@ module _ (f t : List ℕ) (ok : Set f t) (k : ℕ) (ik : k < cores f) (cs : List
       buffer = y .stands .buffer;
       spare = y .spare;
     }
+
+-- for every state at rest in which core k has the registers r
+pub reads-of : (f t : List ℕ) → Set f t → (k : ℕ) → k < cores f → (r : Registers) (places offsets d sh : List ℕ) → r .mode ≡ 0 → r .cycles < recordCount f t k
+    → (s : Registers) (d₁ : List ℕ) → s ≡ startedAt f t k r → split (sizesOf f) d₁ ≡ set (split (sizesOf f) d) k (broughtTo f t k r sh (getD (split (sizesOf f) d) k [])) → length d₁ ≡ length d
+    → (r′ : Registers) (places′ offsets′ d′ : List ℕ) → Executes f t k s places offsets d₁ r′ places′ offsets′ d′ → r′ .mode ≢ 2
+    → Reads f t k r places offsets d sh r′ places′ offsets′ d′
+reads-of f t ok k ik r places offsets d sh idle due s d₁ e m long r′ places′ offsets′ d′ w left cs here x =
+    let idle′ : getD cs k none .mode ≡ 0 = ap (λ (u : Registers). u .mode) here ∙ idle in
+    let due′ : getD cs k none .cycles < recordCount f t k = subst (λ (u : Registers). u .cycles < recordCount f t k) (sym here) due in
+    let e′ : s ≡ startedAt f t k (getD cs k none) = e ∙ ap (startedAt f t k) (sym here) in
+    let m′ : split (sizesOf f) d₁ ≡ set (split (sizesOf f) d) k (broughtTo f t k (getD cs k none) sh (getD (split (sizesOf f) d) k [])) =
+    m ∙ ap (λ (u : Registers). set (split (sizesOf f) d) k (broughtTo f t k u sh (getD (split (sizesOf f) d) k []))) (sym here) in
+    reread-is f t ok k ik cs places offsets d sh x s d₁ idle′ due′ e′ m′ long r′ places′ offsets′ d′
+    (w (set cs k s) sh (getD-set-same cs k s none (omega (arith, ok .few, x .stands .four))) (standing-middle f t ok k ik cs places offsets d sh x s d₁ idle′ due′ e′ m′ long)) left
+
+-- some state stands as the execution starts
+pub started-stands : (f t : List ℕ) → Set f t → (k : ℕ) → k < cores f → (r : Registers) (places offsets d sh : List ℕ) → r .mode ≡ 0 → r .cycles < recordCount f t k
+    → (s : Registers) (d₁ : List ℕ) → s ≡ startedAt f t k r → split (sizesOf f) d₁ ≡ set (split (sizesOf f) d) k (broughtTo f t k r sh (getD (split (sizesOf f) d) k [])) → length d₁ ≡ length d
+    → (cs : List Registers) → getD cs k none ≡ r → Resting f t cs places offsets d sh → Executing f t k s places offsets d₁
+started-stands f t ok k ik r places offsets d sh idle due s d₁ e m long cs here x =
+    record {
+      accepted = ok;
+      known = ik;
+      cs = set cs k s;
+      sh = sh;
+      here = getD-set-same cs k s none (omega (arith, ok .few, x .stands .four));
+      stands = standing-middle f t ok k ik cs places offsets d sh x s d₁ (ap (λ (u : Registers). u .mode) here ∙ idle) (subst (λ (u : Registers). u .cycles < recordCount f t k) (sym here) due)
+          (e ∙ ap (startedAt f t k) (sym here)) (m ∙ ap (λ (u : Registers). set (split (sizesOf f) d) k (broughtTo f t k u sh (getD (split (sizesOf f) d) k []))) (sym here)) long;
+    }
+
+-- a core that rests is one that a step's functions may be given
+pub ready-of : (f t : List ℕ) → Set f t → (k : ℕ) → k < cores f → (c : CoreTask) → c ≡ coreTask f t k → (r : Registers) (cs : List Registers) (places offsets d sh : List ℕ) → getD cs k none ≡ r
+    → Resting f t cs places offsets d sh → Ready f t k c r (getD (split (sizesOf f) d) k [])
+ready-of f t ok k ik c e r cs places offsets d sh here x = subst (λ (u : Registers). Ready f t k c u (getD (split (sizesOf f) d) k [])) here record {
+  accepted = ok;
+  known = ik;
+  task = e;
+  stack = stackIn places offsets k;
+  fit = subst (FitCore f t k) (core-in f cs places offsets untaken d sh k ik) (x .stands .fit .each k ik);
+}
+
+pub count-is : (f t : List ℕ) (k : ℕ) (c : CoreTask) → c ≡ coreTask f t k → c .count ≡ recordCount f t k
+unfolding coreTask
+count-is f t k c e = ap (λ (x : CoreTask). x .count) e
+
+-- what the exchange asks
+pub reading-asks : {f t : List ℕ} {k : ℕ} {c : CoreTask} {first end : ℕ} {r : Registers} {places offsets d sh : List ℕ} → Reading f t k c first end r places offsets d sh
+    → Ready f t k c r (getD (split (sizesOf f) d) k []) × (length d ≡ total (sizesOf f)) × (r .cycles < c .count) × (first ≡ recordPlace f 0) × (end ≡ recordPlace f (variables f)) × (length sh ≡ 1024)
+reading-asks {f} {t} {k} {c} {first} {end} {r} {places} {offsets} {d} {sh} x = (
+  ready-of f t (x .accepted) k (x .known) c (x .task) r (x .cs) places offsets d sh (x .here) (x .rests),
+  x .rests .stands .buffer,
+  rw (count-is f t k c (x .task)) (x .due),
+  x .from,
+  x .upto,
+  sym (ap length (shared-in f (x .cs) places offsets untaken d sh)) ∙ x .rests .stands .fit .shared,
+)

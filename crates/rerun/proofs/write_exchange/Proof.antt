@@ -1,0 +1,46 @@
+-- `rerun::write_exchange` meets its contract: the stretch that is lent is the data of core k. Assumes nothing.
+use mathlib.Core.Path.{refl, ap, _∙_}
+use mathlib.Core.List.{List}
+use Prim.Native.Nat.{ℕ}
+use native.Mathlib.Omega.{arith}
+use lib.ListN.{length}
+use Rattle.protocol.specs.Step.{copy}
+use Rattle.protocol.specs.Variables.{writesOf}
+use Rattle.taskset.specs.Task.{variablesOf}
+use Rattle.steps.proofs.Given.{stretch-inside, stretch-is}
+use borrow.Author.Needs.{needs}
+use Rattle.rerun.proofs.write_exchange.Statement.{statement}
+use Rattle.rerun.proofs.write_exchange.Tie as tie
+
+add-e : tie.Need-add-e
+add-e c = record { fits = omega (arith, stretch-inside _ (c .before .before .before .before .before .pre .0) (c .before .before .before .before .before .pre .1)) }
+
+sub-publish-all : tie.Need-sub-publish-all
+sub-publish-all c = search needs
+
+part-publish-all-start : tie.Need-part-publish-all-start
+part-publish-all-start c = search needs
+
+part-publish-all-end : tie.Need-part-publish-all-end
+part-publish-all-end c = omega (arith, stretch-inside _ (c .before .before .before .before .before .pre .0) (c .before .before .before .before .before .pre .1))
+
+publish-all-requires : tie.Need-publish-all-requires
+publish-all-requires c κs = (c .before .before .before .before .before .before .before .pre .0 .accepted .laid, c .before .before .before .before .before .before .before .pre .0 .known, c .before .before .before .before .before .before .before .pre .2, c .before .before .before .before .before .before .before .pre .3, ap length (stretch-is _ (c .before .before .before .before .before .before .before .pre .0) (c .before .before .before .before .before .before .before .pre .1) _ refl) ∙ c .before .before .before .before .before .before .before .pre .0 .fit .size, c .before .before .before .before .before .before .before .pre .4)
+
+same-length : tie.Need-same-length
+same-length c = search needs
+
+returns : tie.Need-returns
+returns c = c .before .before .publish-all .ensures ∙ ap (λ (l : List ℕ). copy (writesOf (variablesOf (c .before .before .before .before .before .before .before .before .before .before .args .file .now)) (c .before .before .before .before .before .before .before .before .before .before .args .k)) l (c .before .before .before .before .before .before .before .before .before .before .args .shared .now)) (stretch-is _ (c .before .before .before .before .before .before .before .before .before .before .pre .0) (c .before .before .before .before .before .before .before .before .before .before .pre .1) _ refl)
+
+pub write-exchange-spec : {M : Type 1} → statement M
+write-exchange-spec =
+    tie.close
+    (tie.spec
+    add-e
+    sub-publish-all
+    part-publish-all-start
+    part-publish-all-end
+    publish-all-requires
+    same-length
+    returns)
