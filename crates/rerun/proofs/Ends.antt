@@ -8,7 +8,7 @@ use native.Mathlib.Nat.{zero-add}
 use native.Mathlib.Omega.{arith}
 use borrow.Author.Tests.{eq-eqb, ne-eqb}
 use lib.Dec.{eqb}
-use lib.ListN.{length, getD, take, drop, drop-of-length-le}
+use lib.ListN.{length, getD, take, replicate, drop-of-length-le, length-replicate}
 use lib.Seq.{take-all}
 use Rattle.verdict.specs.Verdict.{pick, next, unless}
 use Rattle.verdict.proofs.Verdict.{skip, stop, yes, no, pick-true, pick-false}
@@ -33,6 +33,7 @@ use Rattle.runner.specs.Runs.{Left, left}
 use Rattle.runner.specs.Running.{Running}
 use Rattle.runner.proofs.Running.{shared-in}
 use Rattle.runner.proofs.End.{data-back, held-back}
+use Rattle.runner.proofs.Executing.{take-alone}
 use Rattle.machine.specs.Calls.{lentFits, answerOf, tableOf, freshRefusal, freshCall}
 use Rattle.machine.specs.Calling.{wholeOf}
 use Rattle.machine.proofs.Calls.{fresh-none}
@@ -184,3 +185,13 @@ module _ (f t list d sh : List ℕ) where
 
       pub rerun-left : (x : Ran) (d′ sh′ : List ℕ) → Reran f t list x d′ sh′ → x .refusal ≢ 0 → left x d sh [] ≡ rerunCall f t list d sh
       rerun-left x d′ sh′ y n = rerun-refused x (refused-list (y .number)) n (y .refused n)
+
+-- ---- memories of its own
+
+-- as many bytes as are lent of an array
+pub prefix : (n m : ℕ) → n ≤ m → n ≡ length {A = ℕ} (take n (replicate m 0))
+prefix n m h = sym (ap length (take-alone m n 0 h) ∙ length-replicate {A = ℕ} n 0)
+
+pub copied-out : (b s : List ℕ) (n : ℕ) {b′ : List ℕ} → b′ ≡ splice b 0 (part s 0 n) → length s ≡ length b → n ≡ length b → b′ ≡ s
+unfolding part
+copied-out b s n e l q = let all : take n s ≡ s = take-all n s (omega arith) in e ∙ ap (splice b 0) all ∙ splice-all b s l

@@ -238,7 +238,31 @@ fn rerun_in(
 
 // ---- the call
 
-// The same where only the list may still be refused; the lent memories are written at the end.
+// The same where only the list may still be refused, in memories that are lent for it, and copied out at the end.
+fn rerun_through(
+    file: &[u8],
+    trace: &[u8],
+    layout: Layout,
+    tasks: [CoreTask; 4],
+    list: &[u8],
+    scratch: &mut [u8],
+    common: &mut [u8],
+    buffer: &mut [u8],
+    shared: &mut [u8],
+) -> Ran
+    requires { ⌜ Set (now file) (now trace) × (layout ≡ layoutOf (now file)) × (tasks ≡ tasksOf (now file) (now trace)) × (lentFits (now file) (length (now buffer)) (length (now shared)) ≡ true) × (length (now scratch) ≡ length (now buffer)) × (length (now common) ≡ length (now shared)) ⌝ }
+    ensures { λ r. ⌜ left r (now (buffer .exit)) (now (shared .exit)) [] ≡ rerunCall (now (file .entry)) (now (trace .entry)) (now (list .entry)) (now (buffer .entry)) (now (shared .entry)) ⌝ }
+{
+    let n = buffer.len();
+    let m = shared.len();
+    let x = rerun_in(file, trace, layout, tasks, list, scratch, common);
+    if x.refusal == 0 {
+        memory::copy(buffer, 0, scratch, 0, n);
+        memory::copy(shared, 0, common, 0, m);
+    }
+    x
+}
+
 fn rerun_judged(
     file: &[u8],
     trace: &[u8],
@@ -253,8 +277,8 @@ fn rerun_judged(
 {
     let mut data: [u8; LARGEST] = [0; LARGEST];
     let mut common: [u8; SHARED] = [0; SHARED];
-    let size = buffer.len();
-    let x = rerun_in(
+    let size = taskset::sum_of_sizes(file, layout);
+    rerun_through(
         file,
         trace,
         layout,
@@ -262,12 +286,9 @@ fn rerun_judged(
         list,
         &mut data[..size],
         &mut common,
-    );
-    if x.refusal == 0 {
-        memory::copy(buffer, 0, &data, 0, size);
-        memory::copy(shared, 0, &common, 0, SHARED);
-    }
-    x
+        buffer,
+        shared,
+    )
 }
 
 // Reruns an order list from the fresh state of a file on a trace.
