@@ -2,7 +2,8 @@
 //!
 //! `reference` is the machine; it shares no code with the proved one. `interface` says what a machine offers and `linked` is the proved one behind
 //! its C interface. `draft` writes task set files, `random` makes cases from them, `comparison` runs two machines on the cases. `holding` has the
-//! lowest reading over the holding time, `lines` the lines between cores, `forms` the converters between the two forms of a file, `profiles` the small profile and `bounds` what a task will take; they stand beside the machine, each with
+//! lowest reading over the holding time, `lines` the lines between cores, `forms` the converters between the two forms of a file, `profiles` the small
+//! profile, `bounds` what a task will take and `rerun` the rerun of a list of takings; they stand beside the machine, each with
 //! its own comparison.
 
 pub mod bounds;
@@ -17,4 +18,5 @@ pub mod linked;
 pub mod profiles;
 pub mod random;
 pub mod reference;
+pub mod rerun;
 pub mod window;

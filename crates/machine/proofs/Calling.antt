@@ -69,7 +69,7 @@ run-fit f t ok (k ∷ ks) s fit = run-fit f t ok ks (step (taskOf f t) k s) (fit
 
 -- what a memory lends whole, and what it is after a call that changes nothing
 module _ (m : List ℕ) where
-  lent-all : (a : Lending) → length (lentOf a m) ≡ length m → lentOf a m ≡ m
+  pub lent-all : (a : Lending) → length (lentOf a m) ≡ length m → lentOf a m ≡ m
   lent-all entire e = refl
   lent-all (front n) e = take-all n m (omega (arith, sym (length-take n m) ∙ e))
 

@@ -174,7 +174,7 @@ module _ (f t list d sh : List ℕ) where
     refused-trace e n = skip z (skip (yes _ 21 fits) (stop _ e n))
 
     module _ (sound : traceRefusal f t ≡ 0) where
-      refused-list : {r : ℕ} → r ≡ listRefusal f t list → r ≡ rerunRefusal f t list (length d) (length sh)
+      pub refused-list : {r : ℕ} → r ≡ listRefusal f t list → r ≡ rerunRefusal f t list (length d) (length sh)
       unfolding rerunRefusal
       refused-list e = skip z (skip (yes _ 21 fits) (skip sound e))
 

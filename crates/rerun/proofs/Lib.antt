@@ -3,3 +3,4 @@ pub mod Reading
 pub mod Listed
 pub mod Turns
 pub mod Ends
+pub mod Claims
