@@ -11,13 +11,16 @@ fn number(n: usize) {
     io::print_decimal(1, n as u64);
 }
 
-fn bytes(s: &[u8], n: usize) {
-    let mut i = 0;
-    while i < n {
-        if i < s.len() {
-            number(s[i] as usize);
-        }
-        i += 1;
+fn byte(s: &[u8], place: usize) {
+    number(memory::byte_at(s, place) as usize);
+}
+
+fn four(s: &[u8], place: usize) {
+    if place < 1000 {
+        byte(s, place);
+        byte(s, place + 1);
+        byte(s, place + 2);
+        byte(s, place + 3);
     }
 }
 
@@ -28,54 +31,62 @@ fn core(r: protocol::Registers) {
     number(r.flags as usize);
 }
 
-fn rerun(label: &[u8], file: &[u8], trace: &[u8], list: &[u8], size: usize, common: usize) {
-    let mut data = [9u8; 64];
-    let mut shared = [9u8; 1025];
-    let mut n = size;
-    if 64 < n {
-        n = 64;
-    }
-    let mut m = common;
-    if 1025 < m {
-        m = 1025;
-    }
-    let x = rerun::rerun(file, trace, list, &mut data[..n], &mut shared[..m]);
+fn show(label: &[u8], x: runner::Ran, buffer: &[u8], shared: &[u8]) {
     text(label);
     text(b":");
     number(x.refusal as usize);
     number(x.taken);
-    let cores = x.state.cores;
+    let s = x.state;
+    let cores = s.cores;
     core(cores[0]);
     core(cores[1]);
+    let semaphore = s.semaphore;
     text(b" ;");
-    number(x.state.semaphore.holder as usize);
-    number(x.state.semaphore.waiting as usize);
+    number(semaphore.holder as usize);
+    number(semaphore.waiting as usize);
     text(b" ;");
-    bytes(&data, 8);
+    four(buffer, 0);
+    four(buffer, 4);
     text(b" ;");
-    bytes(&shared, 3);
+    four(shared, 0);
     text(b"\n");
 }
 
-// The set of two cores.
-fn two(label: &[u8], trace: &[u8], list: &[u8], size: usize, common: usize) {
+fn rerun(
+    label: &[u8],
+    file: &[u8],
+    trace: &[u8],
+    list: &[u8],
+    buffer: &mut [u8],
+    shared: &mut [u8],
+) {
+    let x = rerun::rerun(file, trace, list, buffer, shared);
+    show(label, x, buffer, shared);
+}
+
+// The set of two cores, with lent memory of this content.
+fn two(label: &[u8], trace: &[u8], list: &[u8], buffer: &mut [u8], shared: &mut [u8]) {
     rerun(
         label,
         b"MCS1\x02\x04\x00\x00\x00\x03\x00\x04\x00\x01\x00\x01\x00\x02\x00\x00\x01\x21\x01\x00\x01\x00\x00\x00\x00\x00\x01\x00\x01\x12\x02\x00\x02\x00\x00\x00\x00\x00\x07\x00\x1b\x00\x01\x00\x02\x00\x00\x03\x00\x01\x00\x00",
         trace,
         list,
-        size,
-        common,
+        buffer,
+        shared,
     );
 }
 
+fn on(label: &[u8], trace: &[u8], list: &[u8]) {
+    let mut buffer = [9u8; 8];
+    let mut shared = [9u8; 1024];
+    two(label, trace, list, &mut buffer, &mut shared);
+}
+
 fn case(label: &[u8], list: &[u8]) {
-    two(
+    on(
         label,
         b"\x02\x00\x00\x00\x00\x00\x00\x00\x00\x00\x01\x00\x2a\x00\x00\x00\x05",
         list,
-        8,
-        1024,
     );
 }
 
@@ -104,26 +115,35 @@ fn unproduced() {
     case(b"byte 255 at the end", b"\x00\x10\xff");
 }
 
-// The other refusals come first, each before the next.
+// The other refusals come first, each before the next: a byte too few is lent, or all is lent and the trace is wrong, or the list alone.
 fn refused() {
+    let mut buffer = [9u8; 7];
+    let mut shared = [9u8; 1024];
     rerun(
         b"file, all else wrong too",
         b"MCS1\x05",
         b"\x00",
         b"\xff",
-        7,
-        1023,
+        &mut buffer,
+        &mut shared,
     );
-    two(b"data buffer", b"\x00", b"\xff", 7, 1024);
-    two(b"shared memory", b"\x00", b"\xff", 8, 1023);
-    two(b"trace", b"\x00", b"\xff", 8, 1024);
+    two(b"data buffer", b"\x00", b"\xff", &mut buffer, &mut shared);
+    let mut whole = [9u8; 8];
+    let mut less = [9u8; 1023];
+    two(b"shared memory", b"\x00", b"\xff", &mut whole, &mut less);
+    on(b"trace", b"\x00", b"\xff");
     case(b"list", b"\xff");
-    two(b"no trace, second cycle", b"", b"\x00\x10\x00", 8, 1024);
-    two(b"no trace, first cycle", b"", b"\x00\x10", 8, 1024);
+}
+
+// A trace of no bytes has one record for each core.
+fn blank() {
+    on(b"no trace, second cycle", b"", b"\x00\x10\x00");
+    on(b"no trace, first cycle", b"", b"\x00\x10");
 }
 
 fn main() {
     produced();
     unproduced();
     refused();
+    blank();
 }
