@@ -33,7 +33,7 @@ use Rattle.states.specs.Tasks.{tasksOf}
 use Rattle.states.specs.Preparing.{heldRefusal, prepared}
 use Rattle.runner.specs.declared.Ran.{Ran}
 use Rattle.runner.specs.Runs.{allBelow, Left, left, ranCall}
-use Rattle.machine.specs.Calls.{lentFits, setRefusal, callRefusal, answerOf, tableOf, freshRefusalFor, freshRefusal, freshCallFor, freshCall, runRefusal, runCall}
+use Rattle.machine.specs.Calls.{lentFits, setRefusal, callRefusal, answerOf, tableOf, freshRefusalFor, freshRefusal, freshCallFor, freshCall, runRefusal, runCall, freshLeft}
 
 -- ---- loading
 

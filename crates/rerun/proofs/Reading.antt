@@ -26,7 +26,7 @@ use Rattle.records.specs.File.{cores, variables, recordPlace}
 use Rattle.taskset.specs.Judge.{codeOf}
 use Rattle.taskset.specs.Task.{listed, sizesOf, variablesOf, sampleAt, samplesOf}
 use Rattle.taskset.specs.Trace.{recordCount}
-use Rattle.taskset.proofs.Accepted.{length-listed, listed-at}
+use Rattle.taskset.proofs.Accepted.{length-listed, listed-at, sizes-length}
 use Rattle.states.specs.declared.CoreTask.{CoreTask}
 use Rattle.states.specs.Task.{taskOf}
 use Rattle.states.specs.Tasks.{coreTask}
@@ -34,7 +34,6 @@ use Rattle.states.specs.Machine.{none, stackIn, coreIn, stateIn}
 use Rattle.states.specs.Fit.{FitCore, Fit}
 use Rattle.states.specs.Set.{Set}
 use Rattle.states.proofs.Executes.{executes}
-use Rattle.states.proofs.Fresh.{sizes-length}
 use Rattle.states.proofs.Tables.{listed-set}
 use Rattle.steps.specs.Moving.{Ready}
 use Rattle.runner.specs.Executing.{Standing, Executing, Executes, Stretch}

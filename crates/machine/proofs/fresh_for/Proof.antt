@@ -19,16 +19,16 @@ answer-requires c κs = search needs
 
 returns : tie.Need-returns
 returns c =
-    let a = @start .args in
+    let a = c .before .before .before .before .before .before .before .before .args in
     fresh-refused-for (a .profile) (a .file .now) (a .buffer .now) (a .shared .now) _
-    (fresh-file-for (a .profile) (a .file .now) (a .buffer .now) (a .shared .now) (file-judged-for (a .profile) (a .file .now) _ (@load-for .ensures)) (@if1 .taken))
-    (@if1 .taken)
-    (rw (sym (@table-of .ensures)) (@answer .ensures))
+    (fresh-file-for (a .profile) (a .file .now) (a .buffer .now) (a .shared .now) (file-judged-for (a .profile) (a .file .now) _ (c .before .before .before .before .load-for .ensures)) (c .before .before .if1 .taken))
+    (c .before .before .if1 .taken)
+    (rw (sym (c .before .table-of .ensures)) (c .answer .ensures))
 
 lent-fits-requires : tie.Need-lent-fits-requires
 lent-fits-requires c κs =
-    let a = @start .args in
-    (file-accepted-for (a .profile) (a .file .now) _ (@load-for .ensures) (@if1 .left), file-laid-for (a .profile) (a .file .now) _ (@load-for .ensures) (@if1 .left))
+    let a = c .before .before .before .before .before .before .before .args in
+    (file-accepted-for (a .profile) (a .file .now) _ (c .before .before .before .load-for .ensures) (c .before .if1 .left), file-laid-for (a .profile) (a .file .now) _ (c .before .before .before .load-for .ensures) (c .before .if1 .left))
 
 table-of-requires-2 : tie.Need-table-of-requires-2
 table-of-requires-2 c κs = search needs
@@ -38,17 +38,17 @@ answer-requires-2 c κs = search needs
 
 returns-2 : tie.Need-returns-2
 returns-2 c =
-    let a = @start .args in
+    let a = c .before .before .before .before .before .before .before .before .before .before .before .args in
     fresh-refused-for (a .profile) (a .file .now) (a .buffer .now) (a .shared .now) _
-    (fresh-lent-for (a .profile) (a .file .now) (a .buffer .now) (a .shared .now) (sym (file-judged-for (a .profile) (a .file .now) _ (@load-for .ensures)) ∙ @if1 .left)
-    (sym (@lent-fits .ensures) ∙ not-true _ (@if2 .taken)))
+    (fresh-lent-for (a .profile) (a .file .now) (a .buffer .now) (a .shared .now) (sym (file-judged-for (a .profile) (a .file .now) _ (c .before .before .before .before .before .before .before .load-for .ensures)) ∙ c .before .before .before .before .before .if1 .left)
+    (sym (c .before .before .before .lent-fits .ensures) ∙ not-true _ (c .before .before .if2 .taken)))
     (λ e. absurd (omega arith))
-    (rw (sym (@table-of2 .ensures)) (@answer2 .ensures))
+    (rw (sym (c .before .table-of2 .ensures)) (c .answer2 .ensures))
 
 fresh-judged-requires : tie.Need-fresh-judged-requires
 fresh-judged-requires c κs =
-    let a = @start .args in
-    (file-accepted-for (a .profile) (a .file .now) _ (@load-for .ensures) (@if1 .left), file-laid-for (a .profile) (a .file .now) _ (@load-for .ensures) (@if1 .left), sym (@lent-fits .ensures) ∙ not-false _ (@if2 .left))
+    let a = c .before .before .before .before .before .before .before .before .before .before .before .args in
+    (file-accepted-for (a .profile) (a .file .now) _ (c .before .before .before .before .before .before .before .load-for .ensures) (c .before .before .before .before .before .if1 .left), file-laid-for (a .profile) (a .file .now) _ (c .before .before .before .before .before .before .before .load-for .ensures) (c .before .before .before .before .before .if1 .left), sym (c .before .before .before .lent-fits .ensures) ∙ not-false _ (c .before .before .if2 .left))
 
 same-length : tie.Need-same-length
 same-length c = search needs
@@ -58,10 +58,10 @@ same-length-2 c = search needs
 
 returns-3 : tie.Need-returns-3
 returns-3 c =
-    let a = @start .args in
-    @fresh-judged .ensures
-    ∙ fresh-any (a .profile) (a .file .now) (a .buffer .now) (a .shared .now) (sym (file-judged-for (a .profile) (a .file .now) _ (@load-for .ensures)) ∙ @if1 .left)
-    (file-accepted-for (a .profile) (a .file .now) _ (@load-for .ensures) (@if1 .left)) (sym (@lent-fits .ensures) ∙ not-false _ (@if2 .left))
+    let a = c .before .before .before .before .before .before .before .before .before .before .before .before .before .before .before .before .args in
+    c .before .before .before .before .fresh-judged .ensures
+    ∙ fresh-any (a .profile) (a .file .now) (a .buffer .now) (a .shared .now) (sym (file-judged-for (a .profile) (a .file .now) _ (c .before .before .before .before .before .before .before .before .before .before .before .before .load-for .ensures)) ∙ c .before .before .before .before .before .before .before .before .before .before .if1 .left)
+    (file-accepted-for (a .profile) (a .file .now) _ (c .before .before .before .before .before .before .before .before .before .before .before .before .load-for .ensures) (c .before .before .before .before .before .before .before .before .before .before .if1 .left)) (sym (c .before .before .before .before .before .before .before .before .lent-fits .ensures) ∙ not-false _ (c .before .before .before .before .before .before .before .if2 .left))
 
 pub fresh-for-spec : {M : Type 1} → statement M
 fresh-for-spec =

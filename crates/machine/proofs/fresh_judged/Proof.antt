@@ -9,10 +9,10 @@ use Rattle.machine.proofs.fresh_judged.Statement.{statement}
 use Rattle.machine.proofs.fresh_judged.Tie as tie
 
 fill-requires : tie.Need-fill-requires
-fill-requires c κs = let given = @start .pre in let sized = lent-sizes (@start .args .file .now) _ _ (given .2) in (given .0, given .1, sized .0, sized .1)
+fill-requires c κs = let given = c .before .before .before .before .before .pre in let sized = lent-sizes (c .before .before .before .before .before .args .file .now) _ _ (given .2) in (given .0, given .1, sized .0, sized .1)
 
 cast-table-of : tie.Need-cast-table-of
-cast-table-of c = rw (@start .pre .1) (omega (arith, keeps-rules (@start .args .file .now) (@start .pre .0) .most-cores))
+cast-table-of c = rw (c .before .before .before .before .before .before .before .before .before .before .before .pre .1) (omega (arith, keeps-rules (c .before .before .before .before .before .before .before .before .before .before .before .args .file .now) (c .before .before .before .before .before .before .before .before .before .before .before .pre .0) .most-cores))
 
 table-of-requires : tie.Need-table-of-requires
 table-of-requires c κs = search needs
@@ -28,12 +28,12 @@ same-length-2 c = search needs
 
 returns : tie.Need-returns
 returns c =
-    let a = @start .args in
+    let a = c .before .before .before .before .before .before .before .before .before .before .before .before .before .args in
     fresh-granted-for Full (a .file .now) (a .buffer .now) (a .shared .now) _ _ _
-    (fresh-none-for Full (a .file .now) (a .buffer .now) (a .shared .now) (@start .pre .0) (@start .pre .2))
-    (rw (@answer .ensures, @table-of .ensures, @start .pre .1) refl)
-    (@fill .ensures .0)
-    (@fill .ensures .1)
+    (fresh-none-for Full (a .file .now) (a .buffer .now) (a .shared .now) (c .before .before .before .before .before .before .before .before .before .before .before .before .before .pre .0) (c .before .before .before .before .before .before .before .before .before .before .before .before .before .pre .2))
+    (rw (c .answer .ensures, c .before .table-of .ensures, c .before .before .before .before .before .before .before .before .before .before .before .before .before .pre .1) refl)
+    (c .before .before .before .before .before .before .before .fill .ensures .0)
+    (c .before .before .before .before .before .before .before .fill .ensures .1)
     ∙ fresh-full (a .file .now) (a .buffer .now) (a .shared .now)
 
 pub fresh-judged-spec : {M : Type 1} → statement M
