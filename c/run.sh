@@ -1,6 +1,6 @@
 #!/bin/sh
 # Builds the archive, compiles the examples against it and compares what they print: document 01's listing; the line at the semaphore, what a task takes, the
-# lowest readings, the windows, the small profile and the start values of document 02, 2.4, 2.7, 2.11, 2.14, 2.10 and 2.12.
+# lowest readings, the windows, the small profile, the start values and the reruns of document 02, 2.4, 2.7, 2.11, 2.14, 2.10, 2.12 and 2.13.
 set -e
 cd "$(dirname "$0")/.."
 rt staticlib lent
@@ -43,3 +43,19 @@ gcc -std=c99 -Wall -Wextra -Werror -Iinclude -o target/c/forms c/forms.c target/
 printf '0 data 0 0 44 1 0 0 0 0 0 0 0 0 0 8 shared 0 44 1 0\n0 40 32 ab\n0 36 0\n2 32 21 77\n' > target/c/expected
 target/c/forms | diff - target/c/expected
 echo "c: start values and both forms of a file are those of document 02"
+gcc -std=c99 -Wall -Wextra -Werror -Iinclude -o target/c/rerun c/rerun.c target/staticlib/liblent.a
+cat > target/c/expected <<'END'
+0 ; 0 1 0 1 ; 9 2313 9 2313 ; 0 0 ; 0 9 9 9 9 9 9 9 ; 0 0 ; 9
+0 ; 0 0 4 0 ; 0 0 4 0 ; 0 0 ; 0 0 0 0 0 0 0 0 ; 0 0 ; 9
+0 ; 3 0 4 2 ; 0 0 4 0 ; 0 0 ; 0 1 0 0 0 0 0 0 ; 0 0 ; 9
+0 ; 0 2 0 2 ; 5 0 6 1 ; 0 0 ; 0 1 0 0 5 1 0 0 ; 1 0 ; 9
+0 ; 0 2 0 2 ; 5 0 6 1 ; 0 0 ; 0 1 0 0 5 0 0 0 ; 1 0 ; 9
+33 ; 9 2313 9 2313 ; 9 2313 9 2313 ; 9 9 ; 9 9 9 9 9 9 9 9 ; 9 9 ; 9
+33 ; 9 2313 9 2313 ; 9 2313 9 2313 ; 9 9 ; 9 9 9 9 9 9 9 9 ; 9 9 ; 9
+33 ; 9 2313 9 2313 ; 9 2313 9 2313 ; 9 9 ; 9 9 9 9 9 9 9 9 ; 9 9 ; 9
+22 ; 9 2313 9 2313 ; 9 2313 9 2313 ; 9 9 ; 9 9 9 9 9 9 9 9 ; 9 9 ; 9
+21 ; 9 2313 9 2313 ; 9 2313 9 2313 ; 9 9 ; 9 9 9 9 9 9 9 9 ; 9 9 ; 9
+1 ; 9 2313 9 2313 ; 9 2313 9 2313 ; 9 9 ; 9 9 9 9 9 9 9 9 ; 9 9 ; 9
+END
+target/c/rerun | diff - target/c/expected
+echo "c: the reruns are those of document 02"

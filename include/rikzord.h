@@ -9,7 +9,7 @@
  * - Nothing else reads or writes that memory during the call.
  *
  * Each call answers the refusal number of document 01 or 02, 0 for none: 1 to 7, 31 and 24 for the task set file (1: it is cut; 31: a start place beyond the
- * data or not rising; 24: bytes follow its last section; 27 besides, where it is loaded as small), 21 lent memory, 22 the trace (one of no bytes means one record of zeros for every core), 23 the state, 20 a core number; they are tried in this order. A refused call changes nothing. Any bytes may be lent: nothing is required of their values. The
+ * data or not rising; 24: bytes follow its last section; 27 besides, where it is loaded as small), 21 lent memory, 22 the trace (one of no bytes means one record of zeros for every core), 23 the state, 20 a core number, 33 the order list of a rerun; they are tried in this order. A refused call changes nothing. Any bytes may be lent: nothing is required of their values. The
  * definitions are in crates/lent/specs/Lent.antt. */
 #ifndef RIKZORD_H
 #define RIKZORD_H
@@ -79,6 +79,17 @@ uint8_t rikzord_step(const uint8_t *file, size_t file_length, const uint8_t *tra
 uint8_t rikzord_run(const uint8_t *file, size_t file_length, const uint8_t *trace, size_t trace_length, struct rikzord_core *table,
                     size_t table_length, struct rikzord_semaphore *semaphore, uint8_t *buffer, size_t buffer_length, uint8_t *shared,
                     size_t shared_length, const uint8_t *order, size_t order_length, uint8_t *list, size_t list_length, size_t *taken);
+
+/* Reruns an order list from the fresh state (document 02, 2.13), with every exchange whole and each execution straight after its reading: the takings of
+ * `list`, one byte each as a run writes them. The call is lent no state: what the table, the semaphore and both memories hold on entry counts for nothing. They
+ * end as every run with those takings ends once each core is between cycles, stopped or waiting to write; the semaphore is free and nobody in line. An empty
+ * list leaves the fresh state. The table needs at least n records (21); the first n are written. Refused are, in this order: the file (its own number), 21, 22,
+ * and 33 where no order of steps from the fresh state produces the list, one with a byte that names no core included. Since a list
+ * that is refused at its last byte leaves all that is lent, the call works in two arrays on the stack, of 16,384 and 1,024 bytes. The definitions are in
+ * crates/rerun/specs/Calls.antt. */
+uint8_t rikzord_rerun(const uint8_t *file, size_t file_length, const uint8_t *trace, size_t trace_length, const uint8_t *list, size_t list_length,
+                      struct rikzord_core *table, size_t table_length, struct rikzord_semaphore *semaphore, uint8_t *buffer, size_t buffer_length,
+                      uint8_t *shared, size_t shared_length);
 
 /* The first core after `given`, round the ring and that one last, whose step would change something. It goes to `found`; 255 says that there is
  * none: every core is stopped or out of records. */

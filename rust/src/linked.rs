@@ -8,6 +8,7 @@ use crate::interface::{Machine, Next};
 use crate::lines::Lines;
 use crate::profiles::Loader;
 use crate::reference::{mode, refusal, Core, Profile, Semaphore, WRITING_MARK};
+use crate::rerun::Lent;
 use crate::window::{Asked, Shown};
 
 const NOTHING: u8 = 255;
@@ -73,6 +74,22 @@ extern "C" {
         list: *mut u8,
         list_len: usize,
         taken: *mut usize,
+    ) -> u8;
+
+    fn rikzord_rerun(
+        file: *const u8,
+        file_len: usize,
+        trace: *const u8,
+        trace_len: usize,
+        list: *const u8,
+        list_len: usize,
+        table: *mut Core,
+        table_len: usize,
+        semaphore: *mut Semaphore,
+        buffer: *mut u8,
+        buffer_len: usize,
+        shared: *mut u8,
+        shared_len: usize,
     ) -> u8;
 
     fn rikzord_next_core(
@@ -276,6 +293,29 @@ fn fresh(profile: Profile, file: &[u8], table: &mut [Core], semaphore: &mut Sema
     let (table, buffer, shared) = (table.as_mut_ptr(), buffer.as_mut_ptr(), shared.as_mut_ptr());
     // Safety: as above.
     unsafe { call(file.as_ptr(), file_len, table, table_len, semaphore, buffer, buffer_len, shared, shared_len) }
+}
+
+/// The rerun of an order list, of `liblent.a`.
+pub fn rerun(file: &[u8], trace: &[u8], list: &[u8], lent: &mut Lent) -> u8 {
+    let Lent { table, semaphore, buffer, shared } = lent;
+    // Safety: as above.
+    unsafe {
+        rikzord_rerun(
+            file.as_ptr(),
+            file.len(),
+            trace.as_ptr(),
+            trace.len(),
+            list.as_ptr(),
+            list.len(),
+            table.as_mut_ptr(),
+            table.len(),
+            semaphore,
+            buffer.as_mut_ptr(),
+            buffer.len(),
+            shared.as_mut_ptr(),
+            shared.len(),
+        )
+    }
 }
 
 /// The lowest reading over the holding time, of `liblent.a`.

@@ -172,10 +172,26 @@ fn damage(random: &mut Random, list: &mut Vec<u8>) {
     }
 }
 
-/// Compares two reruns on random lists, sound, cut and damaged, beside damaged files, memories and traces; how often each refusal number came.
-pub fn compare(a: Rerun, b: Rerun, seed: u64, count: usize) -> BTreeMap<u8, usize> {
+/// How often each refusal number came.
+#[derive(Default)]
+pub struct Tally(pub BTreeMap<u8, usize>);
+
+impl Tally {
+    pub fn missing(&self) -> Vec<String> {
+        let wanted = [refusal::NONE, refusal::MARK, refusal::SIZES, refusal::TRACE, UNPRODUCED];
+        wanted.iter().filter(|number| !self.0.contains_key(number)).map(|number| format!("{number} of a rerun")).collect()
+    }
+
+    pub fn print(&self) {
+        let counts: Vec<String> = self.0.iter().map(|(number, count)| format!("{number}: {count}")).collect();
+        println!("lists rerun, by number {}", counts.join(", "));
+    }
+}
+
+/// Compares two reruns on random lists, sound, cut and damaged, beside damaged files, tables, memories and traces; panics at the first difference.
+pub fn compare(a: Rerun, b: Rerun, seed: u64, count: usize) -> Tally {
     let mut random = Random::new(seed);
-    let mut numbers = BTreeMap::new();
+    let mut tally = Tally::default();
     for number in 0..count {
         let (mut case, _, _) = random::sound(&mut random);
         let (mut list, _) = listed(&case, &mut random);
@@ -191,6 +207,7 @@ pub fn compare(a: Rerun, b: Rerun, seed: u64, count: usize) -> BTreeMap<u8, usiz
             1 => case.trace.push(0),
             2 => _ = lent.shared.pop(),
             3 => lent.buffer.push(0),
+            4 => lent.table.truncate(case.table.len() - 1),
             _ => {}
         }
         if random.once_in(3) {
@@ -203,7 +220,7 @@ pub fn compare(a: Rerun, b: Rerun, seed: u64, count: usize) -> BTreeMap<u8, usiz
         if answers.0 != refusal::NONE {
             assert_eq!(one, lent, "case {number} of seed {seed}: a refused rerun changes nothing");
         }
-        *numbers.entry(answers.0).or_insert(0) += 1;
+        *tally.0.entry(answers.0).or_insert(0) += 1;
     }
-    numbers
+    tally
 }

@@ -7,8 +7,8 @@ use Rattle.semaphore.specs.declared.Semaphore.{Semaphore}
 use Rattle.snapshot.specs.declared.Core.{Core}
 use Rattle.snapshot.specs.declared.Table.{Table}
 use Rattle.snapshot.specs.declared.After.{After}
-use Rattle.snapshot.specs.Snapshot.{tableLeft, stepTable, runTable, takenTable, freshTableFor, freshTable}
-use Rattle.lent.specs.Lent.{loaded, saved, lent, written, stepLent, runLent, takenLent, freshLent, freshLentFor}
+use Rattle.snapshot.specs.Snapshot.{tableLeft, stepTable, runTable, takenTable, freshTableFor, freshTable, rerunTable}
+use Rattle.lent.specs.Lent.{loaded, saved, lent, written, stepLent, runLent, takenLent, freshLent, freshLentFor, rerunLent}
 
 pub step-written : (f t : List ℕ) (ys : List Core) (p : Semaphore) (d sh : List ℕ) (k : ℕ) (x : Table) (y : After) (ys′ : List Core) (d′ sh′ : List ℕ)
     → x ≡ loaded ys → tableLeft y d′ sh′ [] ≡ stepTable f t x p d sh k → ys′ ≡ saved ys y
@@ -42,3 +42,10 @@ pub fresh-written-for : (o : Profile) (f : List ℕ) (ys : List Core) (p : Semap
 unfolding freshLentFor
 fresh-written-for o f ys p d sh x y ys′ d′ sh′ e₁ e₂ e₃ =
     ap (λ (l : List Core). lent (y .refusal) l (y .semaphore) d′ sh′ []) e₃ ∙ ap (written ys) (e₂ ∙ ap (λ (z : Table). freshTableFor o f z p d sh) e₁)
+
+pub rerun-written : (f t list : List ℕ) (ys : List Core) (p : Semaphore) (d sh : List ℕ) (x : Table) (y : After) (ys′ : List Core) (d′ sh′ : List ℕ)
+    → x ≡ loaded ys → tableLeft y d′ sh′ [] ≡ rerunTable f t list x p d sh → ys′ ≡ saved ys y
+    → lent (y .refusal) ys′ (y .semaphore) d′ sh′ [] ≡ rerunLent f t list ys p d sh
+unfolding rerunLent
+rerun-written f t list ys p d sh x y ys′ d′ sh′ e₁ e₂ e₃ =
+    ap (λ (l : List Core). lent (y .refusal) l (y .semaphore) d′ sh′ []) e₃ ∙ ap (written ys) (e₂ ∙ ap (λ (z : Table). rerunTable f t list z p d sh) e₁)

@@ -16,7 +16,7 @@ use Rattle.snapshot.specs.declared.Core.{Core}
 use Rattle.snapshot.specs.declared.Table.{Table}
 use Rattle.snapshot.specs.declared.After.{After}
 use Rattle.snapshot.specs.declared.Ring.{Ring}
-use Rattle.snapshot.specs.Snapshot.{noCore, tableFrom, held, TableLeft, stepTable, runTable, takenTable, freshTableFor, freshTable, placeAfter, recordMoves, Answered, answered}
+use Rattle.snapshot.specs.Snapshot.{noCore, tableFrom, held, TableLeft, stepTable, runTable, takenTable, freshTableFor, freshTable, rerunTable, placeAfter, recordMoves, Answered, answered}
 
 -- ---- a table copied out
 
@@ -68,6 +68,10 @@ freshLent f ys p d sh = written ys (freshTable f (loaded ys) p d sh)
 -- the same under the profile that the caller names
 unfoldable pub freshLentFor : Profile → List ℕ → List Core → Semaphore → List ℕ → List ℕ → Lent
 freshLentFor profile f ys p d sh = written ys (freshTableFor profile f (loaded ys) p d sh)
+
+-- an order list, rerun from the fresh state
+unfoldable pub rerunLent : List ℕ → List ℕ → List ℕ → List Core → Semaphore → List ℕ → List ℕ → Lent
+rerunLent f t list ys p d sh = written ys (rerunTable f t list (loaded ys) p d sh)
 
 -- ---- the next core to move: the lent records are scanned round the ring
 

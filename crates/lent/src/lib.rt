@@ -25,7 +25,7 @@ ghost use Rattle.bounds.specs.Outputs.{outputs, takesLent};
 ghost use Rattle.forms.specs.Forms.{convertedLent, toNewLent, toOldLent};
 ghost use Rattle.holding.specs.Holding.{lowestRefusal, answersAfter};
 ghost use Rattle.snapshot.specs.Snapshot.{answered, registersAfter, stepRegisters};
-ghost use Rattle.lent.specs.Lent.{loaded, saved, lent, stepLent, runLent, takenLent, freshLent, freshLentFor, scanned, nextLent};
+ghost use Rattle.lent.specs.Lent.{loaded, saved, lent, stepLent, runLent, takenLent, freshLent, freshLentFor, rerunLent, scanned, nextLent};
 
 // ---- the lent table
 
@@ -177,6 +177,26 @@ pub extern "C" fn rikzord_fresh_small(
 {
     let t = load(table);
     let x = snapshot::fresh_small_table(file, t, *semaphore, buffer, shared);
+    save(table, x);
+    *semaphore = x.semaphore;
+    x.refusal
+}
+
+// An order list, rerun from the fresh state (document 02, 2.13). The table needs at least n records, and the first n are written.
+#[no_mangle]
+pub extern "C" fn rikzord_rerun(
+    file: &[u8],
+    trace: &[u8],
+    list: &[u8],
+    table: &mut [Core],
+    semaphore: &mut Semaphore,
+    buffer: &mut [u8],
+    shared: &mut [u8],
+) -> u8
+    ensures { λ r. ⌜ lent r (now (table .exit)) (now (semaphore .exit)) (now (buffer .exit)) (now (shared .exit)) [] ≡ rerunLent (now (file .entry)) (now (trace .entry)) (now (list .entry)) (now (table .entry)) (now (semaphore .entry)) (now (buffer .entry)) (now (shared .entry)) ⌝ }
+{
+    let t = load(table);
+    let x = snapshot::rerun_table(file, trace, list, t, *semaphore, buffer, shared);
     save(table, x);
     *semaphore = x.semaphore;
     x.refusal

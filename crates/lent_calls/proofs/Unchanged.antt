@@ -20,10 +20,11 @@ use Rattle.states.specs.declared.State.{State}
 use Rattle.states.specs.Machine.{none}
 use Rattle.runner.specs.Runs.{Left, left}
 use Rattle.machine.specs.Calls.{answerOf, tableOf, freshRefusal, freshCall, runRefusal, runCall, stepRefusal, stepCall, nextRefusal}
+use Rattle.rerun.specs.Calls.{rerunRefusal, rerunCall}
 use Rattle.snapshot.specs.declared.Core.{Core}
 use Rattle.snapshot.specs.declared.After.{After}
-use Rattle.snapshot.specs.Snapshot.{counted, held, refusedOf, onTable, stepTable, runTable, takenAfter, takenTable, freshTable, answered, withRegisters, registersAfter, stepRegisters}
-use Rattle.lent.specs.Lent.{loaded, saved, lent, written, stepLent, runLent, takenLent, freshLent, nextLent}
+use Rattle.snapshot.specs.Snapshot.{counted, held, refusedOf, onTable, stepTable, runTable, takenAfter, takenTable, freshTable, rerunTable, answered, withRegisters, registersAfter, stepRegisters}
+use Rattle.lent.specs.Lent.{loaded, saved, lent, written, stepLent, runLent, takenLent, freshLent, rerunLent, nextLent}
 use Rattle.snapshot.proofs.Laws.{on-refused, short-refused}
 
 -- ---- a table after a refused call
@@ -67,6 +68,18 @@ pub fresh-short-refused : (f : List ℕ) (ys : List Core) (p : Semaphore) (d sh 
     → freshLent f ys p d sh ≡ lent (next (judge f) 21) ys p d sh []
 unfolding freshLent freshTable
 fresh-short-refused f ys p d sh e =
+    ap (λ (l : Left). written ys (onTable (loaded ys) p l)) (pick-false _ _ _ e) ∙ refused-lent ys p d sh [] _ (tableOf 0 0) (short-refused (judge f))
+
+pub rerun-refused : (f t list : List ℕ) (ys : List Core) (p : Semaphore) (d sh : List ℕ) → leb (cores f) (counted (length ys)) ≡ true → rerunRefusal f t list (length d) (length sh) ≢ 0
+    → rerunLent f t list ys p d sh ≡ lent (rerunRefusal f t list (length d) (length sh)) ys p d sh []
+unfolding rerunLent rerunTable rerunCall
+rerun-refused f t list ys p d sh e ne =
+    ap (λ (l : Left). written ys (onTable (loaded ys) p l)) (pick-true _ _ _ e ∙ pick-false _ _ _ (ne-eqb _ 0 ne)) ∙ refused-lent ys p d sh [] _ (tableOf 0 0) ne
+
+pub rerun-short-refused : (f t list : List ℕ) (ys : List Core) (p : Semaphore) (d sh : List ℕ) → leb (cores f) (counted (length ys)) ≡ false
+    → rerunLent f t list ys p d sh ≡ lent (next (judge f) 21) ys p d sh []
+unfolding rerunLent rerunTable
+rerun-short-refused f t list ys p d sh e =
     ap (λ (l : Left). written ys (onTable (loaded ys) p l)) (pick-false _ _ _ e) ∙ refused-lent ys p d sh [] _ (tableOf 0 0) (short-refused (judge f))
 
 pub next-core-refused : (f t : List ℕ) (ys : List Core) (p : Semaphore) (given found : ℕ) → nextRefusal f t (held (loaded ys) p) given ≢ 0

@@ -23,9 +23,10 @@ use Rattle.runner.specs.declared.Ran.{Ran}
 use Rattle.runner.specs.Runs.{Left, left}
 use Rattle.machine.specs.Calls.{answerOf, tableOf, freshCallFor, runCall, stepCall}
 use Rattle.machine.proofs.Calls.{fresh-full}
+use Rattle.rerun.specs.Calls.{rerunCall}
 use Rattle.snapshot.specs.declared.Table.{Table}
 use Rattle.snapshot.specs.declared.After.{After}
-use Rattle.snapshot.specs.Snapshot.{held, acceptedOf, refusedOf, afterOf, takenAfter, tableLeft, onTable, stepTable, runTable, takenTable, freshOn, freshTableFor, freshTable}
+use Rattle.snapshot.specs.Snapshot.{held, acceptedOf, refusedOf, afterOf, takenAfter, tableLeft, onTable, stepTable, runTable, takenTable, madeOn, freshTableFor, freshTable, rerunTable}
 
 -- ---- whole stretches
 
@@ -91,27 +92,54 @@ module _ (f t : List ℕ) (x : Table) (p : Semaphore) (d sh order list : List �
     sym (pick-true _ _ _ (eq-eqb (r .refusal) 0 z)) ∙ taken-on,
   )
 
+-- a call that makes a state, on a table of enough records or of fewer
+module _ (judged : ℕ) (made : Left) (f : List ℕ) (x : Table) (p : Semaphore) (d sh : List ℕ) (n : ℕ) (en : n ≡ cores f) where
+  pub made-short : (r : ℕ) (y : After) → x .count < n → r ≡ next judged 21 → y ≡ refusedOf x p r → tableLeft y d sh [] ≡ madeOn judged made f x p d sh
+  made-short r y h er ey =
+      let q = next judged 21 in
+      ap (λ (z : After). tableLeft z d sh []) (ey ∙ ap (refusedOf x p) er)
+      ∙ sym (on-refused x p (answerOf q (tableOf 0 0)) d sh [] (short-refused judged))
+      ∙ ap (onTable x p) (sym (pick-false _ _ _ (lt-leb (cores f) (x .count) (omega (arith, en, h)))))
+
+  module _ (r : Ran) (y : After) (d′ sh′ : List ℕ) (h : n ≤ x .count) (e : left r d′ sh′ [] ≡ made) where
+    made-on : onTable x p (left r d′ sh′ []) ≡ madeOn judged made f x p d sh
+    made-on = ap (onTable x p) (e ∙ sym (pick-true _ _ _ (le-leb (cores f) (x .count) (omega (arith, en, h)))))
+
+    pub made-stays : r .refusal ≢ 0 → y ≡ refusedOf x p (r .refusal) → tableLeft y d′ sh′ [] ≡ madeOn judged made f x p d sh
+    made-stays ne ey = ap (λ (z : After). tableLeft z d′ sh′ []) ey ∙ sym (on-refused x p r d′ sh′ [] ne) ∙ made-on
+
+    pub made-moves : r .refusal ≡ 0 → y ≡ acceptedOf x (r .state) → tableLeft y d′ sh′ [] ≡ madeOn judged made f x p d sh
+    made-moves z ey = ap (λ (z : After). tableLeft z d′ sh′ []) ey ∙ sym (on-accepted x p r d′ sh′ [] z) ∙ made-on
+
 module _ (o : Profile) (f : List ℕ) (x : Table) (p : Semaphore) (d sh : List ℕ) (n : ℕ) (en : n ≡ cores f) where
   pub fresh-short : (r : ℕ) (y : After) → x .count < n → r ≡ next (judgeFor o f) 21 → y ≡ refusedOf x p r → tableLeft y d sh [] ≡ freshTableFor o f x p d sh
   unfolding freshTableFor
-  fresh-short r y h er ey =
-      let q = next (judgeFor o f) 21 in
-      ap (λ (z : After). tableLeft z d sh []) (ey ∙ ap (refusedOf x p) er)
-      ∙ sym (on-refused x p (answerOf q (tableOf 0 0)) d sh [] (short-refused (judgeFor o f)))
-      ∙ ap (onTable x p) (sym (pick-false _ _ _ (lt-leb (cores f) (x .count) (omega (arith, en, h)))))
+  fresh-short = made-short (judgeFor o f) (freshCallFor o f d sh) f x p d sh n en
 
   module _ (r : Ran) (y : After) (d′ sh′ : List ℕ) (h : n ≤ x .count) (e : left r d′ sh′ [] ≡ freshCallFor o f d sh) where
-    freshened : onTable x p (left r d′ sh′ []) ≡ freshTableFor o f x p d sh
-    unfolding freshTableFor
-    freshened = ap (onTable x p) (e ∙ sym (pick-true _ _ _ (le-leb (cores f) (x .count) (omega (arith, en, h)))))
-
     pub fresh-stays : r .refusal ≢ 0 → y ≡ refusedOf x p (r .refusal) → tableLeft y d′ sh′ [] ≡ freshTableFor o f x p d sh
-    fresh-stays ne ey = ap (λ (z : After). tableLeft z d′ sh′ []) ey ∙ sym (on-refused x p r d′ sh′ [] ne) ∙ freshened
+    unfolding freshTableFor
+    fresh-stays = made-stays (judgeFor o f) (freshCallFor o f d sh) f x p d sh n en r y d′ sh′ h e
 
     pub fresh-moves : r .refusal ≡ 0 → y ≡ acceptedOf x (r .state) → tableLeft y d′ sh′ [] ≡ freshTableFor o f x p d sh
-    fresh-moves z ey = ap (λ (z : After). tableLeft z d′ sh′ []) ey ∙ sym (on-accepted x p r d′ sh′ [] z) ∙ freshened
+    unfolding freshTableFor
+    fresh-moves = made-moves (judgeFor o f) (freshCallFor o f d sh) f x p d sh n en r y d′ sh′ h e
+
+module _ (f t list : List ℕ) (x : Table) (p : Semaphore) (d sh : List ℕ) (n : ℕ) (en : n ≡ cores f) where
+  pub rerun-short : (r : ℕ) (y : After) → x .count < n → r ≡ next (judge f) 21 → y ≡ refusedOf x p r → tableLeft y d sh [] ≡ rerunTable f t list x p d sh
+  unfolding rerunTable
+  rerun-short = made-short (judge f) (rerunCall f t list d sh) f x p d sh n en
+
+  module _ (r : Ran) (y : After) (d′ sh′ : List ℕ) (h : n ≤ x .count) (e : left r d′ sh′ [] ≡ rerunCall f t list d sh) where
+    pub rerun-stays : r .refusal ≢ 0 → y ≡ refusedOf x p (r .refusal) → tableLeft y d′ sh′ [] ≡ rerunTable f t list x p d sh
+    unfolding rerunTable
+    rerun-stays = made-stays (judge f) (rerunCall f t list d sh) f x p d sh n en r y d′ sh′ h e
+
+    pub rerun-moves : r .refusal ≡ 0 → y ≡ acceptedOf x (r .state) → tableLeft y d′ sh′ [] ≡ rerunTable f t list x p d sh
+    unfolding rerunTable
+    rerun-moves = made-moves (judge f) (rerunCall f t list d sh) f x p d sh n en r y d′ sh′ h e
 
 -- the call without a profile is that of the full one
 pub full-table : (f : List ℕ) (x : Table) (p : Semaphore) (d sh : List ℕ) → freshTableFor Full f x p d sh ≡ freshTable f x p d sh
 unfolding freshTableFor freshTable
-full-table f x p d sh = ap (λ (l : Left). freshOn (judge f) l f x p d sh) (fresh-full f d sh)
+full-table f x p d sh = ap (λ (l : Left). madeOn (judge f) l f x p d sh) (fresh-full f d sh)

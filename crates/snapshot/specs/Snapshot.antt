@@ -22,6 +22,7 @@ use Rattle.runner.specs.declared.Ran.{Ran}
 use Rattle.runner.specs.Runs.{Left, left}
 use Rattle.table.specs.Table.{canMove, roundFrom}
 use Rattle.machine.specs.Calls.{answerOf, tableOf, freshCallFor, freshCall, runCall, stepCall, nextRefusal}
+use Rattle.rerun.specs.Calls.{rerunCall}
 use Rattle.snapshot.specs.declared.Core.{Core}
 use Rattle.snapshot.specs.declared.Table.{Table}
 use Rattle.snapshot.specs.declared.After.{After}
@@ -158,17 +159,22 @@ runTable f t x p d sh order list = onTable x p (runCall f t (held x p) d sh orde
 unfoldable pub takenTable : List ℕ → List ℕ → Table → Semaphore → List ℕ → List ℕ → List ℕ → List ℕ → ℕ → ℕ
 takenTable f t x p d sh order list taken = takenAfter taken (runCall f t (held x p) d sh order list .answer)
 
--- the fresh state needs a table of at least n records (21, after the file's number), and writes the first n of what the call by value makes
-abbrev pub freshOn : ℕ → Left → List ℕ → Table → Semaphore → List ℕ → List ℕ → TableLeft
-freshOn judged made f x p d sh =
+-- the fresh state and a rerun from it need a table of at least n records (21, after the file's number), and write the first n of what the call by
+-- value makes
+abbrev pub madeOn : ℕ → Left → List ℕ → Table → Semaphore → List ℕ → List ℕ → TableLeft
+madeOn judged made f x p d sh =
     onTable x p (pick (leb (cores f) (x .count)) made (left (answerOf (next judged 21) (tableOf 0 0)) d sh []))
 
 unfoldable pub freshTableFor : Profile → List ℕ → Table → Semaphore → List ℕ → List ℕ → TableLeft
-freshTableFor profile f x p d sh = freshOn (judgeFor profile f) (freshCallFor profile f d sh) f x p d sh
+freshTableFor profile f x p d sh = madeOn (judgeFor profile f) (freshCallFor profile f d sh) f x p d sh
 
 -- under the full profile
 unfoldable pub freshTable : List ℕ → Table → Semaphore → List ℕ → List ℕ → TableLeft
-freshTable f x p d sh = freshOn (judge f) (freshCall f d sh) f x p d sh
+freshTable f x p d sh = madeOn (judge f) (freshCall f d sh) f x p d sh
+
+-- document 02, 2.13: the order list, rerun on a trace
+unfoldable pub rerunTable : List ℕ → List ℕ → List ℕ → Table → Semaphore → List ℕ → List ℕ → TableLeft
+rerunTable f t list x p d sh = madeOn (judge f) (rerunCall f t list d sh) f x p d sh
 
 -- ---- the next core to move: what a scan of the records round the ring needs, each tested as by value (crate table, specs/Table)
 

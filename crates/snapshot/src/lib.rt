@@ -14,7 +14,7 @@ ghost use Rattle.memory.specs.Memory.{splice, part};
 ghost use Rattle.code.specs.declared.Profile.the-variants.{Small};
 ghost use Rattle.taskset.specs.Judge.{judgeFor};
 ghost use Rattle.runner.specs.Runs.{left};
-ghost use Rattle.snapshot.specs.Snapshot.{noCore, tableFrom, entries, counted, registersIn, recordWith, heldPlaces, heldOffsets, held, coreOf, recordAfter, acceptedOf, refusedOf, tableLeft, stepTable, runTable, takenTable, freshTableFor, freshTable, ringOf, noRing, placeAfter, recordMoves, answered, ringAnswer, withRegisters, registersAfter, stepRegisters};
+ghost use Rattle.snapshot.specs.Snapshot.{noCore, tableFrom, entries, counted, registersIn, recordWith, heldPlaces, heldOffsets, held, coreOf, recordAfter, acceptedOf, refusedOf, tableLeft, stepTable, runTable, takenTable, freshTableFor, freshTable, rerunTable, ringOf, noRing, placeAfter, recordMoves, answered, ringAnswer, withRegisters, registersAfter, stepRegisters};
 
 // A record of the core table: a core's registers and call stack, in 84 bytes of which each belongs to a field, so that what a call says of the
 // fields it says of every byte. Spare bytes are never judged, and a record that a call writes has zeros there.
@@ -327,6 +327,28 @@ pub fn fresh_small_table(
     ensures { λ r. ⌜ tableLeft r (now (buffer .exit)) (now (shared .exit)) [] ≡ freshTableFor Small (now (file .entry)) t semaphore (now (buffer .entry)) (now (shared .entry)) ⌝ }
 {
     fresh_table_for(Profile::Small, file, t, semaphore, buffer, shared)
+}
+
+// The order list, rerun from the fresh state (document 02, 2.13).
+pub fn rerun_table(
+    file: &[u8],
+    trace: &[u8],
+    list: &[u8],
+    t: Table,
+    semaphore: Semaphore,
+    buffer: &mut [u8],
+    shared: &mut [u8],
+) -> After
+    ensures { λ r. ⌜ tableLeft r (now (buffer .exit)) (now (shared .exit)) [] ≡ rerunTable (now (file .entry)) (now (trace .entry)) (now (list .entry)) t semaphore (now (buffer .entry)) (now (shared .entry)) ⌝ }
+{
+    if t.count < memory::byte_at(file, 4) {
+        return refused(t, semaphore, short_refusal(Profile::Full, file));
+    }
+    let reran = rerun::rerun(file, trace, list, buffer, shared);
+    if reran.refusal != 0 {
+        return refused(t, semaphore, reran.refusal);
+    }
+    accepted(t, reran.state)
 }
 
 // The refusal where the table is too short: the file is judged first.

@@ -10,6 +10,7 @@ use rikzord_comparison::interface::{Machine, Reference};
 use rikzord_comparison::reference::command::*;
 use rikzord_comparison::reference::types::*;
 use rikzord_comparison::reference::{mode, refusal, Core, Semaphore, MOST_CODE, SHARED_SIZE};
+use rikzord_comparison::rerun::{self, Lent, Rerun};
 use std::hint::black_box;
 use std::time::{Duration, Instant};
 
@@ -44,6 +45,11 @@ fn main() {
     }
     least.report(&format!("judging {} bytes, a byte", file.len()), FILES * file.len());
     #[cfg(feature = "linked")]
+    let rerun = rikzord_comparison::linked::rerun;
+    #[cfg(not(feature = "linked"))]
+    let rerun = rerun::rerun;
+    rerun_of_a_run(rounds, &second, rerun);
+    #[cfg(feature = "linked")]
     let takes = rikzord_comparison::linked::takes;
     #[cfg(not(feature = "linked"))]
     let takes = bounds::takes;
@@ -59,6 +65,44 @@ fn main() {
         "lowest: a record with 10,000 in its window takes {:.2} of the time of one with 10",
         times[1].as_secs_f64() / times[0].as_secs_f64()
     );
+}
+
+/// Times the rerun of the list that a run of all steps writes, beside that run, on the second machine.
+fn rerun_of_a_run<M: Machine>(rounds: usize, machine: &M, rerun: Rerun) {
+    let work = Work::new(&four_cores());
+    let ran = |list: &mut Vec<u8>| -> Duration {
+        let mut plant = Plant::new(&work, machine);
+        let run = |call| {
+            let time = plant.run(&work, machine, call);
+            list.extend(&plant.list[..plant.taken]);
+            time
+        };
+        (0..CALLS).map(run).sum()
+    };
+    let mut list = Vec::new();
+    ran(&mut list);
+    let lent = || Lent {
+        table: vec![Core::default(); work.cores],
+        semaphore: Semaphore::default(),
+        buffer: vec![0; work.data_total],
+        shared: vec![0; SHARED_SIZE],
+    };
+    let reran = |rerun: Rerun, lent: &mut Lent| {
+        let start = Instant::now();
+        let number = rerun(&work.file, &work.trace, black_box(&list), lent);
+        let time = start.elapsed();
+        assert_eq!(number, refusal::NONE);
+        time
+    };
+    let (mut of_a, mut of_b) = (lent(), lent());
+    reran(rerun::rerun, &mut of_a);
+    let mut least = Least::new(1);
+    for round in 0..rounds {
+        least.round(round, |_| ran(&mut Vec::new()), |_| reran(rerun, &mut of_b));
+        assert!(of_a == of_b, "the reruns leave different things");
+    }
+    let [run, rerun] = least.0[0].map(|time| time.as_secs_f64());
+    println!("a rerun of {} takings, of the time of its run, four cores exchanging: {:.3}", list.len(), rerun / run);
 }
 
 /// Times what a task takes on a file with so many bytes of code in each core, all jumps upward.

@@ -9,6 +9,7 @@ use rikzord_comparison::holding;
 use rikzord_comparison::interface::{Reference, Stepwise};
 use rikzord_comparison::lines;
 use rikzord_comparison::profiles;
+use rikzord_comparison::rerun;
 use rikzord_comparison::window;
 
 fn main() {
@@ -52,8 +53,21 @@ fn main() {
     #[cfg(not(feature = "linked"))]
     let converted = forms::compare(forms::REFERENCE, forms::REFERENCE, seed as u64, rounds);
     converted.print();
-    let reports =
-        [tally.missing(), lowest.missing(), lines.missing(), windows.missing(), takes.missing(), loaded.missing(), converted.missing()];
+    #[cfg(feature = "linked")]
+    let rerun = rerun::compare(rerun::rerun, rikzord_comparison::linked::rerun, seed as u64, rounds);
+    #[cfg(not(feature = "linked"))]
+    let rerun = rerun::compare(rerun::rerun, rerun::rerun, seed as u64, rounds);
+    rerun.print();
+    let reports = [
+        tally.missing(),
+        lowest.missing(),
+        lines.missing(),
+        windows.missing(),
+        takes.missing(),
+        loaded.missing(),
+        converted.missing(),
+        rerun.missing(),
+    ];
     let missing = reports.concat();
     assert!(missing.is_empty(), "never came: {missing:?}");
     println!("{rounds} rounds: the reference and {second} agree");
