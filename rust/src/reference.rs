@@ -6,6 +6,8 @@
 
 #![forbid(unsafe_code)]
 
+pub mod threads;
+
 // ---- names and limits
 
 /// Refusals by the number of document 01, or of document 02 from 24 on; 0 where there is none.
