@@ -1,6 +1,6 @@
 /* The C interface of Rikzord: a multi-core task machine whose every function is proved to meet its contract.
  *
- * Link with the archive that `rt staticlib lent` writes. A slice is a pointer to its first element and the count of its elements.
+ * Link with the archive that `rt staticlib rikzord` writes. A slice is a pointer to its first element and the count of its elements.
  *
  * What a caller owes, and no proof can check:
  * - No pointer is null, that of an empty slice included; it is never read there, but must not be null. Each is aligned for its type.
@@ -10,7 +10,7 @@
  *
  * Each call answers the refusal number of document 01 or 02, 0 for none: 1 to 7, 31 and 24 for the task set file (1: it is cut; 31: a start place beyond the
  * data or not rising; 24: bytes follow its last section; 27 besides, where it is loaded as small), 21 lent memory, 22 the trace (one of no bytes means one record of zeros for every core), 23 the state, 20 a core number, 33 the order list of a rerun; they are tried in this order. A refused call changes nothing. Any bytes may be lent: nothing is required of their values. The
- * definitions are in crates/lent/specs/Lent.antt. */
+ * definitions are in crates/rikzord/specs/Lent.antt. */
 #ifndef RIKZORD_H
 #define RIKZORD_H
 

@@ -146,7 +146,7 @@ extern "C" {
     ) -> u8;
 }
 
-/// The machine of `liblent.a`.
+/// The machine of `librikzord.a`.
 pub struct Linked;
 
 // Safety of each call: every pointer comes from a slice or a reference that lives through the call, with the slice's own length, and no two
@@ -272,7 +272,7 @@ impl Machine for Linked {
     }
 }
 
-/// The check of a file and the fresh state under each profile, of `liblent.a`.
+/// The check of a file and the fresh state under each profile, of `librikzord.a`.
 pub const LOADER: Loader = Loader { check, fresh };
 
 fn check(profile: Profile, file: &[u8]) -> u8 {
@@ -295,7 +295,7 @@ fn fresh(profile: Profile, file: &[u8], table: &mut [Core], semaphore: &mut Sema
     unsafe { call(file.as_ptr(), file_len, table, table_len, semaphore, buffer, buffer_len, shared, shared_len) }
 }
 
-/// The rerun of an order list, of `liblent.a`.
+/// The rerun of an order list, of `librikzord.a`.
 pub fn rerun(file: &[u8], trace: &[u8], list: &[u8], lent: &mut Lent) -> u8 {
     let Lent { table, semaphore, buffer, shared } = lent;
     // Safety: as above.
@@ -318,13 +318,13 @@ pub fn rerun(file: &[u8], trace: &[u8], list: &[u8], lent: &mut Lent) -> u8 {
     }
 }
 
-/// The lowest reading over the holding time, of `liblent.a`.
+/// The lowest reading over the holding time, of `librikzord.a`.
 pub fn lowest(run: &[u8], span: u32, answers: &mut [u8]) -> u8 {
     // Safety: as above.
     unsafe { rikzord_lowest(run.as_ptr(), run.len(), span, answers.as_mut_ptr(), answers.len()) }
 }
 
-/// The lines between cores, of `liblent.a`. A refused call leaves the byte.
+/// The lines between cores, of `librikzord.a`. A refused call leaves the byte.
 pub fn check_cycles(file: &[u8]) -> Lines {
     const UNTOUCHED: u8 = 77;
     let mut lines = UNTOUCHED;
@@ -339,7 +339,7 @@ pub fn check_cycles(file: &[u8]) -> Lines {
     }
 }
 
-/// A window, of `liblent.a`. A refused call leaves the place.
+/// A window, of `librikzord.a`. A refused call leaves the place.
 pub fn window(file: &[u8], buffer: &[u8], asked: Asked) -> Result<usize, u8> {
     const UNTOUCHED: usize = usize::MAX;
     let mut place = UNTOUCHED;
@@ -358,7 +358,7 @@ pub fn window(file: &[u8], buffer: &[u8], asked: Asked) -> Result<usize, u8> {
     }
 }
 
-/// The converters of `liblent.a`. A refused call leaves the length.
+/// The converters of `librikzord.a`. A refused call leaves the length.
 pub const CONVERTERS: Converters =
     Converters { to_new: |file, out| convert(rikzord_to_new, file, out), to_old: |file, out| convert(rikzord_to_old, file, out) };
 
@@ -379,7 +379,7 @@ fn convert(
     }
 }
 
-/// What a task will take, of `liblent.a`.
+/// What a task will take, of `librikzord.a`.
 pub fn takes(file: &[u8], lengths: &mut [usize], counts: &mut [u32], depths: &mut [u32]) -> u8 {
     // Safety: as above.
     unsafe {

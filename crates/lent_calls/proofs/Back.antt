@@ -12,7 +12,7 @@ use Rattle.memory.proofs.Laws.{length-splice, part-splice-below, part-splice-sa
 use Rattle.semaphore.specs.declared.Semaphore.{Semaphore}
 use Rattle.snapshot.specs.declared.Core.{Core}
 use Rattle.snapshot.specs.Snapshot.{registersIn, recordWith, entries, heldPlaces, heldOffsets, held, coreOf}
-use Rattle.lent.specs.Lent.{recordAt, loaded}
+use Rattle.rikzord.specs.Lent.{recordAt, loaded}
 
 -- ---- one stack of four
 

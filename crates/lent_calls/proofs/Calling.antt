@@ -51,7 +51,7 @@ use Rattle.machine.proofs.Calling.{Lendable, Counted, step-counted, run-counted
 use Rattle.snapshot.specs.declared.Core.{Core}
 use Rattle.snapshot.specs.declared.After.{After}
 use Rattle.snapshot.specs.Snapshot.{registersIn, noCore, counted, entries, heldPlaces, heldOffsets, held, coreOf, recordAfter, acceptedOf, TableLeft, onTable, stepTable, runTable, takenTable, freshTable, withRegisters, registersAfter, stepRegisters}
-use Rattle.lent.specs.Lent.{recordAt, loaded, stored, Lent, lent, written, stepLent, runLent, takenLent, freshLent}
+use Rattle.rikzord.specs.Lent.{recordAt, loaded, stored, Lent, lent, written, stepLent, runLent, takenLent, freshLent}
 use Rattle.lent_calls.specs.Calling.{LentCall, over, restoredLent, leavesLent, lentCalls, wholeLent, countsLent, lentStepsOf, LentInterleaved, LentFair, lentRegisters, leavesRegisters, RegistersLeave, MixedCall, by-value, with-registers, asCall, mixedCalls, MixedInterleaved, Same, SameCalls, no-call, one-call, RunLentListed}
 use Rattle.snapshot.proofs.Laws.{on-accepted, short-refused}
 use Rattle.lent_calls.proofs.Unchanged.{refused-lent, fresh-refused, fresh-short-refused}

@@ -11,7 +11,7 @@ use Rattle.runner.specs.Runs.{Left}
 use Rattle.machine.proofs.Profiles.{small-fresh}
 use Rattle.snapshot.specs.declared.Core.{Core}
 use Rattle.snapshot.specs.Snapshot.{madeOn, freshTableFor, freshTable}
-use Rattle.lent.specs.Lent.{loaded, written, freshLent, freshLentFor}
+use Rattle.rikzord.specs.Lent.{loaded, written, freshLent, freshLentFor}
 use Rattle.lent_calls.specs.Calling.{LentCall, lentCalls, lentStepsOf}
 use Rattle.lent_calls.specs.Profiles.{SmallLent}
 

@@ -24,7 +24,7 @@ use Rattle.rerun.specs.Calls.{rerunRefusal, rerunCall}
 use Rattle.snapshot.specs.declared.Core.{Core}
 use Rattle.snapshot.specs.declared.After.{After}
 use Rattle.snapshot.specs.Snapshot.{counted, held, refusedOf, onTable, stepTable, runTable, takenAfter, takenTable, freshTable, rerunTable, answered, withRegisters, registersAfter, stepRegisters}
-use Rattle.lent.specs.Lent.{loaded, saved, lent, written, stepLent, runLent, takenLent, freshLent, rerunLent, nextLent}
+use Rattle.rikzord.specs.Lent.{loaded, saved, lent, written, stepLent, runLent, takenLent, freshLent, rerunLent, nextLent}
 use Rattle.snapshot.proofs.Laws.{on-refused, short-refused}
 
 -- ---- a table after a refused call

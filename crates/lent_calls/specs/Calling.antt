@@ -26,7 +26,7 @@ use Rattle.machine.specs.Interleaving.{MachineInterleaved}
 use Rattle.machine.specs.Fair.{MachineFair}
 use Rattle.snapshot.specs.declared.Core.{Core}
 use Rattle.snapshot.specs.Snapshot.{held, registersAfter, stepRegisters}
-use Rattle.lent.specs.Lent.{loaded, Lent, lent, stepLent, runLent, takenLent, freshLent}
+use Rattle.rikzord.specs.Lent.{loaded, Lent, lent, stepLent, runLent, takenLent, freshLent}
 
 -- ---- a call, and what it leaves
 

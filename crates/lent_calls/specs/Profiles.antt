@@ -8,7 +8,7 @@ use lib.ListN.{take}
 use Rattle.code.specs.declared.Profile.the-variants.{Small}
 use Rattle.semaphore.specs.declared.Semaphore.{Semaphore}
 use Rattle.snapshot.specs.declared.Core.{Core}
-use Rattle.lent.specs.Lent.{freshLent, freshLentFor}
+use Rattle.rikzord.specs.Lent.{freshLent, freshLentFor}
 use Rattle.lent_calls.specs.Calling.{LentCall, lentCalls, lentStepsOf}
 
 -- with the table ys, the semaphore p and the memories d and sh lent to the call for the fresh state

@@ -1,7 +1,7 @@
 -- Calls one after another on one file and one trace, each with the state and the memories that the one before left, refused ones too; and what
 -- they are as steps of the machine of crate protocol. In order: a call and what it leaves; lists of calls; the steps that they count as; the claims.
 -- `run-is-steps` of proofs/Calling proves `RunIsSteps` of every run that is not refused; `calls-interleaved` proves `CallsInterleaved`, which is
--- demand 3 of every list of calls. Not here: what each call is for every input (specs/Calls); calls on a lent core table (crate lent).
+-- demand 3 of every list of calls. Not here: what each call is for every input (specs/Calls); calls on a lent core table (crate rikzord).
 use mathlib.Core.Path.{_≡_}
 use mathlib.Core.List.{List, [], _∷_, _++_, map}
 use Prim.Native.Nat.{ℕ, _+_}

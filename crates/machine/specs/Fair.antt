@@ -1,7 +1,7 @@
 -- Document 02, 2.4, of the real machine: "a core that has joined sees at most n - 1 exchanges of others end before it is first and the semaphore is free."
 -- `fair-machine` of proofs/Fair proves `MachineFair` of every file, every trace and every list of steps, core numbers of any size and idle steps included, from
 -- the fresh state; `calls-fair` proves `CallsFair`, which is the same of every list of calls. Not here: `Fair`, which has each word of the claim in formulas,
--- and that its bound is attained (crate protocol, specs/Fair); calls on a lent core table (crate lent).
+-- and that its bound is attained (crate protocol, specs/Fair); calls on a lent core table (crate rikzord).
 use mathlib.Core.Path.{_≡_}
 use mathlib.Core.List.{List}
 use Prim.Native.Nat.{ℕ}

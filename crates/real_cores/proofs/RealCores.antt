@@ -20,7 +20,7 @@ use Rattle.machine.specs.Calls.{freshRefusal, freshCall}
 use Rattle.machine.specs.Calling.{Call, stepsOf}
 use Rattle.machine.proofs.Calling.{calls-interleaved}
 use Rattle.snapshot.specs.declared.Core.{Core}
-use Rattle.lent.specs.Lent.{freshLent}
+use Rattle.rikzord.specs.Lent.{freshLent}
 use Rattle.lent_calls.specs.Calling.{LentCall, lentStepsOf}
 use Rattle.lent_calls.proofs.Calling.{lent-interleaved}
 use Rattle.real_cores.specs.RealCores.{MachineRaceFree, StepsCommute, StepsAlike, CallsRaceFree, CallsAlike, LentRaceFree, LentAlike}

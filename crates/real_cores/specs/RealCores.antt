@@ -12,7 +12,7 @@ use Rattle.states.specs.Task.{taskOf}
 use Rattle.machine.specs.Calls.{freshCall}
 use Rattle.machine.specs.Calling.{Call, calls, stepsOf, wholeOf}
 use Rattle.snapshot.specs.declared.Core.{Core}
-use Rattle.lent.specs.Lent.{freshLent}
+use Rattle.rikzord.specs.Lent.{freshLent}
 use Rattle.lent_calls.specs.Calling.{LentCall, lentCalls, lentStepsOf, wholeLent}
 
 -- ---- steps of the cores of the file f on the trace t, from the fresh state

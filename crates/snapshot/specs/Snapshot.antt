@@ -1,7 +1,7 @@
 -- The machine's calls on a snapshot of the core table: its count and its first four records, copied out. Each call is the one by value (crate
 -- machine, specs/Calls) on the state that the table holds; of a call that isn't refused the records become those of the state it leaves.
 -- In order: a table as a state, and back; what a call leaves; the calls; the next core to move; the registers of one core. Not here: the lent
--- table that is copied out and written back (crate lent).
+-- table that is copied out and written back (crate rikzord).
 use Prim.Native.Nat.{ℕ, _+_, _*_}
 use mathlib.Core.Bool.{Bool}
 use mathlib.Core.List.{List, [], _∷_}

@@ -1,4 +1,4 @@
-// The machine's calls on a snapshot of the core table: its first four records copied out, by value. The calls on a lent table (crate lent) copy it out,
+// The machine's calls on a snapshot of the core table: its first four records copied out, by value. The calls on a lent table (crate rikzord) copy it out,
 // call these, and store what they leave.
 use code::Profile;
 use protocol::Registers;
