@@ -126,6 +126,10 @@ judgeCode c = judgeCodeFor Full c
 abbrev pub Marked : List ℕ → List ℕ → Type 0
 Marked c marks = (t : ℕ) → eqb (byte marks t) 1 ≡ isStart c t
 
+-- a map with no mark
+abbrev pub Cleared : List ℕ → Type 0
+Cleared marks = (length marks ≡ 8192) × ((t : ℕ) → getD marks t 0 ≡ 0)
+
 -- what asking for a start at place t does to a map: a place that is no start may become one that is asked for
 pub record Asked (m : List ℕ) (t : ℕ) (outside : Bool) (n : List ℕ) : Type 0 where
   pub size : length n ≡ length m

@@ -10,7 +10,7 @@ ghost use Rattle.values.specs.Types.{takes};
 ghost use Rattle.code.specs.Commands.{three, lengthOf, Lengths};
 ghost use Rattle.code.specs.Instructions.{instructionAt, instructionLength, typedAt};
 ghost use Rattle.code.specs.Profiles.{wide, carries};
-ghost use Rattle.code.specs.Code.{isWidth, elementOk, convertible, packable, operandsOk, instructionOk, acceptedLength, Sized, isStart, judgeCode, judgeCodeFor, Marked, Asked, TargetAsked, Pass, AllMet};
+ghost use Rattle.code.specs.Code.{isWidth, elementOk, convertible, packable, operandsOk, instructionOk, acceptedLength, Sized, isStart, judgeCode, judgeCodeFor, Marked, Asked, TargetAsked, Cleared, Pass, AllMet};
 
 // "Each of the 256 code bytes has its instruction length in one table, 0 where unknown; MCD adds n."
 pub const LENGTHS: [u8; 256] = [
@@ -695,17 +695,15 @@ fn is_carried(profile: Profile, code: &[u8], p: usize) -> bool
 
 // ---- a core's code, judged
 
-// What one pass over the instructions finds: the refusal, the last code byte, whether a T lies outside the map, and the map: 1 where an instruction
-// starts, 2 where a T asks for one that was not met.
+// What one pass over the instructions finds: the refusal, the last code byte, and whether a T lies outside the map.
 pub struct Laid {
     pub refusal: u8,
     pub last: u8,
     pub outside: bool,
-    pub marks: [u8; 8192],
 }
 
 fn cleared() -> [u8; 8192]
-    ensures { λ r. ⌜ (length r ≡ 8192) × ((t : ℕ) → getD r t 0 ≡ 0) ⌝ }
+    ensures { λ r. ⌜ Cleared r ⌝ }
 {
     [0u8; 8192]
 }
@@ -740,11 +738,12 @@ fn ask_target(code: &[u8], p: usize, marks: &mut [u8]) -> bool
     }
 }
 
-fn lay(profile: Profile, code: &[u8]) -> Laid
-    requires { ⌜ length (now code) ≤ 8192 ⌝ }
-    ensures { λ r. ⌜ Pass profile (now (code .entry)) (r .refusal) (r .last) (r .outside) (r .marks) ⌝ }
+// The pass, and its map: 1 where an instruction starts, 2 where a T asks for one that was not met. The map is lent, since a structure that holds it would
+// be copied.
+fn lay(profile: Profile, code: &[u8], marks: &mut [u8]) -> Laid
+    requires { ⌜ (length (now code) ≤ 8192) × Cleared (now marks) ⌝ }
+    ensures { λ r. ⌜ Pass profile (now (code .entry)) (r .refusal) (r .last) (r .outside) (now (marks .exit)) ⌝ }
 {
-    let mut marks = cleared();
     let mut last: u8 = 0;
     let mut outside = false;
     let mut p: usize = 0;
@@ -755,10 +754,9 @@ fn lay(profile: Profile, code: &[u8]) -> Laid
                 refusal: 6,
                 last,
                 outside,
-                marks,
             };
         }
-        if ask_target(code, p, &mut marks) {
+        if ask_target(code, p, marks) {
             outside = true;
         }
         // Behind the target: the compiler joins the two matches on the code byte that come before, and no test stands between them.
@@ -767,7 +765,6 @@ fn lay(profile: Profile, code: &[u8]) -> Laid
                 refusal: 27,
                 last,
                 outside,
-                marks,
             };
         }
         marks[p] = 1;
@@ -778,7 +775,6 @@ fn lay(profile: Profile, code: &[u8]) -> Laid
         refusal: 0,
         last,
         outside,
-        marks,
     }
 }
 
@@ -823,12 +819,12 @@ pub fn judge_code_for(profile: Profile, code: &[u8]) -> u8
     requires { ⌜ length (now code) ≤ 8192 ⌝ }
     ensures { λ r. ⌜ r ≡ judgeCodeFor profile (now (code .entry)) ⌝ }
 {
-    let m = lay(profile, code);
+    let mut marks = cleared();
+    let m = lay(profile, code, &mut marks);
     let r = first_refusal(m.refusal, outside_refusal(m.outside));
     if r != 0 {
         return r;
     }
-    let marks = m.marks;
     if !all_met(&marks) {
         return 7;
     }
@@ -851,8 +847,9 @@ pub fn starts(code: &[u8]) -> [u8; 8192]
     requires { ⌜ (length (now code) ≤ 8192) × (judgeCode (now code) ≡ 0) ⌝ }
     ensures { λ r. ⌜ (length r ≡ 8192) × Marked (now (code .entry)) r ⌝ }
 {
-    let m = lay(Profile::Full, code);
-    m.marks
+    let mut marks = cleared();
+    lay(Profile::Full, code, &mut marks);
+    marks
 }
 
 // Whether an instruction starts at `place`, of any code.
