@@ -327,8 +327,9 @@ pub enum Profile {
     Small,
 }
 
-// ---- decoding
+// ---- instructions
 
+// An instruction as the definitions have it (`instructionAt`). Judging and stepping read their operands where they stand, and make none.
 pub enum Instruction {
     Return,
     // T
@@ -367,86 +368,6 @@ fn inside(low: u8, high: u8, x: u8) -> bool
         return false;
     }
     x <= high
-}
-
-// A typed command with three addresses.
-fn has_three(code: u8) -> bool
-    ensures { λ r. ⌜ r ≡ three code ⌝ }
-{
-    if inside(16, 20, code) {
-        return true;
-    }
-    if inside(24, 26, code) {
-        return true;
-    }
-    inside(28, 37, code)
-}
-
-// The typed command at place p, if one stands there.
-fn typed(file: &[u8], p: usize) -> Instruction
-    requires { ⌜ (p < length (now file)) × (p + lengthOf (byte (now file) p) ≤ length (now file)) ⌝ }
-    ensures { λ r. ⌜ r ≡ typedAt (now (file .entry)) p Instruction.Unknown ⌝ }
-{
-    let code = file[p];
-    if has_three(code) {
-        return Instruction::Typed(
-            code,
-            file[p + 1],
-            word(file, p + 2),
-            word(file, p + 4),
-            word(file, p + 6),
-        );
-    }
-    if code == 27 {
-        let t = file[p + 1];
-        let to = word(file, p + 2);
-        let a = word(file, p + 4);
-        return Instruction::Typed(code, t, to, a, a);
-    }
-    Instruction::Unknown
-}
-
-// The instruction at place p of a file, which is whole there.
-pub fn decode(file: &[u8], p: usize) -> Instruction
-    requires { ⌜ (p < length (now file)) × (p + lengthOf (byte (now file) p) ≤ length (now file)) ⌝ }
-    ensures { λ r. ⌜ r ≡ instructionAt (now (file .entry)) p ⌝ }
-{
-    let code = file[p];
-    match code {
-        0 => Instruction::Return,
-        1 => Instruction::Jump(word(file, p + 1)),
-        2 => Instruction::JumpZero(word(file, p + 1), word(file, p + 3)),
-        3 => Instruction::JumpNotZero(word(file, p + 1), word(file, p + 3)),
-        4 => Instruction::CallInstance(word(file, p + 1), word(file, p + 3)),
-        5 => Instruction::CallFunction(word(file, p + 1)),
-        6 => Instruction::MoveConstant(word(file, p + 1), file[p + 3]),
-        7 => Instruction::CopyMemory(word(file, p + 1), word(file, p + 3), word(file, p + 5)),
-        8 => Instruction::ReadElement(
-            word(file, p + 1),
-            word(file, p + 3),
-            word(file, p + 5),
-            file[p + 7],
-            word(file, p + 8),
-        ),
-        9 => Instruction::WriteElement(
-            word(file, p + 1),
-            word(file, p + 3),
-            word(file, p + 5),
-            file[p + 7],
-            word(file, p + 8),
-        ),
-        41 => Instruction::CycleTime(word(file, p + 1)),
-        42 => Instruction::FlagByte(word(file, p + 1)),
-        43 => Instruction::Convert(
-            file[p + 1],
-            file[p + 2],
-            word(file, p + 3),
-            word(file, p + 5),
-        ),
-        44 => Instruction::Pack(file[p + 1], word(file, p + 2), word(file, p + 4)),
-        45 => Instruction::Unpack(file[p + 1], word(file, p + 2), word(file, p + 4)),
-        _ => typed(file, p),
-    }
 }
 
 // ---- one instruction, judged
@@ -627,7 +548,7 @@ fn packed_length(code: &[u8], p: usize) -> usize
 }
 
 // By the code byte; what is none of the others is a typed command with three addresses, or unknown.
-pub fn accepted_length(code: &[u8], p: usize) -> usize
+fn accepted_length(code: &[u8], p: usize) -> usize
     requires { ⌜ p < length (now code) ⌝ }
     ensures { λ r. ⌜ r ≡ acceptedLength (now (code .entry)) p ⌝ }
 {
@@ -832,14 +753,6 @@ pub fn judge_code_for(profile: Profile, code: &[u8]) -> u8
         return 7;
     }
     0
-}
-
-// Under the full profile.
-pub fn judge_code(code: &[u8]) -> u8
-    requires { ⌜ length (now code) ≤ 8192 ⌝ }
-    ensures { λ r. ⌜ r ≡ judgeCode (now (code .entry)) ⌝ }
-{
-    judge_code_for(Profile::Full, code)
 }
 
 // The map of the instruction starts of accepted code: 1 exactly where one starts.

@@ -14,11 +14,6 @@ ghost use Rattle.taskset.specs.Task.{variablesOf};
 ghost use Rattle.cycles.specs.Check.{linesOf, linesRefusal, linesByte};
 ghost use Rattle.cycles.specs.Rings.{closed};
 
-// A variable's record has 12 bytes, a core's 6.
-const RECORD: usize = 12;
-
-const CORE_RECORD: usize = 6;
-
 // ---- lines between two cores
 
 // Whether core r reads the variable of a record and core w writes it.
@@ -37,11 +32,11 @@ fn reads_from(file: &[u8], r: usize, w: usize) -> bool
     requires { ⌜ (judge (now file) ≡ 0) × (r < 4) × (w < 4) ⌝ }
     ensures { λ x. ⌜ x ≡ readsFrom (variablesOf (now (file .entry))) r w ⌝ }
 {
-    let at = 5 + CORE_RECORD * (memory::byte_at(file, 4) as usize);
+    let at = 5 + records::CORE_RECORD * (memory::byte_at(file, 4) as usize);
     let n = memory::byte_at(file, at) as usize;
     let mut i: usize = 0;
     while i < n {
-        if passes(file, at + 1 + RECORD * i, r, w) {
+        if passes(file, at + 1 + records::VARIABLE_RECORD * i, r, w) {
             return true;
         }
         i += 1;

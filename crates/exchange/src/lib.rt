@@ -21,9 +21,6 @@ pub struct Cursor {
     pub byte: usize,
 }
 
-// A record has 12 bytes: shared place (16 bits), width, attribute byte, four local places (16 bits).
-const RECORD: usize = 12;
-
 const WIDTH: usize = 2;
 
 const ATTRIBUTE: usize = 3;
@@ -50,7 +47,7 @@ fn seek(file: &[u8], from: usize, end: usize, bit: usize) -> usize
         if named(file, place, bit) {
             return place;
         }
-        place += RECORD;
+        place += records::VARIABLE_RECORD;
     }
     place
 }
@@ -82,7 +79,7 @@ pub fn onward(file: &[u8], end: usize, bit: usize, x: u16, cursor: Cursor) -> Cu
             byte: byte,
         };
     }
-    let next = seek(file, place + RECORD, end, bit);
+    let next = seek(file, place + records::VARIABLE_RECORD, end, bit);
     Cursor {
         record: next,
         byte: 0,
@@ -115,7 +112,7 @@ pub fn bytes(file: &[u8], first: usize, end: usize, bit: usize) -> usize
         if named(file, place, bit) {
             total += file[place + WIDTH] as usize;
         }
-        place += RECORD;
+        place += records::VARIABLE_RECORD;
     }
     total
 }
@@ -168,7 +165,7 @@ pub fn bring_all(file: &[u8], first: usize, end: usize, k: usize, d: &mut [u8], 
             let to = code::word(file, place + LOCAL + 2 * k) as usize;
             memory::copy(d, to, shared, from, file[place + WIDTH] as usize);
         }
-        place += RECORD;
+        place += records::VARIABLE_RECORD;
     }
 }
 
@@ -184,6 +181,6 @@ pub fn publish_all(file: &[u8], first: usize, end: usize, k: usize, d: &[u8], sh
             let to = code::word(file, place) as usize;
             memory::copy(shared, to, d, from, file[place + WIDTH] as usize);
         }
-        place += RECORD;
+        place += records::VARIABLE_RECORD;
     }
 }

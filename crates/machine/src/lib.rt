@@ -32,9 +32,6 @@ ghost use Rattle.machine.specs.Calls.{bufferSize, lentFits, setRefusal, 
 // Bytes of shared memory.
 const SHARED: usize = 1024;
 
-// Bytes of a variable's record.
-const RECORD: usize = 12;
-
 // The flag byte of a fresh core: the cold-start bit.
 const COLD_START: u8 = 4;
 
@@ -262,7 +259,7 @@ fn run_judged(
     let places = runner::places_of(s);
     let offsets = runner::offsets_of(s);
     let first = layout.first;
-    let end = first + RECORD * layout.variables;
+    let end = first + records::VARIABLE_RECORD * layout.variables;
     let aim = aim_of(file, trace, first, end, s, buffer, shared);
     runner::run_order(
         file,

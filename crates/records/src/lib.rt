@@ -10,13 +10,19 @@ ghost use Rattle.code.specs.Profiles.{mostData};
 ghost use Rattle.records.specs.File.{cores, corePlace, variables, recordPlace, variableIn};
 ghost use Rattle.records.specs.Records.{coreOk, coreRefusal, bit, oneWriter, named, placeOk, partOk, partsOk, variableOk, variableRefusal, meets, meetsShared, meetsIn, overlap, pairRefusal, overlapRefusal};
 
+// Bytes of a core's record: data size, input size, limit (16 bits each).
+pub const CORE_RECORD: usize = 6;
+
+// Bytes of a variable's record: shared place (16 bits), width, attribute byte, four local places (16 bits each).
+pub const VARIABLE_RECORD: usize = 12;
+
 // ---- a variable's record at place p, read by plain indices
 
 // Where the record of variable i stands.
 pub fn record_place(f: &[u8], i: u8) -> usize
     ensures { λ r. ⌜ (r ≡ recordPlace (now (f .entry)) i) × (r < 8192) ⌝ }
 {
-    5 + 6 * memory::byte_at(f, 4) as usize + 1 + 12 * i as usize
+    5 + CORE_RECORD * memory::byte_at(f, 4) as usize + 1 + VARIABLE_RECORD * i as usize
 }
 
 pub fn shared_place(f: &[u8], p: usize) -> u16
@@ -81,7 +87,7 @@ fn core_ok(profile: Profile, f: &[u8], k: usize) -> bool
     requires { ⌜ k < 4 ⌝ }
     ensures { λ r. ⌜ r ≡ coreOk profile (now (f .entry)) k ⌝ }
 {
-    let p = 5 + 6 * k;
+    let p = 5 + CORE_RECORD * k;
     let size = memory::word_at(f, p);
     if size < 1 {
         return false;
@@ -99,7 +105,7 @@ fn core_refusal(profile: Profile, f: &[u8], k: usize) -> u8
     requires { ⌜ k < 4 ⌝ }
     ensures { λ r. ⌜ r ≡ coreRefusal profile (now (f .entry)) k ⌝ }
 {
-    if f.len() < 5 + 6 * k + 6 {
+    if f.len() < 5 + CORE_RECORD * k + CORE_RECORD {
         return 1;
     }
     if core_ok(profile, f, k) {
@@ -141,7 +147,7 @@ fn place_ok(f: &[u8], p: usize, k: usize) -> bool
     if memory::byte_at(f, 4) as usize <= k {
         return false;
     }
-    let q = 5 + 6 * k;
+    let q = 5 + CORE_RECORD * k;
     let place = local_place(f, p, k) as usize;
     if place < memory::word_at(f, q + 2) {
         return false;

@@ -27,9 +27,6 @@ ghost use Rattle.machine.specs.Calls.{lentFits, answerOf, tableOf};
 ghost use Rattle.rerun.specs.Calls.{rerunCall};
 ghost use Rattle.rerun.specs.Rerunning.{namedCore, dueBy, broughtTo, Reading, Reads, Reran};
 
-// Bytes of a variable's record, of the largest data buffer, and of shared memory.
-const RECORD: usize = 12;
-
 const LARGEST: usize = 16384;
 
 const SHARED: usize = 1024;
@@ -180,7 +177,7 @@ fn rerun_in(
     let mut offsets = runner::offsets_of(s);
     let n = layout.cores;
     let first = layout.first;
-    let end = first + RECORD * layout.variables;
+    let end = first + records::VARIABLE_RECORD * layout.variables;
     let mut i = 0;
     while i < list.len() {
         let b = list[i] as usize;

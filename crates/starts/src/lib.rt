@@ -13,9 +13,6 @@ ghost use Rattle.taskset.specs.Layout.{coreLayout, layoutOf};
 ghost use Rattle.taskset.specs.Task.{sizesOf, variablesOf};
 ghost use Rattle.taskset.specs.Starts.{withPairs, startData, writerOf, withWritten, startShared, startBuffer};
 
-// Bytes of a variable's record.
-const RECORD: usize = 12;
-
 // ---- a core's data
 
 // Writes n start values, which stand from place q of the file on, into the data of their core.
@@ -93,7 +90,7 @@ fn publish(f: &[u8], layout: Layout, buffer: &[u8], shared: &mut [u8])
         let from = base_of(f, layout, w) + records::local_place(f, p, w) as usize;
         let to = records::shared_place(f, p) as usize;
         memory::copy(shared, to, buffer, from, records::width(f, p) as usize);
-        p += RECORD;
+        p += records::VARIABLE_RECORD;
         i += 1;
     }
 }

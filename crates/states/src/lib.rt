@@ -42,8 +42,6 @@ pub struct CoreTask {
     pub count: usize, // of its input records
 }
 
-const RECORD: usize = 12; // bytes of a variable's record
-
 fn no_task() -> CoreTask
     ensures { λ r. ⌜ r ≡ noTask ⌝ }
 {
@@ -74,7 +72,7 @@ pub fn core_task(
 {
     let core = layout.core[k];
     let first = layout.first;
-    let end = first + RECORD * layout.variables;
+    let end = first + records::VARIABLE_RECORD * layout.variables;
     CoreTask {
         base: core.base,
         size: core.size,

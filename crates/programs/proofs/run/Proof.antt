@@ -29,8 +29,8 @@ text-requires-2 c κs = search needs
 returns : tie.Need-returns
 returns c = search needs
 
-judge-code-requires : tie.Need-judge-code-requires
-judge-code-requires c κs = search needs
+judge-code-for-requires : tie.Need-judge-code-for-requires
+judge-code-for-requires c κs = search needs
 
 slice-aggregate-text-2 : tie.Need-slice-aggregate-text-2
 slice-aggregate-text-2 c = search needs
@@ -82,7 +82,7 @@ run-spec =
     slice-aggregate-text
     text-requires-2
     returns
-    judge-code-requires
+    judge-code-for-requires
     slice-aggregate-text-2
     text-requires-3
     cast-number
