@@ -18,8 +18,8 @@ use Rattle.taskset.proofs.Exact.{keeps-rules}
 use Rattle.taskset.specs.Trace.{traceRefusal}
 use Rattle.states.specs.Task.{taskOf}
 use Rattle.machine.specs.Calls.{freshRefusal, freshCall}
-use Rattle.machine.specs.Calling.{Call, stepsOf}
-use Rattle.machine.proofs.Calling.{calls-interleaved}
+use Rattle.calls.specs.Calling.{Call, stepsOf}
+use Rattle.calls.proofs.Calling.{calls-interleaved}
 use Rattle.bounds.specs.declared.Taken.{Taken}
 use Rattle.bounds.specs.Paths.{Greatest}
 use Rattle.bounds.specs.Bounds.{longest, deepest, allRise, boundsRefusal, coresRefusal, takesRefusal, countOf, depthOf, takesIn, takesOf}

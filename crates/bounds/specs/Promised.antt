@@ -14,7 +14,7 @@ use Rattle.taskset.specs.Judge.{codeOf}
 use Rattle.taskset.specs.Fresh.{freshOf}
 use Rattle.states.specs.Task.{taskOf}
 use Rattle.machine.specs.Calls.{freshCall}
-use Rattle.machine.specs.Calling.{Call, calls, stepsOf, wholeOf}
+use Rattle.calls.specs.Calling.{Call, calls, stepsOf, wholeOf}
 use Rattle.bounds.specs.Paths.{Greatest}
 use Rattle.bounds.specs.Bounds.{takesOf}
 

@@ -12,7 +12,7 @@ use Rattle.states.specs.Fit.{stateRefusal, Fit}
 use Rattle.states.proofs.Fresh.{fresh-fit}
 use Rattle.states.proofs.Exactly.{not-refused}
 use Rattle.machine.specs.Calls.{tableOf}
-use Rattle.machine.proofs.Calling.{fresh-state}
+use Rattle.calls.proofs.Calling.{fresh-state}
 
 -- ---- zeros
 

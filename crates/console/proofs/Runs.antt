@@ -33,7 +33,7 @@ use Rattle.runner.specs.Runs.{Left, left, ranCall}
 use Rattle.machine.specs.Calls.{bufferSize, lentFits, callRefusal, answerOf, tableOf, freshRefusal, freshCall, runRefusal, runCall}
 use Rattle.machine.proofs.Calls.{fresh-none}
 use Rattle.listing.specs.Listing.{listing, refusedText, longText}
-use Rattle.machine.proofs.Calling.{fresh-state}
+use Rattle.calls.proofs.Calling.{fresh-state}
 use Rattle.listing.specs.declared.Written.{Written}
 use Rattle.listing.specs.Writers.{textLeft, textCall}
 use Rattle.console.specs.Console.{tooLong, refusalOf, stateAfter, takingsOf, runText, coresText}

@@ -27,8 +27,8 @@ use Rattle.states.specs.Fit.{Fit}
 use Rattle.states.proofs.Accepted.{accepted-set}
 use Rattle.runner.specs.Runs.{Left}
 use Rattle.machine.specs.Calls.{freshRefusal, freshCall}
-use Rattle.machine.specs.Calling.{entire, Call, stepping, leaves, stepCalls, wholeOf, countsAs, stepsOf}
-use Rattle.machine.proofs.Calling.{Lendable, step-granted, step-counted, fresh-whole, fresh-lendable, calls-interleaved}
+use Rattle.calls.specs.Calling.{entire, Call, stepping, leaves, stepCalls, wholeOf, countsAs, stepsOf}
+use Rattle.calls.proofs.Calling.{Lendable, step-granted, step-counted, fresh-whole, fresh-lendable, calls-interleaved}
 use Rattle.cycles.specs.Serial.{Ringless, MachineSerial, inTurn, StepByStep, CallsSerial}
 use Rattle.cycles.proofs.Turns.{turns, turns-end}
 

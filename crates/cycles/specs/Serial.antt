@@ -15,7 +15,7 @@ use Rattle.taskset.specs.Task.{variablesOf}
 use Rattle.taskset.specs.Fresh.{freshOf}
 use Rattle.states.specs.Task.{taskOf}
 use Rattle.machine.specs.Calls.{freshCall}
-use Rattle.machine.specs.Calling.{Call, calls, stepCalls, stepsOf, wholeOf}
+use Rattle.calls.specs.Calling.{Call, calls, stepCalls, stepsOf, wholeOf}
 
 -- ---- of steps
 

@@ -31,7 +31,7 @@ use Rattle.states.specs.Fit.{entry, executionFit, exchangesFit, freedFit, coreF
 use Rattle.states.specs.Preparing.{heldRefusal}
 use Rattle.runner.specs.Runs.{allBelow, Left, left, ranCall}
 use Rattle.machine.specs.Calls.{lentFits, callRefusal, answerOf, tableOf, freshRefusal, freshCall, runRefusal, runCall, stepRefusal, stepCall}
-use Rattle.machine.specs.Calling.{lentOf, Call, stepping, running, restored, leaves, calls, stepsIn, stepsOf}
+use Rattle.calls.specs.Calling.{lentOf, Call, stepping, running, restored, leaves, calls, stepsIn, stepsOf}
 use Rattle.forms.specs.Forms.{toNew, toOld}
 use Rattle.forms.specs.BothWays.{Same, NoStarts, BecomesNew}
 use Rattle.forms.specs.Alike.{RunsAlike}

@@ -4,7 +4,7 @@ use mathlib.Core.Path.{_≡_}
 use mathlib.Core.List.{List}
 use Prim.Native.Nat.{ℕ}
 use Rattle.machine.specs.Calls.{freshCall}
-use Rattle.machine.specs.Calling.{Call, calls, stepsOf}
+use Rattle.calls.specs.Calling.{Call, calls, stepsOf}
 
 -- on the trace t, with the memories d and sh lent to the call for the fresh state, whatever their sizes
 pub record RunsAlike (f g t d sh : List ℕ) (cs : List Call) : Type 0 where

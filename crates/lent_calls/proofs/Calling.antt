@@ -43,11 +43,11 @@ use Rattle.runner.specs.Runs.{Left, left, allBelow, ranCall}
 use Rattle.runner.proofs.Running.{shared-in}
 use Rattle.runner.proofs.End.{data-back}
 use Rattle.machine.specs.Calls.{lentFits, callRefusal, answerOf, tableOf, freshRefusal, freshCall, runRefusal, runCall, stepRefusal, stepCall}
-use Rattle.machine.specs.Calling.{Lending, entire, front, lentOf, replaced, Call, stepping, running, restored, leaves, calls, wholeOf, stepsIn}
-use Rattle.machine.proofs.Interleaving.{interleaved-machine}
-use Rattle.machine.proofs.Fair.{fair-machine}
+use Rattle.calls.specs.Calling.{Lending, entire, front, lentOf, replaced, Call, stepping, running, restored, leaves, calls, wholeOf, stepsIn}
+use Rattle.calls.proofs.Interleaving.{interleaved-machine}
+use Rattle.calls.proofs.Fair.{fair-machine}
 use Rattle.machine.proofs.Calls.{granted}
-use Rattle.machine.proofs.Calling.{Lendable, Counted, step-counted, run-counted, call-counted, fresh-state, calls-interleaved}
+use Rattle.calls.proofs.Calling.{Lendable, Counted, step-counted, run-counted, call-counted, fresh-state, calls-interleaved}
 use Rattle.snapshot.specs.declared.Core.{Core}
 use Rattle.snapshot.specs.declared.After.{After}
 use Rattle.snapshot.specs.Snapshot.{registersIn, noCore, counted, entries, heldPlaces, heldOffsets, held, coreOf, recordAfter, acceptedOf, TableLeft, onTable, stepTable, runTable, takenTable, freshTable, withRegisters, registersAfter, stepRegisters}

@@ -8,7 +8,7 @@ use Rattle.taskset.specs.Judge.{judgeFor}
 use Rattle.taskset.proofs.Narrowed.{small-is-full}
 use Rattle.semaphore.specs.declared.Semaphore.{Semaphore}
 use Rattle.runner.specs.Runs.{Left}
-use Rattle.machine.proofs.Profiles.{small-fresh}
+use Rattle.calls.proofs.Profiles.{small-fresh}
 use Rattle.snapshot.specs.declared.Core.{Core}
 use Rattle.snapshot.specs.Snapshot.{madeOn, freshTableFor, freshTable}
 use Rattle.rikzord.specs.Lent.{loaded, written, freshLent, freshLentFor}

@@ -1,5 +1,5 @@
 -- Calls on a lent core table one after another, each with the table, the semaphore and the memories that the one before left, refused ones
--- too; and step calls that are lent the registers of their core. They are the calls of crate machine (specs/Calling), made over the C interface.
+-- too; and step calls that are lent the registers of their core. They are those of crate calls (specs/Calling), made over the C interface.
 -- In order: a call and what it leaves; lists of calls; the steps that they count as; the claim; steps with lent registers; the same list by value; a run's takings.
 -- `lent-interleaved` of proofs/Calling proves `LentInterleaved`, which is demand 3 of every list of lent calls; `lent-fair` proves `LentFair`, the fair line of
 -- document 02, 2.4 of it; `mixed-interleaved` proves
@@ -20,10 +20,10 @@ use Rattle.semaphore.specs.declared.Semaphore.{Semaphore}
 use Rattle.states.specs.Task.{taskOf}
 use Rattle.states.specs.Machine.{none, stateOf}
 use Rattle.runner.specs.Runs.{Left}
-use Rattle.machine.specs.Calling.{Lending, lentOf, replaced, Call, stepping, running, restored, leaves, calls, wholeOf, stepsIn, CallsInterleaved}
+use Rattle.calls.specs.Calling.{Lending, lentOf, replaced, Call, stepping, running, restored, leaves, calls, wholeOf, stepsIn, CallsInterleaved}
 use Rattle.machine.specs.Calls.{freshCall}
-use Rattle.machine.specs.Interleaving.{MachineInterleaved}
-use Rattle.machine.specs.Fair.{MachineFair}
+use Rattle.calls.specs.Interleaving.{MachineInterleaved}
+use Rattle.calls.specs.Fair.{MachineFair}
 use Rattle.snapshot.specs.declared.Core.{Core}
 use Rattle.snapshot.specs.Snapshot.{held, registersAfter, stepRegisters}
 use Rattle.rikzord.specs.Lent.{loaded, Lent, lent, stepLent, runLent, takenLent, freshLent}

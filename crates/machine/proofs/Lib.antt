@@ -1,12 +1,5 @@
-pub mod Interleaving
 pub mod Calls
 pub mod Aims
 pub mod Judged
 pub mod Steps
 pub mod Nexts
-pub mod Back
-pub mod Calling
-pub mod Fair
-pub mod Blank
-pub mod Profiles
-pub mod Starts

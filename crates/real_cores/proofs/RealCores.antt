@@ -17,8 +17,8 @@ use Rattle.semaphore.specs.declared.Semaphore.{Semaphore}
 use Rattle.states.specs.Task.{taskOf}
 use Rattle.states.specs.Fit.{Fit}
 use Rattle.machine.specs.Calls.{freshRefusal, freshCall}
-use Rattle.machine.specs.Calling.{Call, stepsOf}
-use Rattle.machine.proofs.Calling.{calls-interleaved}
+use Rattle.calls.specs.Calling.{Call, stepsOf}
+use Rattle.calls.proofs.Calling.{calls-interleaved}
 use Rattle.snapshot.specs.declared.Core.{Core}
 use Rattle.rikzord.specs.Lent.{freshLent}
 use Rattle.lent_calls.specs.Calling.{LentCall, lentStepsOf}

@@ -10,7 +10,7 @@ use Rattle.taskset.specs.Fresh.{freshOf}
 use Rattle.semaphore.specs.declared.Semaphore.{Semaphore}
 use Rattle.states.specs.Task.{taskOf}
 use Rattle.machine.specs.Calls.{freshCall}
-use Rattle.machine.specs.Calling.{Call, calls, stepsOf, wholeOf}
+use Rattle.calls.specs.Calling.{Call, calls, stepsOf, wholeOf}
 use Rattle.snapshot.specs.declared.Core.{Core}
 use Rattle.rikzord.specs.Lent.{freshLent}
 use Rattle.lent_calls.specs.Calling.{LentCall, lentCalls, lentStepsOf, wholeLent}

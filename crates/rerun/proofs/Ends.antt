@@ -35,9 +35,9 @@ use Rattle.runner.proofs.Running.{shared-in}
 use Rattle.runner.proofs.End.{data-back, held-back}
 use Rattle.runner.proofs.Executing.{take-alone}
 use Rattle.machine.specs.Calls.{lentFits, answerOf, tableOf, freshRefusal, freshCall}
-use Rattle.machine.specs.Calling.{wholeOf}
+use Rattle.calls.specs.Calling.{wholeOf}
 use Rattle.machine.proofs.Calls.{fresh-none}
-use Rattle.machine.proofs.Calling.{Lendable, fresh-whole, fresh-lendable}
+use Rattle.calls.proofs.Calling.{Lendable, fresh-whole, fresh-lendable}
 use Rattle.rerun.specs.Calls.{listRefusal, rerunRefusal, reran, rerunLeft, rerunCall}
 use Rattle.rerun.specs.Rerunning.{Rerunning, Reran}
 use Rattle.rerun.proofs.Listed.{now-is, at-rest}

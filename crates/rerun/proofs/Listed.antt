@@ -41,7 +41,7 @@ use Rattle.states.proofs.Executes.{executes}
 use Rattle.states.proofs.Fresh.{fresh-fit}
 use Rattle.runner.specs.Executing.{Standing}
 use Rattle.runner.proofs.Running.{core-in, cores-in, shared-in, semaphore-in}
-use Rattle.machine.proofs.Calling.{run-fit}
+use Rattle.calls.proofs.Calling.{run-fit}
 use Rattle.rerun.specs.Rerunning.{namedCore, dueBy, Resting, Reread, Rerunning}
 use Rattle.rerun.proofs.Reading.{put-in, samples-length, record-next}
 

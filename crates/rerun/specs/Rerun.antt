@@ -15,7 +15,7 @@ use Rattle.taskset.specs.Fresh.{freshOf}
 use Rattle.states.specs.Task.{taskOf}
 use Rattle.runner.specs.Runs.{Left}
 use Rattle.machine.specs.Calls.{freshCall}
-use Rattle.machine.specs.Calling.{Call, stepping, running, leaves, calls, wholeOf, countsAs, stepsOf}
+use Rattle.calls.specs.Calling.{Call, stepping, running, leaves, calls, wholeOf, countsAs, stepsOf}
 use Rattle.rerun.specs.Calls.{rerunCall}
 
 -- ---- of steps: the order list bs of the file f on the trace t

@@ -1,6 +1,6 @@
 -- Document 02, 2.12: "A fresh state holds these in the core's data, and shared memory holds for each variable the writer's start bytes, which is what
 -- a reader sees before the first writing." In order: a core's start values; its data; shared memory; the data buffer.
--- Not here: where they stand in the file, and their refusals (`Judge`); the fresh state itself (`Fresh`); what it says of reading (crate machine).
+-- Not here: where they stand in the file, and their refusals (`Judge`); the fresh state itself (`Fresh`); what it says of reading (crate calls).
 use Prim.Native.Nat.{ℕ, zero, suc, _+_}
 use mathlib.Core.List.{List, [], _∷_}
 use lib.ListN.{set}

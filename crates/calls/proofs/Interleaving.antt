@@ -10,7 +10,7 @@ use Rattle.taskset.specs.Task.{variablesOf}
 use Rattle.taskset.specs.Fresh.{freshOf}
 use Rattle.taskset.proofs.Accepted.{variables-accepted, fresh-of}
 use Rattle.states.specs.Task.{taskOf}
-use Rattle.machine.specs.Interleaving.{MachineInterleaved}
+use Rattle.calls.specs.Interleaving.{MachineInterleaved}
 
 pub interleaved-machine : (f t : List ℕ) → judge f ≡ 0 → (ks : List ℕ) → MachineInterleaved f t ks
 unfolding taskOf

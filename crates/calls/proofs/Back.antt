@@ -30,7 +30,7 @@ use Rattle.states.specs.Machine.{none, stackIn, coreIn, stateIn, stateOf, regis
 use Rattle.states.specs.Fit.{Fit}
 use Rattle.states.proofs.Tables.{listed-same}
 use Rattle.states.proofs.Fresh.{map-at}
-use Rattle.machine.specs.Calling.{tidied}
+use Rattle.calls.specs.Calling.{tidied}
 use Rattle.runner.proofs.Loop.{part-entry}
 use Rattle.runner.proofs.Running.{core-in}
 use Rattle.runner.proofs.End.{listed-is, entry-place}

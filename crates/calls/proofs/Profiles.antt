@@ -10,10 +10,10 @@ use Rattle.taskset.specs.Judge.{judgeFor}
 use Rattle.taskset.specs.Trace.{traceRefusal}
 use Rattle.taskset.proofs.Narrowed.{small-is-full}
 use Rattle.runner.specs.Runs.{Left}
 use Rattle.machine.specs.Calls.{lentFits, freshLeft, freshRefusalFor, freshRefusal, freshCallFor, freshCall}
-use Rattle.machine.specs.Calling.{Call, calls, stepsOf, takenOf, InterleavedFrom}
-use Rattle.machine.specs.Profiles.{SmallRuns}
-use Rattle.machine.proofs.Calling.{calls-interleaved}
+use Rattle.calls.specs.Calling.{Call, calls, stepsOf, takenOf, InterleavedFrom}
+use Rattle.calls.specs.Profiles.{SmallRuns}
+use Rattle.calls.proofs.Calling.{calls-interleaved}
 
 module _ (f : List ℕ) (z : judgeFor Small f ≡ 0) where
   pub small-fresh : (d sh : List ℕ) → freshCallFor Small f d sh ≡ freshCall f d sh

@@ -40,13 +40,13 @@ use Rattle.states.proofs.Executes.{executes}
 use Rattle.states.proofs.Kept.{fit-kept}
 use Rattle.states.proofs.Fresh.{fresh-fit}
 use Rattle.runner.specs.Runs.{Left, left, allBelow, ranCall}
 use Rattle.machine.specs.Calls.{lentFits, callRefusal, answerOf, tableOf, freshRefusal, freshCall, runRefusal, runCall, stepRefusal, stepped, stepCall}
-use Rattle.machine.specs.Calling.{Lending, entire, front, lentOf, replaced, Call, stepping, running, restored, leaves, calls, stepCalls, wholeOf, countsAs, stepsOf, takenOf, Unchanged, tidied, RunIsSteps, CallsInterleaved}
+use Rattle.calls.specs.Calling.{Lending, entire, front, lentOf, replaced, Call, stepping, running, restored, leaves, calls, stepCalls, wholeOf, countsAs, stepsOf, takenOf, Unchanged, tidied, RunIsSteps, CallsInterleaved}
 use Rattle.runner.proofs.Running.{shared-in}
 use Rattle.runner.proofs.End.{listed-is, data-back}
-use Rattle.machine.proofs.Interleaving.{interleaved-machine}
+use Rattle.calls.proofs.Interleaving.{interleaved-machine}
 use Rattle.machine.proofs.Calls.{refuse-none, granted, lent-sizes}
-use Rattle.machine.proofs.Back.{line-few, state-back, sized-back, held-back, held-twice}
+use Rattle.calls.proofs.Back.{line-few, state-back, sized-back, held-back, held-twice}
 
 -- ---- one call
 

@@ -3,8 +3,8 @@
 -- Not here: what a trace of no bytes means (taskset, specs/Blank).
 use mathlib.Core.List.{List, []}
 use Prim.Native.Nat.{ℕ}
-use Rattle.machine.specs.Calling.{Call, CallsInterleaved}
-use Rattle.machine.specs.Fair.{CallsFair}
+use Rattle.calls.specs.Calling.{Call, CallsInterleaved}
+use Rattle.calls.specs.Fair.{CallsFair}
 
 pub record BlankCalls (f d sh : List ℕ) (cs : List Call) : Type 0 where
   pub interleaved : CallsInterleaved f [] d sh cs

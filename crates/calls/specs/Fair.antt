@@ -11,8 +11,8 @@ use Rattle.protocol.specs.Fair.{Fair}
 use Rattle.records.specs.File.{cores}
 use Rattle.taskset.specs.Fresh.{freshOf}
 use Rattle.states.specs.Task.{taskOf}
 use Rattle.machine.specs.Calls.{freshCall}
-use Rattle.machine.specs.Calling.{Call, calls, stepsOf, wholeOf}
+use Rattle.calls.specs.Calling.{Call, calls, stepsOf, wholeOf}
 
 -- The steps ks of the cores of the file f on the trace t
 pub record MachineFair (f t ks : List ℕ) : Type 0 where

@@ -17,8 +17,8 @@ use Rattle.states.specs.Task.{taskOf}
 use Rattle.semaphore.specs.Line.{semaphoreOf, semaphoreBack}
 use Rattle.states.specs.Machine.{stateOf}
 use Rattle.runner.specs.Runs.{Left, left}
 use Rattle.machine.specs.Calls.{answerOf, freshCall, runCall, stepCall}
-use Rattle.machine.specs.Interleaving.{MachineInterleaved}
+use Rattle.calls.specs.Interleaving.{MachineInterleaved}
 
 -- ---- a call, and what it leaves
 

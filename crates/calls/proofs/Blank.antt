@@ -5,11 +5,11 @@ use Prim.Native.Nat.{ℕ, _<_}
 use lib.Dec.{lit<}
 use lib.ListN.{length, getD}
 use Rattle.taskset.proofs.Blank.{blank-trace}
 use Rattle.machine.specs.Calls.{freshRefusal}
-use Rattle.machine.specs.Calling.{Call}
-use Rattle.machine.specs.Blank.{BlankCalls}
-use Rattle.machine.proofs.Calling.{calls-interleaved}
-use Rattle.machine.proofs.Fair.{calls-fair}
+use Rattle.calls.specs.Calling.{Call}
+use Rattle.calls.specs.Blank.{BlankCalls}
+use Rattle.calls.proofs.Calling.{calls-interleaved}
+use Rattle.calls.proofs.Fair.{calls-fair}
 
 no-bytes : (i : ℕ) → getD {A = ℕ} [] i 0 < 256
 no-bytes i = lit< tt

@@ -11,10 +11,10 @@ use Rattle.taskset.specs.Fresh.{freshOf}
 use Rattle.taskset.proofs.Accepted.{fresh-of, fresh-cores}
 use Rattle.taskset.specs.Trace.{traceRefusal}
 use Rattle.states.specs.Task.{taskOf}
 use Rattle.machine.specs.Calls.{freshRefusal, freshCall}
-use Rattle.machine.specs.Calling.{Call, stepsOf}
-use Rattle.machine.specs.Fair.{MachineFair, CallsFair}
-use Rattle.machine.proofs.Calling.{calls-interleaved}
+use Rattle.calls.specs.Calling.{Call, stepsOf}
+use Rattle.calls.specs.Fair.{MachineFair, CallsFair}
+use Rattle.calls.proofs.Calling.{calls-interleaved}
 
 pub fair-machine : (f t ks : List ℕ) → MachineFair f t ks
 unfolding taskOf

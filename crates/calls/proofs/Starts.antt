@@ -11,11 +11,11 @@ use Rattle.taskset.specs.Trace.{traceRefusal}
 use Rattle.taskset.specs.Fresh.{freshOf}
 use Rattle.taskset.proofs.Starts.{start-values}
 use Rattle.verdict.proofs.Verdict.{next-zero}
 use Rattle.machine.specs.Calls.{freshRefusal, freshCall}
-use Rattle.machine.specs.Calling.{Call, stepsOf}
-use Rattle.machine.specs.Starts.{StartsSeen, CallsStartsSeen}
-use Rattle.machine.proofs.Interleaving.{interleaved-machine}
-use Rattle.machine.proofs.Calling.{calls-interleaved}
+use Rattle.calls.specs.Calling.{Call, stepsOf}
+use Rattle.calls.specs.Starts.{StartsSeen, CallsStartsSeen}
+use Rattle.calls.proofs.Interleaving.{interleaved-machine}
+use Rattle.calls.proofs.Calling.{calls-interleaved}
 
 pub starts-seen : (f t : List ℕ) → judge f ≡ 0 → (ks : List ℕ) → StartsSeen f t ks
 starts-seen f t accepted ks r x w none-yet v m reads writes =

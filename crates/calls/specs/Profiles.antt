@@ -6,8 +6,8 @@ use mathlib.Core.List.{List}
 use Prim.Native.Nat.{ℕ}
 use lib.ListN.{take}
 use Rattle.code.specs.declared.Profile.the-variants.{Small}
 use Rattle.machine.specs.Calls.{freshCall, freshCallFor}
-use Rattle.machine.specs.Calling.{Call, calls, stepsOf, takenOf}
+use Rattle.calls.specs.Calling.{Call, calls, stepsOf, takenOf}
 
 -- on the trace t, with the memories d and sh lent to the call for the fresh state, whatever their sizes
 pub record SmallRuns (f t d sh : List ℕ) (cs : List Call) : Type 0 where

@@ -13,8 +13,8 @@ use Rattle.protocol.specs.Variables.{Variable, In, readsIt, writesIt, local, va
 use Rattle.taskset.specs.Task.{variablesOf}
 use Rattle.taskset.specs.Fresh.{freshOf}
 use Rattle.states.specs.Task.{taskOf}
 use Rattle.machine.specs.Calls.{freshCall}
-use Rattle.machine.specs.Calling.{Call, calls, wholeOf, stepsOf}
+use Rattle.calls.specs.Calling.{Call, calls, wholeOf, stepsOf}
 
 -- A reading of core r that the steps finished, where core w had finished no writing before it took the semaphore: every variable that it brought from w has
 -- the bytes that w's data hold in the fresh state

@@ -1,0 +1,6 @@
+pub mod Interleaving
+pub mod Calling
+pub mod Fair
+pub mod Blank
+pub mod Profiles
+pub mod Starts
