@@ -3,7 +3,7 @@
 use mathlib.Core.Path.{_≡_, refl, sym, ap, _∙_, subst}
 use mathlib.Core.Logic.{_≢_, _⊎_, inl, inr}
 use mathlib.Core.Bool.{Bool, true, false}
-use mathlib.Core.List.{List, [], _∷_, _++_, map}
+use mathlib.Core.List.{List, [], _∷_, _++_}
 use Prim.Native.Nat.{ℕ, zero, suc, _<_}
 use native.Mathlib.Decide.{map-dec, ℕ-discrete}
 use native.Mathlib.Omega.{arith}
@@ -11,18 +11,17 @@ use lib.ListN.{length, getD, set, take, drop}
 use lib.Seq.{getD-set-other, ext-getD}
 use Rattle.verdict.specs.Verdict.{pick}
 use Rattle.memory.specs.Memory.{splice}
-use Rattle.protocol.specs.declared.Registers.{Registers}
-use Rattle.protocol.specs.Registers.{readAcquired, writeAcquired}
+use Rattle.protocol.specs.Registers.{readAcquired}
 use Rattle.protocol.specs.State.{Core, Semaphore, State, Move, Sample, Task, absent, mode}
-use Rattle.protocol.specs.Step.{acquiredBy, released, joinedBy, copy, left, turn, wait, readTaken, readNext, readDone, writeTaken, writeNext, writeDone, takeRead, readOn, takeWrite, writeOn, stepIn, step, run, Taking, taken, takingOf, takings}
+use Rattle.protocol.specs.Step.{acquiredBy, released, joinedBy, copy, left, turn, readTaken, readNext, readDone, writeTaken, writeNext, writeDone, takeRead, readOn, takeWrite, writeOn, stepIn, step, run, Taking, taken, takingOf, takings}
 use Rattle.protocol.specs.Laws.{Laws, Fresh, Holding, Held}
 use Rattle.protocol.specs.Variables.{In}
-use Rattle.races.specs.Footprint.{Place, control, local, byte, semaphore, Control, controlOf, Same, unspent, sources, targets, release, footprintIn, footprint, Writes, Touches, SameRead, FootprintRight, RaceFree, Independent, Alike, Swaps, none, swap, later, more}
+use Rattle.races.specs.Footprint.{Place, control, local, byte, semaphore, Control, controlOf, Same, stretch, DataFootprints, SameSources, DataFootprintsRight, Footprint, locals, inputs, unspent, inTurn, sources, targets, release, footprintIn, footprint, Writes, Touches, SameRead, FootprintRight, RaceFree, Independent, Alike, Swaps, none, swap, later, more}
 use Rattle.protocol.proofs.Runs.{task, start, samples, variables}
-use Rattle.protocol.proofs.View.{inside, there, Wants, after, at, writeByte, Moves, rests, waits, takesRead, readsOn, readsLast, runs, takesWrite, writesOn, writesLast, view}
-use Rattle.protocol.proofs.Copy.{copy-other}
-use Rattle.protocol.proofs.Bytes.{in-left, in-right}
+use Rattle.protocol.proofs.View.{inside, there, Wants, after, at, Moves, rests, waits, takesRead, readsOn, readsLast, runs, takesWrite, writesOn, writesLast, view}
+use Rattle.protocol.proofs.Bytes.{in-append, in-left, in-right}
 use Rattle.protocol.proofs.Steps.{others-stay, lengths, only, held-step, held-fresh, held-run}
+use Rattle.races.proofs.Stretch.{store-same, splice-outside, splice-inside}
 
 -- ---- places
 
@@ -32,20 +31,25 @@ never z = omega arith
 -- places and lists of places can be told apart
 place? : (p q : Place) → Dec (p ≡ q)
 place? (control i) (control k) = map-dec (ap control) (λ e. cc) (ℕ-discrete i k)
-place? (local i) (local k) = map-dec (ap local) (λ e. cc) (ℕ-discrete i k)
+place? (local i a) (local k b) = go (ℕ-discrete i k) (ℕ-discrete a b)
+  where
+    go : Dec (i ≡ k) → Dec (a ≡ b) → Dec (local i a ≡ local k b)
+    go (yes e) (yes z) = yes (λ x. local (e x) (z x))
+    go (yes e) (no n) = no (λ z. n (cc))
+    go (no n) d = no (λ z. n (cc))
 place? (byte i) (byte k) = map-dec (ap byte) (λ e. cc) (ℕ-discrete i k)
 place? semaphore semaphore = yes refl
-place? (control i) (local k) = no (λ e. never (cc))
+place? (control i) (local k b) = no (λ e. never (cc))
 place? (control i) (byte k) = no (λ e. never (cc))
 place? (control i) semaphore = no (λ e. never (cc))
-place? (local i) (control k) = no (λ e. never (cc))
-place? (local i) (byte k) = no (λ e. never (cc))
-place? (local i) semaphore = no (λ e. never (cc))
+place? (local i a) (control k) = no (λ e. never (cc))
+place? (local i a) (byte k) = no (λ e. never (cc))
+place? (local i a) semaphore = no (λ e. never (cc))
 place? (byte i) (control k) = no (λ e. never (cc))
-place? (byte i) (local k) = no (λ e. never (cc))
+place? (byte i) (local k b) = no (λ e. never (cc))
 place? (byte i) semaphore = no (λ e. never (cc))
 place? semaphore (control k) = no (λ e. never (cc))
-place? semaphore (local k) = no (λ e. never (cc))
+place? semaphore (local k b) = no (λ e. never (cc))
 place? semaphore (byte k) = no (λ e. never (cc))
 
 in? : (p : Place) (ps : List Place) → Dec (In p ps)
@@ -61,297 +65,325 @@ in? p (q ∷ ps) = go (place? p q) (in? p ps)
     go (no n) (yes h) = yes (inr h)
     go (no n) (no m) = no (none-of n m)
 
+-- the bytes of a core's data among places
+in-locals : (k : ℕ) (is : List ℕ) (i : ℕ) → In i is → In (local k i) (locals k is)
+in-locals k [] i h = h
+in-locals k (x ∷ is) i (inl e) = inl (ap (local k) e)
+in-locals k (x ∷ is) i (inr h) = inr (in-locals k is i h)
+
+by-local : (P : Place → Type 0) (k : ℕ) (is : List ℕ) → ((i : ℕ) → In i is → P (local k i)) → (p : Place) → In p (locals k is) → P p
+by-local P k [] f p h = absurd h
+by-local P k (x ∷ is) f p (inl e) = subst P (sym e) (f x (inl refl))
+by-local P k (x ∷ is) f p (inr h) = by-local P k is (λ i m. f i (inr m)) p h
+
 -- a core is its registers with its call stack, and its data
-same-core : (c c′ : Core) → controlOf c ≡ controlOf c′ → c .memory ≡ c′ .memory → c ≡ c′
-same-core c c′ e m = λ x. record { registers = e x .registers; stack = e x .stack; memory = m x }
+abbrev withData : Control → List ℕ → Core
+withData c m = record { registers = c .registers; stack = c .stack; memory = m }
+
+same-core : (c c′ : Core) → controlOf c ≡ controlOf c′ → length (c .memory) ≡ length (c′ .memory) → ((i : ℕ) → getD (c .memory) i 0 ≡ getD (c′ .memory) i 0) → c ≡ c′
+same-core c c′ e l m = λ x. record { registers = e x .registers; stack = e x .stack; memory = ext-getD 0 (c .memory) (c′ .memory) l (λ i h. m i) x }
 
 -- states that have the same everywhere are the same
-same-state : (s s′ : State) → length (s .plant .cores) ≡ length (s′ .plant .cores) → length (s .plant .shared) ≡ length (s′ .plant .shared)
-    → ((p : Place) → Same p s s′) → s ≡ s′
-same-state s s′ a b h =
+same-state : (s s′ : State) → length (s .plant .cores) ≡ length (s′ .plant .cores) → ((k : ℕ) → length (at s k .memory) ≡ length (at s′ k .memory))
+    → length (s .plant .shared) ≡ length (s′ .plant .shared) → ((p : Place) → Same p s s′) → s ≡ s′
+same-state s s′ a l b h =
     λ x. record {
       plant = record {
-        cores = ext-getD absent (s .plant .cores) (s′ .plant .cores) a (λ i l. same-core _ _ (h (control i)) (h (local i))) x;
-        shared = ext-getD 0 (s .plant .shared) (s′ .plant .shared) b (λ i l. h (byte i)) x;
+        cores = ext-getD absent (s .plant .cores) (s′ .plant .cores) a (λ k z. same-core (at s k) (at s′ k) (h (control k)) (l k) (λ i. h (local k i))) x;
+        shared = ext-getD 0 (s .plant .shared) (s′ .plant .shared) b (λ i z. h (byte i)) x;
       };
       semaphore = h semaphore x;
     }
 
--- a place to which a byte is copied is a written one
-target-in : (ms : List Move) (m : Move) → In m ms → In (byte (m .target)) (targets ms)
-target-in [] m h = h
-target-in (x ∷ ms) m (inl e) = inl (ap (λ (m : Move). byte (m .target)) e)
-target-in (x ∷ ms) m (inr h) = inr (target-in ms m h)
-
 -- ---- what a step changes
 
--- core k, shared memory and the semaphore are replaced: each other place keeps what it has, and core k's data where they are the same
+-- core k, shared memory and the semaphore are replaced: each other place keeps what it has, and a byte of core k's data where it is the same
 elsewhere : (s : State) (k : ℕ) (c : Core) (sh : List ℕ) (m : Semaphore) → k < length (s .plant .cores) → (p : Place) → p ≢ control k
-    → (p ≡ local k → at s k .memory ≡ c .memory) → ((i : ℕ) → p ≡ byte i → getD (s .plant .shared) i 0 ≡ getD sh i 0) → (p ≡ semaphore → s .semaphore ≡ m) → Same p s (after s k c sh m)
-elsewhere s k c sh m h (control i) n d b e = sym (ap controlOf (getD-set-other (s .plant .cores) k i c absent (λ z. n (ap control z))))
-elsewhere s k c sh m h (local i) n d b e = go (ℕ-discrete i k)
+    → ((i : ℕ) → p ≡ local k i → getD (at s k .memory) i 0 ≡ getD (c .memory) i 0) → ((i : ℕ) → p ≡ byte i → getD (s .plant .shared) i 0 ≡ getD sh i 0)
+    → (p ≡ semaphore → s .semaphore ≡ m) → Same p s (after s k c sh m)
+elsewhere s k c sh m h (control j) n d b e = sym (ap controlOf (getD-set-other (s .plant .cores) k j c absent (λ z. n (ap control z))))
+elsewhere s k c sh m h (local j i) n d b e = go (ℕ-discrete j k)
   where
-    go : Dec (i ≡ k) → Same (local i) s (after s k c sh m)
-    go (yes z) = rw z (d (ap local z) ∙ sym (ap (λ (c : Core). c .memory) (there s k c h)))
-    go (no z) = sym (ap (λ (c : Core). c .memory) (getD-set-other (s .plant .cores) k i c absent z))
+    go : Dec (j ≡ k) → Same (local j i) s (after s k c sh m)
+    go (yes z) = rw z (d i (ap (λ (j : ℕ). local j i) z) ∙ sym (ap (λ (c : Core). getD (c .memory) i 0) (there s k c h)))
+    go (no z) = sym (ap (λ (c : Core). getD (c .memory) i 0) (getD-set-other (s .plant .cores) k j c absent z))
 elsewhere s k c sh m h (byte i) n d b e = b i refl
 elsewhere s k c sh m h semaphore n d b e = e refl
 
-module _ (t : Task) (k : ℕ) (s : State) where
-  -- a step of an exchange keeps the other bytes
-  byte-kept : (p : Place) → (In p (targets (take 1 (left (at s k) (t .writes k)))) → ⊥) → (i : ℕ) → p ≡ byte i → getD (s .plant .shared) i 0 ≡ getD (writeByte t k s) i 0
-  byte-kept p n i e =
-      let ms = take 1 (left (at s k) (t .writes k)) in
-      sym (copy-other ms (at s k .memory) (s .plant .shared) i (λ m h z. n (rw (e, ← z) (target-in ms m h))))
+-- a step of an exchange keeps the other bytes, of shared memory or of data
+copy-kept : (place : ℕ → Place) (ms : List Move) (from to : List ℕ) (p : Place) → (In p (targets place ms) → ⊥) → (i : ℕ) → p ≡ place i
+    → getD to i 0 ≡ getD (copy (take 1 ms) from to) i 0
+copy-kept place [] from to p n i e = refl
+copy-kept place (m ∷ ms) from to p n i e = sym (getD-set-other to (m .target) i (getD from (m .source) 0) 0 (λ z. n (inl (e ∙ ap place z))))
 
+module _ (t : Task) (o : DataFootprints) (right : DataFootprintsRight t o) (k : ℕ) (s : State) where
   -- a core that waits writes the line
-  wants-semaphore : Wants t k s → Writes t k s semaphore
+  wants-semaphore : Wants t k s → Writes t o k s semaphore
   unfolding footprint
-  wants-semaphore (inr e) = rw e (inr (inl refl))
-  wants-semaphore (inl w) = rw (w .0) (go (drop (at s k .registers .cycles) (t .samples k)) (w .1))
+  wants-semaphore (inr e) = rw e (go (turn (s .semaphore) k))
     where
-      go : (rs : List Sample) → rs ≢ [] → In semaphore (unspent rs (control k ∷ local k ∷ semaphore ∷ []))
-      go [] n = absurd (n refl)
-      go (r ∷ rs) n = inr (inr (inl refl))
+      go : (b : Bool) → In semaphore (inTurn b k [])
+      go true = inr (inl refl)
+      go false = inl refl
+  wants-semaphore (inl w) = rw (w .0) (go (drop (at s k .registers .cycles) (t .samples k)) (w .1) (turn (s .semaphore) k))
+    where
+      go : (rs : List Sample) → rs ≢ [] → (b : Bool) → In semaphore (unspent rs (inTurn b k (inputs k rs)))
+      go [] n b = absurd (n refl)
+      go (r ∷ rs) n true = inr (inl refl)
+      go (r ∷ rs) n false = inl refl
 
-  changes-of : (s′ : State) (ts : List Taking) → Moves t k s s′ ts → (p : Place) → (Writes t k s p → ⊥) → Same p s s′
-  unfolding footprint writeTaken writeNext writeDone
+  changes-of : (s′ : State) (ts : List Taking) → Moves t k s s′ ts → (p : Place) → (Writes t o k s p → ⊥) → Same p s s′
+  unfolding footprint readTaken readNext readDone writeTaken writeNext writeDone
   changes-of s′ ts (rests z) p n = refl
   changes-of s′ ts (waits i w b) (control j) n = refl
-  changes-of s′ ts (waits i w b) (local j) n = refl
+  changes-of s′ ts (waits i w b) (local j a) n = refl
   changes-of s′ ts (waits i w b) (byte j) n = refl
   changes-of s′ ts (waits i w b) semaphore n = absurd (n (wants-semaphore w))
   changes-of s′ ts (takesRead r rs i f b e d) p n =
-      let n = rw (e, d) at n in elsewhere s k _ _ _ i p (λ z. n (inl z)) (λ z. absurd (n (inr (inl z)))) (λ i z. refl) (λ z. absurd (n (inr (inr (inl z)))))
-  changes-of s′ ts (readsOn m ms i e d) p n = let n = rw (e, d) at n in elsewhere s k _ _ _ i p (λ z. n (inl z)) (λ z. absurd (n (inr (inl z)))) (λ i z. refl) (λ z. refl)
+      let n = rw (e, d, b) at n in
+      elsewhere s k _ _ _ i p (λ z. n (inl z))
+      (λ a z. splice-outside (at s k .memory) 0 (r .input) a (λ h. n (inr (inr (rw z (in-locals k (stretch 0 (length (r .input))) a h))))))
+      (λ i z. refl) (λ z. absurd (n (inr (inl z))))
+  changes-of s′ ts (readsOn m ms i e d) p n =
+      let n = rw (e, d) at n in
+      elsewhere s k _ _ _ i p (λ z. n (inl z)) (copy-kept (local k) (left (at s k) (t .reads k)) (s .plant .shared) (at s k .memory) p (λ h. n (inr h))) (λ i z. refl) (λ z. refl)
   changes-of s′ ts (readsLast i e d) p n =
-      let n = rw (e, d) at n in elsewhere s k _ _ _ i p (λ z. n (inl z)) (λ z. absurd (n (inr (inl z)))) (λ i z. refl) (λ z. absurd (n (inr (inr (inl z)))))
-  changes-of s′ ts (runs i e) p n = let n = rw e at n in elsewhere s k _ _ _ i p (λ z. n (inl z)) (λ z. absurd (n (inr (inl z)))) (λ i z. refl) (λ z. refl)
-  changes-of s′ ts (takesWrite i f b e) p n = let n = rw e at n in elsewhere s k _ _ _ i p (λ z. n (inl z)) (λ z. refl) (λ i z. refl) (λ z. absurd (n (inr (inl z))))
-  changes-of s′ ts (writesOn m ms i e d) p n = let n = rw (e, d) at n in elsewhere s k _ _ _ i p (λ z. n (inl z)) (λ z. refl) (byte-kept p (λ h. n (inr h))) (λ z. refl)
+      let n = rw (e, d) at n in
+      elsewhere s k _ _ _ i p (λ z. n (inl z)) (copy-kept (local k) (left (at s k) (t .reads k)) (s .plant .shared) (at s k .memory) p (λ h. n (inr (inr h)))) (λ i z. refl)
+      (λ z. absurd (n (inr (inl z))))
+  changes-of s′ ts (runs i e) p n =
+      let n = rw e at n in
+      elsewhere s k _ _ _ i p (λ z. n (inl z)) (λ a z. right .changes k (at s k) a (λ h. n (inr (rw z (in-locals k (o k (at s k) .writes) a h))))) (λ i z. refl) (λ z. refl)
+  changes-of s′ ts (takesWrite i f b e) p n =
+      let n = rw (e, b) at n in elsewhere s k _ _ _ i p (λ z. n (inl z)) (λ a z. refl) (λ i z. refl) (λ z. absurd (n (inr (inl z))))
+  changes-of s′ ts (writesOn m ms i e d) p n =
+      let n = rw (e, d) at n in
+      elsewhere s k _ _ _ i p (λ z. n (inl z)) (λ a z. refl) (copy-kept byte (left (at s k) (t .writes k)) (at s k .memory) (s .plant .shared) p (λ h. n (inr h))) (λ z. refl)
   changes-of s′ ts (writesLast i e d) p n =
-      let n = rw (e, d) at n in elsewhere s k _ _ _ i p (λ z. n (inl z)) (λ z. refl) (byte-kept p (λ h. n (inr (inr h)))) (λ z. absurd (n (inr (inl z))))
+      let n = rw (e, d) at n in
+      elsewhere s k _ _ _ i p (λ z. n (inl z)) (λ a z. refl) (copy-kept byte (left (at s k) (t .writes k)) (at s k .memory) (s .plant .shared) p (λ h. n (inr (inr h))))
+      (λ z. absurd (n (inr (inl z))))
 
-  unwritten : (p : Place) → (Writes t k s p → ⊥) → Same p s (step t k s)
+  unwritten : (p : Place) → (Writes t o k s p → ⊥) → Same p s (step t k s)
   unwritten = changes-of (step t k s) (takingOf t k s) (view t k s)
 
 -- ---- on what a step depends
 
--- what is stored at a place does not depend on what was there
-store-same : (l l′ : List ℕ) (i v : ℕ) → length l ≡ length l′ → getD (set l i v) i 0 ≡ getD (set l′ i v) i 0
-store-same [] [] i v e = refl
-store-same [] (y ∷ ys) i v e = absurd (omega arith)
-store-same (x ∷ xs) [] i v e = absurd (omega arith)
-store-same (x ∷ xs) (y ∷ ys) zero v e = refl
-store-same (x ∷ xs) (y ∷ ys) (suc i) v e = store-same xs ys i v (omega arith)
-
--- what is copied depends on its sources only
-copy-same : (s s′ : State) (ms : List Move) (to : List ℕ) → ((p : Place) → In p (sources ms) → Same p s s′) → copy ms (s .plant .shared) to ≡ copy ms (s′ .plant .shared) to
-copy-same s s′ [] to a = refl
-copy-same s s′ (m ∷ ms) to a =
-    rw (a (byte (m .source)) (inl refl)) (copy-same s s′ ms (set to (m .target) (getD (s′ .plant .shared) (m .source) 0)) (λ p h. a p (inr h)))
-
 -- every step reads its core's registers
-control-read : (n : ℕ) (t : Task) (k : ℕ) (r : Registers) → In (control k) (footprintIn n t k r .reads)
-control-read zero t k r = inl refl
-control-read (suc zero) t k r = inl refl
-control-read (suc (suc zero)) t k r = inl refl
-control-read (suc (suc (suc zero))) t k r = inl refl
-control-read (suc (suc (suc (suc zero)))) t k r = inl refl
-control-read (suc (suc (suc (suc (suc n))))) t k r = inl refl
+control-read : (n : ℕ) (t : Task) (o : DataFootprints) (k : ℕ) (c : Core) (b : Bool) → In (control k) (footprintIn n t o k c b .reads)
+control-read zero t o k c b = inl refl
+control-read (suc zero) t o k c b = inl refl
+control-read (suc (suc zero)) t o k c b = inl refl
+control-read (suc (suc (suc zero))) t o k c b = inl refl
+control-read (suc (suc (suc (suc zero)))) t o k c b = inl refl
+control-read (suc (suc (suc (suc (suc n))))) t o k c b = inl refl
 
-module _ (t : Task) (k : ℕ) (s s′ : State) (o : controlOf (at s k) ≡ controlOf (at s′ k)) where
-  same-mode : mode (at s k) ≡ mode (at s′ k)
-  same-mode = ap (λ (c : Control). c .registers .mode) o
+-- what a step of an exchange copies, where the byte that it copies is the same
+copied-same : (place to-place : ℕ → Place) (ms : List Move) (from from′ to to′ : List ℕ) → length to ≡ length to′
+    → ((i : ℕ) → In (place i) (sources place ms) → getD from i 0 ≡ getD from′ i 0) → (P : Place → Type 0)
+    → ((i : ℕ) → getD (copy (take 1 ms) from to) i 0 ≡ getD (copy (take 1 ms) from′ to′) i 0 → P (to-place i)) → (p : Place) → In p (targets to-place ms) → P p
+copied-same place to-place [] from from′ to to′ l a P f p h = absurd h
+copied-same place to-place (m ∷ ms) from from′ to to′ l a P f p (inl e) =
+    subst P (sym e)
+    (f (m .target)
+    (store-same to to′ (m .target) (getD from (m .source) 0) l
+    ∙ ap (λ (v : ℕ). getD (set to′ (m .target) v) (m .target) 0) (a (m .source) (inl refl))))
+copied-same place to-place (m ∷ ms) from from′ to to′ l a P f p (inr h) = absurd h
 
-  -- core k is replaced by cores with the same registers and call stack, or with the same data
+-- s, and s′ whose core k has the same registers and call stack, and data d of the same size
+module _ (t : Task) (o : DataFootprints) (right : DataFootprintsRight t o) (k : ℕ) (s s′ : State) (size : length (s .plant .shared) ≡ length (s′ .plant .shared))
+    (same : controlOf (at s k) ≡ controlOf (at s′ k)) (d : List ℕ) (data-size : length (at s k .memory) ≡ length d) where
+  abbrev other : Core
+  other = withData (controlOf (at s k)) d
+
+  -- core k is replaced: its registers with its call stack, a byte of its data
   control-same : {n : ℕ} → mode (at s k) ≡ n → n < 5 → (c c′ : Core) (sh sh′ : List ℕ) (m m′ : Semaphore) → controlOf c ≡ controlOf c′
       → (p : Place) → p ≡ control k → Same p (after s k c sh m) (after s′ k c′ sh′ m′)
   control-same {n} e h c c′ sh sh′ m m′ z p y =
       rw y
       (ap controlOf (there s k c (inside (s .plant .cores) k n e h))
       ∙ z
-      ∙ sym (ap controlOf (there s′ k c′ (inside (s′ .plant .cores) k n (sym same-mode ∙ e) h))))
+      ∙ sym (ap controlOf (there s′ k c′ (inside (s′ .plant .cores) k n (sym (ap (λ (c : Control). c .registers .mode) same) ∙ e) h))))
 
-  local-same : {n : ℕ} → mode (at s k) ≡ n → n < 5 → (c c′ : Core) (sh sh′ : List ℕ) (m m′ : Semaphore) → c .memory ≡ c′ .memory
-      → (p : Place) → p ≡ local k → Same p (after s k c sh m) (after s′ k c′ sh′ m′)
-  local-same {n} e h c c′ sh sh′ m m′ z p y =
-      rw y
-      (ap (λ (c : Core). c .memory) (there s k c (inside (s .plant .cores) k n e h))
+  local-same : {n : ℕ} → mode (at s k) ≡ n → n < 5 → (c c′ : Core) (i : ℕ) → getD (c .memory) i 0 ≡ getD (c′ .memory) i 0
+      → getD (getD (set (s .plant .cores) k c) k absent .memory) i 0 ≡ getD (getD (set (s′ .plant .cores) k c′) k absent .memory) i 0
+  local-same {n} e h c c′ i z =
+      ap (λ (c : Core). getD (c .memory) i 0) (there s k c (inside (s .plant .cores) k n e h))
       ∙ z
-      ∙ sym (ap (λ (c : Core). c .memory) (there s′ k c′ (inside (s′ .plant .cores) k n (sym same-mode ∙ e) h))))
-
-  -- by whose turn it is
-  turn-same : (f f′ : Bool → State) (p : Place) → Same p (f true) (f′ true) → Same p (f false) (f′ false) → s .semaphore ≡ s′ .semaphore
-      → Same p (f (turn (s .semaphore) k)) (f′ (turn (s′ .semaphore) k))
-  turn-same f f′ p x y q = subst (λ (m : Semaphore). Same p (f (turn (s .semaphore) k)) (f′ (turn m k))) q (go (turn (s .semaphore) k))
-    where
-      go : (b : Bool) → Same p (f b) (f′ b)
-      go true = x
-      go false = y
-
-  -- mode 3, whose step does not touch the data
-  same3 : mode (at s k) ≡ 3 → s .semaphore ≡ s′ .semaphore → (p : Place) → In p (control k ∷ semaphore ∷ [])
-      → Same p (takeWrite (turn (s .semaphore) k) k (at s k) s) (takeWrite (turn (s′ .semaphore) k) k (at s′ k) s′)
-  unfolding writeTaken
-  same3 e q p h = turn-same (λ b. takeWrite b k (at s k) s) (λ b. takeWrite b k (at s′ k) s′) p (takes p h) (waits-too p h) q
-    where
-      takes : (p : Place) → In p (control k ∷ semaphore ∷ []) → Same p (takeWrite true k (at s k) s) (takeWrite true k (at s′ k) s′)
-      takes p (inl y) = control-same e (omega arith) (writeTaken (at s k)) (writeTaken (at s′ k)) _ _ _ _ (λ x. record { registers = writeAcquired (o x .registers); stack = o x .stack }) p y
-      takes p (inr (inl y)) = rw y (ap (acquiredBy k) q)
-      takes p (inr (inr z)) = absurd z
-
-      waits-too : (p : Place) → In p (control k ∷ semaphore ∷ []) → Same p (wait k s) (wait k s′)
-      waits-too p (inl y) = rw y o
-      waits-too p (inr (inl y)) = rw y (ap (joinedBy k) q)
-      waits-too p (inr (inr z)) = absurd z
-
--- the modes whose step reads the data too
-module _ (t : Task) (k : ℕ) (s s′ : State) (size : length (s .plant .shared) ≡ length (s′ .plant .shared)) (o : at s k ≡ at s′ k) where
-  own-same : {n : ℕ} → mode (at s k) ≡ n → n < 5 → (c c′ : Core) (sh sh′ : List ℕ) (m m′ : Semaphore) → c ≡ c′
-      → (p : Place) → (p ≡ control k) ⊎ (p ≡ local k) → Same p (after s k c sh m) (after s′ k c′ sh′ m′)
-  own-same e h c c′ sh sh′ m m′ z p (inl y) = control-same t k s s′ (ap controlOf o) e h c c′ sh sh′ m m′ (ap controlOf z) p y
-  own-same e h c c′ sh sh′ m m′ z p (inr y) = local-same t k s s′ (ap controlOf o) e h c c′ sh sh′ m m′ (ap (λ (c : Core). c .memory) z) p y
-
-  -- core k takes the semaphore and becomes c, or waits
-  takes-same : {n : ℕ} → mode (at s k) ≡ n → n < 5 → s .semaphore ≡ s′ .semaphore → (c : Core) (p : Place) → In p (control k ∷ local k ∷ semaphore ∷ [])
-      → Same p (after s k c (s .plant .shared) (acquiredBy k (s .semaphore))) (after s′ k c (s′ .plant .shared) (acquiredBy k (s′ .semaphore)))
-  takes-same e h q c p (inl y) = own-same e h c c _ _ _ _ refl p (inl y)
-  takes-same e h q c p (inr (inl y)) = own-same e h c c _ _ _ _ refl p (inr y)
-  takes-same e h q c p (inr (inr (inl y))) = rw y (ap (acquiredBy k) q)
-  takes-same e h q c p (inr (inr (inr z))) = absurd z
-
-  waits-same : s .semaphore ≡ s′ .semaphore → (p : Place) → In p (control k ∷ local k ∷ semaphore ∷ []) → Same p (wait k s) (wait k s′)
-  waits-same q p (inl y) = rw y (ap controlOf o)
-  waits-same q p (inr (inl y)) = rw y (ap (λ (c : Core). c .memory) o)
-  waits-same q p (inr (inr (inl y))) = rw y (ap (joinedBy k) q)
-  waits-same q p (inr (inr (inr z))) = absurd z
-
-  -- a step of a writing stores the same byte
-  stored-same : (ms : List Move) (d : List ℕ) (c c′ : Core) (m m′ : Semaphore) (p : Place) → In p (targets (take 1 ms))
-      → Same p (after s k c (copy (take 1 ms) d (s .plant .shared)) m) (after s′ k c′ (copy (take 1 ms) d (s′ .plant .shared)) m′)
-  stored-same [] d c c′ m m′ p h = absurd h
-  stored-same (x ∷ ms) d c c′ m m′ p (inl y) = rw y (store-same (s .plant .shared) (s′ .plant .shared) (x .target) (getD d (x .source) 0) size)
-  stored-same (x ∷ ms) d c c′ m m′ p (inr h) = absurd h
+      ∙ sym (ap (λ (c : Core). getD (c .memory) i 0) (there s′ k c′ (inside (s′ .plant .cores) k n (sym (ap (λ (c : Control). c .registers .mode) same) ∙ e) h)))
 
   -- mode by mode
-  same0 : mode (at s k) ≡ 0 → (r : Sample) (rs : List Sample) → s .semaphore ≡ s′ .semaphore → (p : Place) → In p (control k ∷ local k ∷ semaphore ∷ [])
-      → Same p (takeRead (r ∷ rs) (turn (s .semaphore) k) k (at s k) s) (takeRead (r ∷ rs) (turn (s′ .semaphore) k) k (at s k) s′)
-  same0 e r rs q p h =
-      turn-same t k s s′ (ap controlOf o) (λ b. takeRead (r ∷ rs) b k (at s k) s) (λ b. takeRead (r ∷ rs) b k (at s k) s′) p
-      (takes-same e (omega arith) q (readTaken r (at s k)) p h) (waits-same q p h) q
+  same0 : mode (at s k) ≡ 0 → (r : Sample) (rs : List Sample) (b : Bool) → s .semaphore ≡ s′ .semaphore → (p : Place) → In p (inTurn b k (inputs k (r ∷ rs)))
+      → Same p (takeRead (r ∷ rs) b k (at s k) s) (takeRead (r ∷ rs) b k other s′)
+  unfolding readTaken
+  same0 e r rs true q p (inl y) = control-same e (omega arith) (readTaken r (at s k)) (readTaken r other) _ _ _ _ refl p y
+  same0 e r rs true q p (inr (inl y)) = rw y (ap (acquiredBy k) q)
+  same0 e r rs true q p (inr (inr h)) =
+      by-local (λ (p : Place). Same p (takeRead (r ∷ rs) true k (at s k) s) (takeRead (r ∷ rs) true k other s′)) k (stretch 0 (length (r .input)))
+      (λ i m. local-same e (omega arith) (readTaken r (at s k)) (readTaken r other) i (splice-inside (at s k .memory) d 0 (r .input) i data-size m)) p h
+  same0 e r rs false q p (inl y) = rw y (ap (joinedBy k) q)
+  same0 e r rs false q p (inr h) = absurd h
 
-  same1 : mode (at s k) ≡ 1 → (ms : List Move) (d d′ : List ℕ) → d ≡ d′ → ((p : Place) → In p (release ms) → Same p s s′)
-      → (p : Place) → In p (control k ∷ local k ∷ release ms) → Same p (readOn ms d k (at s k) s) (readOn ms d′ k (at s k) s′)
-  same1 e [] d d′ z a p (inl y) = own-same e (omega arith) _ _ _ _ _ _ (ap (λ (d : List ℕ). readDone d (at s k)) z) p (inl y)
-  same1 e [] d d′ z a p (inr (inl y)) = own-same e (omega arith) _ _ _ _ _ _ (ap (λ (d : List ℕ). readDone d (at s k)) z) p (inr y)
-  same1 e [] d d′ z a p (inr (inr (inl y))) = rw y (ap released (a semaphore (inl refl)))
-  same1 e [] d d′ z a p (inr (inr (inr h))) = absurd h
-  same1 e (m ∷ ms) d d′ z a p (inl y) = own-same e (omega arith) _ _ _ _ _ _ (ap (λ (d : List ℕ). readNext d (at s k)) z) p (inl y)
-  same1 e (m ∷ ms) d d′ z a p (inr (inl y)) = own-same e (omega arith) _ _ _ _ _ _ (ap (λ (d : List ℕ). readNext d (at s k)) z) p (inr y)
-  same1 e (m ∷ ms) d d′ z a p (inr (inr h)) = absurd h
+  same1 : mode (at s k) ≡ 1 → (ms ns : List Move) → ((p : Place) → In p (release ns) → Same p s s′) → ((i : ℕ) → In (byte i) (sources byte ms) → Same (byte i) s s′)
+      → (p : Place) → In p (control k ∷ release ns ++ targets (local k) ms)
+      → Same p (readOn ns (copy (take 1 ms) (s .plant .shared) (at s k .memory)) k (at s k) s) (readOn ns (copy (take 1 ms) (s′ .plant .shared) d) k other s′)
+  unfolding readNext readDone
+  same1 e ms [] a b p (inl y) = control-same e (omega arith) _ _ _ _ _ _ refl p y
+  same1 e ms [] a b p (inr (inl y)) = rw y (ap released (a semaphore (inl refl)))
+  same1 e ms [] a b p (inr (inr h)) =
+      copied-same byte (local k) ms (s .plant .shared) (s′ .plant .shared) (at s k .memory) d data-size b
+      (λ (p : Place). Same p (readOn [] (copy (take 1 ms) (s .plant .shared) (at s k .memory)) k (at s k) s) (readOn [] (copy (take 1 ms) (s′ .plant .shared) d) k other s′))
+      (λ i z. local-same e (omega arith) _ _ i z) p h
+  same1 e ms (n ∷ ns) a b p (inl y) = control-same e (omega arith) _ _ _ _ _ _ refl p y
+  same1 e ms (n ∷ ns) a b p (inr h) =
+      copied-same byte (local k) ms (s .plant .shared) (s′ .plant .shared) (at s k .memory) d data-size b
+      (λ (p : Place). Same p (readOn (n ∷ ns) (copy (take 1 ms) (s .plant .shared) (at s k .memory)) k (at s k) s) (readOn (n ∷ ns) (copy (take 1 ms) (s′ .plant .shared) d) k other s′))
+      (λ i z. local-same e (omega arith) _ _ i z) p h
 
-  same4 : mode (at s k) ≡ 4 → (ms ns : List Move) → ((p : Place) → In p (release ns) → Same p s s′) → (p : Place) → In p (control k ∷ release ns ++ targets (take 1 ms))
-      → Same p (writeOn ns (copy (take 1 ms) (at s k .memory) (s .plant .shared)) k (at s k) s) (writeOn ns (copy (take 1 ms) (at s k .memory) (s′ .plant .shared)) k (at s k) s′)
-  same4 e ms [] a p (inl y) = own-same e (omega arith) _ _ _ _ _ _ refl p (inl y)
-  same4 e ms [] a p (inr (inl y)) = rw y (ap released (a semaphore (inl refl)))
-  same4 e ms [] a p (inr (inr h)) = stored-same ms (at s k .memory) _ _ _ _ p h
-  same4 e ms (n ∷ ns) a p (inl y) = own-same e (omega arith) _ _ _ _ _ _ refl p (inl y)
-  same4 e ms (n ∷ ns) a p (inr h) = stored-same ms (at s k .memory) _ _ _ _ p h
+  same2 : mode (at s k) ≡ 2 → SameSources o k (at s k) other → (p : Place) → In p (control k ∷ locals k (o k (at s k) .writes)) → Same p (stepIn 2 t k (at s k) s) (stepIn 2 t k other s′)
+  same2 e a p (inl y) = control-same e (omega arith) _ _ _ _ _ _ (right .control-after k (at s k) other a) p y
+  same2 e a p (inr h) =
+      by-local (λ (p : Place). Same p (stepIn 2 t k (at s k) s) (stepIn 2 t k other s′)) k (o k (at s k) .writes)
+      (λ i m. local-same e (omega arith) _ _ i (right .written k (at s k) other a i m)) p h
 
-  same1-whole : mode (at s k) ≡ 1 → ((p : Place) → In p (footprintIn 1 t k (at s k .registers) .reads) → Same p s s′)
-      → (p : Place) → In p (footprintIn 1 t k (at s k .registers) .writes) → Same p (stepIn 1 t k (at s k) s) (stepIn 1 t k (at s k) s′)
-  same1-whole e a p h =
-      let ms = left (at s k) (t .reads k) in
-      same1 e (drop 1 ms) _ _
-      (copy-same s s′ (take 1 ms) (at s k .memory) (λ p h. a p (inr (inr (in-right p (release (drop 1 ms)) (sources (take 1 ms)) h)))))
-      (λ p h. a p (inr (inr (in-left p (release (drop 1 ms)) (sources (take 1 ms)) h)))) p h
+  same3 : mode (at s k) ≡ 3 → (b : Bool) → s .semaphore ≡ s′ .semaphore → (p : Place) → In p (inTurn b k []) → Same p (takeWrite b k (at s k) s) (takeWrite b k other s′)
+  unfolding writeTaken
+  same3 e true q p (inl y) = control-same e (omega arith) (writeTaken (at s k)) (writeTaken other) _ _ _ _ refl p y
+  same3 e true q p (inr (inl y)) = rw y (ap (acquiredBy k) q)
+  same3 e true q p (inr (inr h)) = absurd h
+  same3 e false q p (inl y) = rw y (ap (joinedBy k) q)
+  same3 e false q p (inr h) = absurd h
 
-  same2 : mode (at s k) ≡ 2 → (p : Place) → In p (control k ∷ local k ∷ []) → Same p (stepIn 2 t k (at s k) s) (stepIn 2 t k (at s k) s′)
-  same2 e p (inl y) = own-same e (omega arith) _ _ _ _ _ _ refl p (inl y)
-  same2 e p (inr (inl y)) = own-same e (omega arith) _ _ _ _ _ _ refl p (inr y)
-  same2 e p (inr (inr h)) = absurd h
+  same4 : mode (at s k) ≡ 4 → (ms ns : List Move) → ((p : Place) → In p (release ns) → Same p s s′)
+      → ((i : ℕ) → In (local k i) (sources (local k) ms) → getD (at s k .memory) i 0 ≡ getD d i 0) → (p : Place) → In p (control k ∷ release ns ++ targets byte ms)
+      → Same p (writeOn ns (copy (take 1 ms) (at s k .memory) (s .plant .shared)) k (at s k) s) (writeOn ns (copy (take 1 ms) d (s′ .plant .shared)) k other s′)
+  unfolding writeNext writeDone
+  same4 e ms [] a b p (inl y) = control-same e (omega arith) _ _ _ _ _ _ refl p y
+  same4 e ms [] a b p (inr (inl y)) = rw y (ap released (a semaphore (inl refl)))
+  same4 e ms [] a b p (inr (inr h)) =
+      copied-same (local k) byte ms (at s k .memory) d (s .plant .shared) (s′ .plant .shared) size b
+      (λ (p : Place). Same p (writeOn [] (copy (take 1 ms) (at s k .memory) (s .plant .shared)) k (at s k) s) (writeOn [] (copy (take 1 ms) d (s′ .plant .shared)) k other s′))
+      (λ i z. z) p h
+  same4 e ms (n ∷ ns) a b p (inl y) = control-same e (omega arith) _ _ _ _ _ _ refl p y
+  same4 e ms (n ∷ ns) a b p (inr h) =
+      copied-same (local k) byte ms (at s k .memory) d (s .plant .shared) (s′ .plant .shared) size b
+      (λ (p : Place). Same p (writeOn (n ∷ ns) (copy (take 1 ms) (at s k .memory) (s .plant .shared)) k (at s k) s) (writeOn (n ∷ ns) (copy (take 1 ms) d (s′ .plant .shared)) k other s′))
+      (λ i z. z) p h
 
-module _ (t : Task) (k : ℕ) (s s′ : State) (size : length (s .plant .shared) ≡ length (s′ .plant .shared)) (o : controlOf (at s k) ≡ controlOf (at s′ k)) where
-  -- with the data, all of the core
-  whole-core : at s k .memory ≡ at s′ k .memory → at s k ≡ at s′ k
-  whole-core d = same-core (at s k) (at s′ k) o d
+module _ (t : Task) (o : DataFootprints) (right : DataFootprintsRight t o) (k : ℕ) (s s′ : State) (size : length (s .plant .shared) ≡ length (s′ .plant .shared))
+    (same : controlOf (at s k) ≡ controlOf (at s′ k)) (data-size : length (at s k .memory) ≡ length (at s′ k .memory)) where
+  -- core k of s′, by the registers and the call stack that it has in s
+  abbrev there-too : Core
+  there-too = withData (controlOf (at s k)) (at s′ k .memory)
 
-  -- the step of s′ is that of the core in s, where both have the same
-  in-s′ : (n : ℕ) (p : Place) (d : at s k ≡ at s′ k) → Same p (stepIn n t k (at s k) s) (stepIn n t k (at s k) s′) → Same p (stepIn n t k (at s k) s) (stepIn n t k (at s′ k) s′)
-  in-s′ n p d x = subst (λ (c : Core). Same p (stepIn n t k (at s k) s) (stepIn n t k c s′)) d x
+  -- what a step of s′ gives is what it gives to that core
+  in-s′ : (P : Core → Type 0) → P there-too → P (at s′ k)
+  in-s′ P x = subst (λ (c : Control). P (withData c (at s′ k .memory))) same x
 
-  same-in : (n : ℕ) → mode (at s k) ≡ n → ((p : Place) → In p (footprintIn n t k (at s k .registers) .reads) → Same p s s′)
-      → (p : Place) → In p (footprintIn n t k (at s k .registers) .writes) → Same p (stepIn n t k (at s k) s) (stepIn n t k (at s′ k) s′)
-  same-in zero e a p h = go (drop (at s k .registers .cycles) (t .samples k)) refl a h
+  same-sources : ((p : Place) → In p (control k ∷ locals k (o k (at s k) .reads)) → Same p s s′) → SameSources o k (at s k) there-too
+  same-sources a = record { same-control = refl; size = data-size; read = λ i h. a (local k i) (inr (in-locals k (o k (at s k) .reads) i h)) }
+
+  -- the places
+  places-in : (n : ℕ) → ((p : Place) → In p (footprintIn n t o k (at s k) (turn (s .semaphore) k) .reads) → Same p s s′)
+      → footprintIn n t o k (at s k) (turn (s .semaphore) k) ≡ footprintIn n t o k there-too (turn (s′ .semaphore) k)
+  places-in zero a = go (drop (at s k .registers .cycles) (t .samples k)) a
     where
-      go : (rs : List Sample) → drop (at s k .registers .cycles) (t .samples k) ≡ rs → ((p : Place) → In p (control k ∷ unspent rs (local k ∷ semaphore ∷ [])) → Same p s s′)
-          → In p (unspent rs (control k ∷ local k ∷ semaphore ∷ [])) → Same p (stepIn 0 t k (at s k) s) (stepIn 0 t k (at s′ k) s′)
-      go [] z a h = absurd h
-      go (r ∷ rs) z a h =
-          let d = whole-core (a (local k) (inr (inl refl))) in
-          in-s′ 0 p d
-          (subst (λ (l : List Sample). Same p (takeRead l (turn (s .semaphore) k) k (at s k) s) (takeRead l (turn (s′ .semaphore) k) k (at s k) s′)) (sym z)
-          (same0 t k s s′ size d e r rs (a semaphore (inr (inr (inl refl)))) p h))
-  same-in (suc zero) e a p h = let d = whole-core (a (local k) (inr (inl refl))) in in-s′ 1 p d (same1-whole t k s s′ size d e a p h)
-  same-in (suc (suc zero)) e a p h = let d = whole-core (a (local k) (inr (inl refl))) in in-s′ 2 p d (same2 t k s s′ size d e p h)
-  same-in (suc (suc (suc zero))) e a p h = same3 t k s s′ o e (a semaphore (inr (inl refl))) p h
+      go : (rs : List Sample) → ((p : Place) → In p (control k ∷ unspent rs (semaphore ∷ [])) → Same p s s′)
+          → _≡_ {A = Footprint} (record { reads = control k ∷ unspent rs (semaphore ∷ []); writes = unspent rs (inTurn (turn (s .semaphore) k) k (inputs k rs)) })
+          (record { reads = control k ∷ unspent rs (semaphore ∷ []); writes = unspent rs (inTurn (turn (s′ .semaphore) k) k (inputs k rs)) })
+      go [] a = refl
+      go (r ∷ rs) a = ap (λ (m : Semaphore). record { reads = control k ∷ semaphore ∷ []; writes = inTurn (turn m k) k (inputs k (r ∷ rs)) }) (a semaphore (inr (inl refl)))
+  places-in (suc zero) a = refl
+  places-in (suc (suc zero)) a =
+      let e = right .bytes k (at s k) there-too (same-sources a) in λ x. record { reads = control k ∷ locals k (e x .reads); writes = control k ∷ locals k (e x .writes) }
+  places-in (suc (suc (suc zero))) a = ap (λ (m : Semaphore). record { reads = control k ∷ semaphore ∷ []; writes = inTurn (turn m k) k [] }) (a semaphore (inr (inl refl)))
+  places-in (suc (suc (suc (suc zero)))) a = refl
+  places-in (suc (suc (suc (suc (suc n))))) a = refl
+
+  -- what is written there
+  same-in : (n : ℕ) → mode (at s k) ≡ n → ((p : Place) → In p (footprintIn n t o k (at s k) (turn (s .semaphore) k) .reads) → Same p s s′)
+      → (p : Place) → In p (footprintIn n t o k (at s k) (turn (s .semaphore) k) .writes) → Same p (stepIn n t k (at s k) s) (stepIn n t k there-too s′)
+  same-in zero e a p h = go (drop (at s k .registers .cycles) (t .samples k)) a h
+    where
+      go : (rs : List Sample) → ((p : Place) → In p (control k ∷ unspent rs (semaphore ∷ [])) → Same p s s′)
+          → In p (unspent rs (inTurn (turn (s .semaphore) k) k (inputs k rs)))
+          → Same p (takeRead rs (turn (s .semaphore) k) k (at s k) s) (takeRead rs (turn (s′ .semaphore) k) k there-too s′)
+      go [] a h = absurd h
+      go (r ∷ rs) a h =
+          let q = a semaphore (inr (inl refl)) in
+          subst (λ (m : Semaphore). Same p (takeRead (r ∷ rs) (turn (s .semaphore) k) k (at s k) s) (takeRead (r ∷ rs) (turn m k) k there-too s′)) q
+          (same0 t o right k s s′ size same (at s′ k .memory) data-size e r rs (turn (s .semaphore) k) q p h)
+  same-in (suc zero) e a p h =
+      let ms = left (at s k) (t .reads k) in
+      same1 t o right k s s′ size same (at s′ k .memory) data-size e ms (drop 1 ms)
+      (λ p h. a p (inr (in-left p (release (drop 1 ms)) (sources byte ms) h)))
+      (λ i h. a (byte i) (inr (in-right (byte i) (release (drop 1 ms)) (sources byte ms) h))) p h
+  same-in (suc (suc zero)) e a p h = same2 t o right k s s′ size same (at s′ k .memory) data-size e (same-sources a) p h
+  same-in (suc (suc (suc zero))) e a p h =
+      let q = a semaphore (inr (inl refl)) in
+      subst (λ (m : Semaphore). Same p (takeWrite (turn (s .semaphore) k) k (at s k) s) (takeWrite (turn m k) k there-too s′)) q
+      (same3 t o right k s s′ size same (at s′ k .memory) data-size e (turn (s .semaphore) k) q p h)
   same-in (suc (suc (suc (suc zero)))) e a p h =
-      let d = whole-core (a (local k) (inr (inl refl))) in
-      in-s′ 4 p d (same4 t k s s′ size d e (left (at s k) (t .writes k)) (drop 1 (left (at s k) (t .writes k))) (λ p h. a p (inr (inr h))) p h)
+      let ms = left (at s k) (t .writes k) in
+      same4 t o right k s s′ size same (at s′ k .memory) data-size e ms (drop 1 ms)
+      (λ p h. a p (inr (in-left p (release (drop 1 ms)) (sources (local k) ms) h)))
+      (λ i h. a (local k i) (inr (in-right (local k i) (release (drop 1 ms)) (sources (local k) ms) h))) p h
   same-in (suc (suc (suc (suc (suc n))))) e a p h = absurd h
 
-module _ (t : Task) (k : ℕ) (s s′ : State) (a : SameRead t k s s′) where
+module _ (t : Task) (o : DataFootprints) (right : DataFootprintsRight t o) (k : ℕ) (s s′ : State) (a : SameRead t o k s s′) where
   control-too : controlOf (at s k) ≡ controlOf (at s′ k)
   unfolding footprint
-  control-too = a .read (control k) (control-read (mode (at s k)) t k (at s k .registers))
+  control-too = a .read (control k) (control-read (mode (at s k)) t o k (at s k) (turn (s .semaphore) k))
 
-  same-places : footprint t k s ≡ footprint t k s′
+  same-places : footprint t o k s ≡ footprint t o k s′
   unfolding footprint
-  same-places = ap (λ (c : Control). footprintIn (c .registers .mode) t k (c .registers)) control-too
+  same-places =
+      in-s′ t o right k s s′ (a .size) control-too (a .data-size) (λ (c : Core). footprintIn (mode (at s k)) t o k (at s k) (turn (s .semaphore) k) ≡ footprintIn (mode c) t o k c (turn (s′ .semaphore) k))
+      (places-in t o right k s s′ (a .size) control-too (a .data-size) (mode (at s k)) (a .read))
 
-  same-written : (p : Place) → Writes t k s p → Same p (step t k s) (step t k s′)
+  same-written : (p : Place) → Writes t o k s p → Same p (step t k s) (step t k s′)
   unfolding footprint step
   same-written p h =
-      subst (λ (n : ℕ). Same p (stepIn (mode (at s k)) t k (at s k) s) (stepIn n t k (at s′ k) s′)) (same-mode t k s s′ control-too)
-      (same-in t k s s′ (a .size) control-too (mode (at s k)) refl (a .read) p h)
+      in-s′ t o right k s s′ (a .size) control-too (a .data-size) (λ (c : Core). Same p (stepIn (mode (at s k)) t k (at s k) s) (stepIn (mode c) t k c s′))
+      (same-in t o right k s s′ (a .size) control-too (a .data-size) (mode (at s k)) refl (a .read) p h)
 
   -- core k's registers after the step, written or not
-  same-control : controlOf (at (step t k s) k) ≡ controlOf (at (step t k s′) k)
-  same-control = go (in? (control k) (footprint t k s .writes))
+  same-control-after : controlOf (at (step t k s) k) ≡ controlOf (at (step t k s′) k)
+  same-control-after = go (in? (control k) (footprint t o k s .writes))
     where
-      go : Dec (Writes t k s (control k)) → controlOf (at (step t k s) k) ≡ controlOf (at (step t k s′) k)
+      go : Dec (Writes t o k s (control k)) → controlOf (at (step t k s) k) ≡ controlOf (at (step t k s′) k)
       go (yes h) = same-written (control k) h
-      go (no n) = sym (unwritten t k s (control k) n) ∙ control-too ∙ unwritten t k s′ (control k) (rw same-places at n)
+      go (no n) = sym (unwritten t o right k s (control k) n) ∙ control-too ∙ unwritten t o right k s′ (control k) (rw same-places at n)
 
   same-taking : takingOf t k s ≡ takingOf t k s′
   unfolding takingOf
-  same-taking = λ x. taken (control-too x .registers .mode) (same-control x .registers .mode) k
+  same-taking = λ x. taken (control-too x .registers .mode) (same-control-after x .registers .mode) k
 
 -- The places of document 01's six modes are those of the step
-pub footprint-right : (t : Task) → Laws t → (k : ℕ) (s : State) → FootprintRight t k s
-footprint-right t l k s = record {
-  changes = unwritten t k s;
+pub footprint-right : (t : Task) → Laws t → (o : DataFootprints) → DataFootprintsRight t o → (k : ℕ) (s : State) → FootprintRight t o k s
+footprint-right t l o right k s = record {
+  changes = unwritten t o right k s;
   cores-number = lengths t l k s .cores;
+  data-sizes = lengths t l k s .memories;
   shared-size = lengths t l k s .shared;
-  places = same-places t k s;
-  written = same-written t k s;
-  taking = same-taking t k s;
+  places = same-places t o right k s;
+  written = same-written t o right k s;
+  taking = same-taking t o right k s;
 }
 
 -- ---- no races
 
--- a place of core k's step: its registers, its data, the semaphore, or in an exchange a shared byte
+-- a place of core k's step: its registers, a byte of its data, the semaphore, or in an exchange a shared byte
 data Kind (k : ℕ) (c : Core) (p : Place) : Type 0 where
   its-control : p ≡ control k → Kind k c p
-  its-data : p ≡ local k → Kind k c p
+  its-data : (i : ℕ) → p ≡ local k i → Kind k c p
   asked : p ≡ semaphore → Kind k c p
   copied : (i : ℕ) → p ≡ byte i → Holding c → Kind k c p
 
 record Kinds (k : ℕ) (c : Core) (ps : List Place) : Type 0 where
   each : (p : Place) → In p ps → Kind k c p
 
-module _ (t : Task) (k : ℕ) (c : Core) where
+module _ (t : Task) (o : DataFootprints) (k : ℕ) (c : Core) where
   none-at-all : Kinds k c []
   none-at-all = record { each = λ p h. absurd h }
 
@@ -366,9 +398,6 @@ module _ (t : Task) (k : ℕ) (c : Core) where
   with-control : {ps : List Place} → Kinds k c ps → Kinds k c (control k ∷ ps)
   with-control z = with-one (control k) (its-control refl) z
 
-  with-data : {ps : List Place} → Kinds k c ps → Kinds k c (local k ∷ ps)
-  with-data z = with-one (local k) (its-data refl) z
-
   with-semaphore : {ps : List Place} → Kinds k c ps → Kinds k c (semaphore ∷ ps)
   with-semaphore z = with-one semaphore (asked refl) z
 
@@ -376,145 +405,161 @@ module _ (t : Task) (k : ℕ) (c : Core) where
   with-release [] ps z = with-semaphore z
   with-release (m ∷ ms) ps z = z
 
-  kinds-release : (ms : List Move) → Kinds k c (release ms)
-  kinds-release [] = with-semaphore none-at-all
-  kinds-release (m ∷ ms) = none-at-all
+  kinds-locals : (is : List ℕ) → Kinds k c (locals k is)
+  kinds-locals is = record { each = by-local (Kind k c) k is (λ i m. its-data i refl) }
 
-  kinds-bytes : (f : Move → ℕ) (ms : List Move) → Holding c → Kinds k c (map (λ m. byte (f m)) ms)
-  kinds-bytes f [] y = none-at-all
-  kinds-bytes f (m ∷ ms) y = with-one (byte (f m)) (copied (f m) refl y) (kinds-bytes f ms y)
+  -- the byte that is copied, of data or of shared memory
+  kinds-sources : (place : ℕ → Place) (ms : List Move) → ((i : ℕ) → Kind k c (place i)) → Kinds k c (sources place ms)
+  kinds-sources place [] y = none-at-all
+  kinds-sources place (m ∷ ms) y = with-one (place (m .source)) (y (m .source)) none-at-all
+
+  kinds-targets : (place : ℕ → Place) (ms : List Move) → ((i : ℕ) → Kind k c (place i)) → Kinds k c (targets place ms)
+  kinds-targets place [] y = none-at-all
+  kinds-targets place (m ∷ ms) y = with-one (place (m .target)) (y (m .target)) none-at-all
 
   kinds-unspent : (rs : List Sample) (ps : List Place) → Kinds k c ps → Kinds k c (unspent rs ps)
   kinds-unspent [] ps z = none-at-all
   kinds-unspent (r ∷ rs) ps z = z
 
-  reads-kinds : (n : ℕ) → mode c ≡ n → Kinds k c (footprintIn n t k (c .registers) .reads)
-  reads-kinds zero e = with-control (kinds-unspent (drop (c .registers .cycles) (t .samples k)) (local k ∷ semaphore ∷ []) (with-data (with-semaphore none-at-all)))
-  reads-kinds (suc zero) e =
-      with-control (with-data (with-release (drop 1 (left c (t .reads k))) (sources (take 1 (left c (t .reads k)))) (kinds-bytes (λ m. m .source) (take 1 (left c (t .reads k))) (inl e))))
-  reads-kinds (suc (suc zero)) e = with-control (with-data none-at-all)
-  reads-kinds (suc (suc (suc zero))) e = with-control (with-semaphore none-at-all)
-  reads-kinds (suc (suc (suc (suc zero)))) e = with-control (with-data (kinds-release (drop 1 (left c (t .writes k)))))
-  reads-kinds (suc (suc (suc (suc (suc n))))) e = with-control none-at-all
+  kinds-turn : (b : Bool) (ps : List Place) → Kinds k c ps → Kinds k c (inTurn b k ps)
+  kinds-turn true ps z = with-control (with-semaphore z)
+  kinds-turn false ps z = with-semaphore none-at-all
 
-  writes-kinds : (n : ℕ) → mode c ≡ n → Kinds k c (footprintIn n t k (c .registers) .writes)
-  writes-kinds zero e = kinds-unspent (drop (c .registers .cycles) (t .samples k)) (control k ∷ local k ∷ semaphore ∷ []) (with-control (with-data (with-semaphore none-at-all)))
-  writes-kinds (suc zero) e = with-control (with-data (kinds-release (drop 1 (left c (t .reads k)))))
-  writes-kinds (suc (suc zero)) e = with-control (with-data none-at-all)
-  writes-kinds (suc (suc (suc zero))) e = with-control (with-semaphore none-at-all)
-  writes-kinds (suc (suc (suc (suc zero)))) e =
-      with-control (with-release (drop 1 (left c (t .writes k))) (targets (take 1 (left c (t .writes k)))) (kinds-bytes (λ m. m .target) (take 1 (left c (t .writes k))) (inr e)))
-  writes-kinds (suc (suc (suc (suc (suc n))))) e = none-at-all
+  kinds-inputs : (rs : List Sample) → Kinds k c (inputs k rs)
+  kinds-inputs [] = none-at-all
+  kinds-inputs (r ∷ rs) = kinds-locals (stretch 0 (length (r .input)))
 
-kind : (t : Task) (k : ℕ) (s : State) (p : Place) → Touches t k s p → Kind k (at s k) p
+  reads-kinds : (n : ℕ) (b : Bool) → mode c ≡ n → Kinds k c (footprintIn n t o k c b .reads)
+  reads-kinds zero b e = with-control (kinds-unspent (drop (c .registers .cycles) (t .samples k)) (semaphore ∷ []) (with-semaphore none-at-all))
+  reads-kinds (suc zero) b e =
+      let ms = left c (t .reads k) in with-control (with-release (drop 1 ms) (sources byte ms) (kinds-sources byte ms (λ i. copied i refl (inl e))))
+  reads-kinds (suc (suc zero)) b e = with-control (kinds-locals (o k c .reads))
+  reads-kinds (suc (suc (suc zero))) b e = with-control (with-semaphore none-at-all)
+  reads-kinds (suc (suc (suc (suc zero)))) b e =
+      let ms = left c (t .writes k) in with-control (with-release (drop 1 ms) (sources (local k) ms) (kinds-sources (local k) ms (λ i. its-data i refl)))
+  reads-kinds (suc (suc (suc (suc (suc n))))) b e = with-control none-at-all
+
+  writes-kinds : (n : ℕ) (b : Bool) → mode c ≡ n → Kinds k c (footprintIn n t o k c b .writes)
+  writes-kinds zero b e =
+      let rs = drop (c .registers .cycles) (t .samples k) in kinds-unspent rs (inTurn b k (inputs k rs)) (kinds-turn b (inputs k rs) (kinds-inputs rs))
+  writes-kinds (suc zero) b e =
+      let ms = left c (t .reads k) in with-control (with-release (drop 1 ms) (targets (local k) ms) (kinds-targets (local k) ms (λ i. its-data i refl)))
+  writes-kinds (suc (suc zero)) b e = with-control (kinds-locals (o k c .writes))
+  writes-kinds (suc (suc (suc zero))) b e = kinds-turn b [] none-at-all
+  writes-kinds (suc (suc (suc (suc zero)))) b e =
+      let ms = left c (t .writes k) in with-control (with-release (drop 1 ms) (targets byte ms) (kinds-targets byte ms (λ i. copied i refl (inr e))))
+  writes-kinds (suc (suc (suc (suc (suc n))))) b e = none-at-all
+
+kind : (t : Task) (o : DataFootprints) (k : ℕ) (s : State) (p : Place) → Touches t o k s p → Kind k (at s k) p
 unfolding footprint
-kind t k s p (inl h) = reads-kinds t k (at s k) (mode (at s k)) refl .each p h
-kind t k s p (inr h) = writes-kinds t k (at s k) (mode (at s k)) refl .each p h
+kind t o k s p (inl h) = reads-kinds t o k (at s k) (mode (at s k)) (turn (s .semaphore) k) refl .each p h
+kind t o k s p (inr h) = writes-kinds t o k (at s k) (mode (at s k)) (turn (s .semaphore) k) refl .each p h
 
-module _ (t : Task) (s : State) (x : Held s) where
+module _ (t : Task) (o : DataFootprints) (s : State) (x : Held s) where
   kinds-meet : (j k : ℕ) → j ≢ k → (p : Place) → Kind j (at s j) p → Kind k (at s k) p → p ≡ semaphore
   kinds-meet j k n p (asked e) b = e
   kinds-meet j k n p (its-control e) (asked f) = f
-  kinds-meet j k n p (its-data e) (asked f) = f
+  kinds-meet j k n p (its-data i e) (asked f) = f
   kinds-meet j k n p (copied i e y) (asked f) = f
   kinds-meet j k n p (its-control e) (its-control f) = absurd (n (cc))
-  kinds-meet j k n p (its-data e) (its-data f) = absurd (n (cc))
-  kinds-meet j k n p (its-control e) (its-data f) = absurd (never (cc))
-  kinds-meet j k n p (its-data e) (its-control f) = absurd (never (cc))
+  kinds-meet j k n p (its-data i e) (its-data i′ f) = absurd (n (cc))
+  kinds-meet j k n p (its-control e) (its-data i f) = absurd (never (cc))
+  kinds-meet j k n p (its-data i e) (its-control f) = absurd (never (cc))
   kinds-meet j k n p (its-control e) (copied i f y) = absurd (never (cc))
-  kinds-meet j k n p (its-data e) (copied i f y) = absurd (never (cc))
+  kinds-meet j k n p (its-data i e) (copied i′ f y) = absurd (never (cc))
   kinds-meet j k n p (copied i e y) (its-control f) = absurd (never (cc))
-  kinds-meet j k n p (copied i e y) (its-data f) = absurd (never (cc))
+  kinds-meet j k n p (copied i e y) (its-data i′ f) = absurd (never (cc))
   kinds-meet j k n p (copied i e y) (copied i′ f y′) = absurd (only s x k y′ j n y)
 
   kind-byte : (k i : ℕ) → Kind k (at s k) (byte i) → s .semaphore .holder ≡ suc k
   kind-byte k i (its-control e) = absurd (never (cc))
-  kind-byte k i (its-data e) = absurd (never (cc))
+  kind-byte k i (its-data i′ e) = absurd (never (cc))
   kind-byte k i (asked e) = absurd (never (cc))
   kind-byte k i (copied i′ e y) = x .held k y
 
   kind-control : (j k : ℕ) → Kind k (at s k) (control j) → j ≡ k
   kind-control j k (its-control e) = cc
-  kind-control j k (its-data e) = absurd (never (cc))
+  kind-control j k (its-data i e) = absurd (never (cc))
   kind-control j k (asked e) = absurd (never (cc))
   kind-control j k (copied i e y) = absurd (never (cc))
 
-  kind-local : (j k : ℕ) → Kind k (at s k) (local j) → j ≡ k
-  kind-local j k (its-data e) = cc
-  kind-local j k (its-control e) = absurd (never (cc))
-  kind-local j k (asked e) = absurd (never (cc))
-  kind-local j k (copied i e y) = absurd (never (cc))
+  kind-local : (j i k : ℕ) → Kind k (at s k) (local j i) → j ≡ k
+  kind-local j i k (its-data i′ e) = cc
+  kind-local j i k (its-control e) = absurd (never (cc))
+  kind-local j i k (asked e) = absurd (never (cc))
+  kind-local j i k (copied i′ e y) = absurd (never (cc))
 
   -- In every state whose holder is the core in an exchange, cores do not race
-  pub race-free-held : RaceFree t s
+  pub race-free-held : RaceFree t o s
   race-free-held = record {
-    no-race = λ j k n p w h. kinds-meet j k n p (kind t j s p (inr w)) (kind t k s p h);
-    by-holder = λ k i h. kind-byte k i (kind t k s (byte i) h);
-    control-alone = λ j k h. kind-control j k (kind t k s (control j) h);
-    local-alone = λ j k h. kind-local j k (kind t k s (local j) h);
+    no-race = λ j k n p w h. kinds-meet j k n p (kind t o j s p (inr w)) (kind t o k s p h);
+    by-holder = λ k i h. kind-byte k i (kind t o k s (byte i) h);
+    control-alone = λ j k h. kind-control j k (kind t o k s (control j) h);
+    local-alone = λ j i k h. kind-local j i k (kind t o k s (local j i) h);
   }
 
 -- After every list of steps from a fresh state, cores do not race
-pub race-free : (t : Task) → Laws t → (s : State) → Fresh s → (ks : List ℕ) → RaceFree t (run t ks s)
-race-free t l s f ks = race-free-held t (run t ks s) (held-run t l s f ks)
+pub race-free : (t : Task) → Laws t → (o : DataFootprints) (s : State) → Fresh s → (ks : List ℕ) → RaceFree t o (run t ks s)
+race-free t l o s f ks = race-free-held t o (run t ks s) (held-run t l s f ks)
 
 -- ---- two steps
 
-turned : {t : Task} {j k : ℕ} {s : State} → Independent t j k s → Independent t k j s
+turned : {t : Task} {o : DataFootprints} {j k : ℕ} {s : State} → Independent t o j k s → Independent t o k j s
 turned d = record { different = λ e. d .different (sym e); not-both = λ a b. d .not-both b a }
 
--- the step of another core leaves a step its places
-kept-places : (t : Task) (j k : ℕ) (s : State) → j ≢ k → footprint t j (step t k s) ≡ footprint t j s
-unfolding footprint
-kept-places t j k s n = ap (λ (c : Core). footprintIn (mode c) t j (c .registers)) (others-stay t k s j n)
-
-module _ (t : Task) (l : Laws t) (s : State) (x : Held s) where
+module _ (t : Task) (l : Laws t) (o : DataFootprints) (right : DataFootprintsRight t o) (s : State) (x : Held s) where
   -- what one writes, the other does not touch
-  apart : {j k : ℕ} → Independent t j k s → (p : Place) → Writes t j s p → Touches t k s p → ⊥
-  apart {j} {k} d p w h = let e = race-free-held t s x .no-race j k (d .different) p w h in d .not-both (inr (rw e at w)) (rw e at h)
+  apart : {j k : ℕ} → Independent t o j k s → (p : Place) → Writes t o j s p → Touches t o k s p → ⊥
+  apart {j} {k} d p w h = let e = race-free-held t o s x .no-race j k (d .different) p w h in d .not-both (inr (rw e at w)) (rw e at h)
 
   -- core k's step does not change what core j's reads
-  still-read : {j k : ℕ} → Independent t j k s → SameRead t j s (step t k s)
-  still-read {j} {k} d = record { size = sym (lengths t l k s .shared); read = λ p h. unwritten t k s p (λ w. apart (turned d) p w (inl h)) }
+  still-read : {j k : ℕ} → Independent t o j k s → SameRead t o j s (step t k s)
+  still-read {j} {k} d = record {
+    size = sym (lengths t l k s .shared);
+    data-size = sym (lengths t l k s .memories j);
+    read = λ p h. unwritten t o right k s p (λ w. apart (turned d) p w (inl h));
+  }
 
   -- what core k's step does not write from s, it does not write after core j's step either
-  then-kept : {j k : ℕ} → Independent t j k s → (p : Place) → (Writes t k s p → ⊥) → Same p (step t j s) (step t k (step t j s))
-  then-kept {j} {k} d p n = unwritten t k (step t j s) p (λ w. n (rw (kept-places t k j s (λ e. d .different (sym e))) at w))
+  then-kept : {j k : ℕ} → Independent t o j k s → (p : Place) → (Writes t o k s p → ⊥) → Same p (step t j s) (step t k (step t j s))
+  then-kept {j} {k} d p n = unwritten t o right k (step t j s) p (λ w. n (rw (← same-places t o right k s (step t j s) (still-read (turned d))) at w))
 
   -- what core j's step writes stands there in the end, whichever comes first
-  either-way : {j k : ℕ} → Independent t j k s → (p : Place) → Writes t j s p → Same p (step t k (step t j s)) (step t j (step t k s))
-  either-way {j} {k} d p w = sym (then-kept d p (λ h. apart d p w (inr h))) ∙ same-written t j s (step t k s) (still-read d) p w
+  either-way : {j k : ℕ} → Independent t o j k s → (p : Place) → Writes t o j s p → Same p (step t k (step t j s)) (step t j (step t k s))
+  either-way {j} {k} d p w = sym (then-kept d p (λ h. apart d p w (inr h))) ∙ same-written t o right j s (step t k s) (still-read d) p w
 
-  commute : {j k : ℕ} → Independent t j k s → step t k (step t j s) ≡ step t j (step t k s)
+  commute : {j k : ℕ} → Independent t o j k s → step t k (step t j s) ≡ step t j (step t k s)
   commute {j} {k} d =
       same-state (step t k (step t j s)) (step t j (step t k s))
       (lengths t l k (step t j s) .cores ∙ lengths t l j s .cores ∙ sym (lengths t l j (step t k s) .cores ∙ lengths t l k s .cores))
+      (λ i. lengths t l k (step t j s) .memories i ∙ lengths t l j s .memories i ∙ sym (lengths t l j (step t k s) .memories i ∙ lengths t l k s .memories i))
       (lengths t l k (step t j s) .shared ∙ lengths t l j s .shared ∙ sym (lengths t l j (step t k s) .shared ∙ lengths t l k s .shared))
-      (λ p. go p (in? p (footprint t j s .writes)) (in? p (footprint t k s .writes)))
+      (λ p. go p (in? p (footprint t o j s .writes)) (in? p (footprint t o k s .writes)))
     where
-      go : (p : Place) → Dec (Writes t j s p) → Dec (Writes t k s p) → Same p (step t k (step t j s)) (step t j (step t k s))
+      go : (p : Place) → Dec (Writes t o j s p) → Dec (Writes t o k s p) → Same p (step t k (step t j s)) (step t j (step t k s))
       go p (yes w) b = either-way d p w
       go p (no a) (yes w) = sym (either-way (turned d) p w)
-      go p (no a) (no b) = sym (unwritten t j s p a ∙ then-kept d p b) ∙ unwritten t k s p b ∙ then-kept (turned d) p a
+      go p (no a) (no b) = sym (unwritten t o right j s p a ∙ then-kept d p b) ∙ unwritten t o right k s p b ∙ then-kept (turned d) p a
 
 -- a taking touches the semaphore
-taking-asks : (t : Task) (k : ℕ) (s s′ : State) (ts : List Taking) → Moves t k s s′ ts → (ts ≡ []) ⊎ Touches t k s semaphore
+taking-asks : (t : Task) (o : DataFootprints) (k : ℕ) (s s′ : State) (ts : List Taking) → Moves t k s s′ ts → (ts ≡ []) ⊎ Touches t o k s semaphore
 unfolding footprint
-taking-asks t k s s′ ts (rests z) = inl refl
-taking-asks t k s s′ ts (waits i w b) = inl refl
-taking-asks t k s s′ ts (takesRead r rs i f b e d) = inr (inr (rw (e, d) (inr (inr (inl refl)))))
-taking-asks t k s s′ ts (readsOn m ms i e d) = inl refl
-taking-asks t k s s′ ts (readsLast i e d) = inl refl
-taking-asks t k s s′ ts (runs i e) = inl refl
-taking-asks t k s s′ ts (takesWrite i f b e) = inr (inr (rw e (inr (inl refl))))
-taking-asks t k s s′ ts (writesOn m ms i e d) = inl refl
-taking-asks t k s s′ ts (writesLast i e d) = inl refl
+taking-asks t o k s s′ ts (rests z) = inl refl
+taking-asks t o k s s′ ts (waits i w b) = inl refl
+taking-asks t o k s s′ ts (takesRead r rs i f b e d) = inr (inl (rw (e, d) (inr (inl refl))))
+taking-asks t o k s s′ ts (readsOn m ms i e d) = inl refl
+taking-asks t o k s s′ ts (readsLast i e d) = inl refl
+taking-asks t o k s s′ ts (runs i e) = inl refl
+taking-asks t o k s s′ ts (takesWrite i f b e) = inr (inl (rw e (inr (inl refl))))
+taking-asks t o k s s′ ts (writesOn m ms i e d) = inl refl
+taking-asks t o k s s′ ts (writesLast i e d) = inl refl
 
 -- of two such steps at most one is a taking
-one-takes : (t : Task) (j k : ℕ) (s : State) → Independent t j k s → (ts : List Taking) → takingOf t j s ++ (takingOf t k s ++ ts) ≡ takingOf t k s ++ (takingOf t j s ++ ts)
-one-takes t j k s d ts = go (taking-asks t j s _ _ (view t j s)) (taking-asks t k s _ _ (view t k s))
+one-takes : (t : Task) (o : DataFootprints) (j k : ℕ) (s : State) → Independent t o j k s → (ts : List Taking)
+    → takingOf t j s ++ (takingOf t k s ++ ts) ≡ takingOf t k s ++ (takingOf t j s ++ ts)
+one-takes t o j k s d ts = go (taking-asks t o j s _ _ (view t j s)) (taking-asks t o k s _ _ (view t k s))
   where
-    go : (takingOf t j s ≡ []) ⊎ Touches t j s semaphore → (takingOf t k s ≡ []) ⊎ Touches t k s semaphore
+    go : (takingOf t j s ≡ []) ⊎ Touches t o j s semaphore → (takingOf t k s ≡ []) ⊎ Touches t o k s semaphore
         → takingOf t j s ++ (takingOf t k s ++ ts) ≡ takingOf t k s ++ (takingOf t j s ++ ts)
     go (inl e) y = rw e
     go (inr h) (inl e) = rw e
@@ -522,17 +567,17 @@ one-takes t j k s d ts = go (taking-asks t j s _ _ (view t j s)) (taking-asks t 
 
 -- ---- lists of steps
 
-module _ (t : Task) (l : Laws t) where
-  swap-alike : {j k : ℕ} (ks : List ℕ) (s : State) → Held s → Independent t j k s → Alike t (j ∷ k ∷ ks) (k ∷ j ∷ ks) s
+module _ (t : Task) (l : Laws t) (o : DataFootprints) (right : DataFootprintsRight t o) where
+  swap-alike : {j k : ℕ} (ks : List ℕ) (s : State) → Held s → Independent t o j k s → Alike t (j ∷ k ∷ ks) (k ∷ j ∷ ks) s
   swap-alike {j} {k} ks s x d = record {
-    end = ap (run t ks) (commute t l s x d);
+    end = ap (run t ks) (commute t l o right s x d);
     takings-same =
-        rw (← same-taking t j s (step t k s) (still-read t l s x d), ← same-taking t k s (step t j s) (still-read t l s x (turned d)), commute t l s x d)
-        (one-takes t j k s d (takings t ks (step t j (step t k s))));
+        rw (← same-taking t o right j s (step t k s) (still-read t l o right s x d), ← same-taking t o right k s (step t j s) (still-read t l o right s x (turned d)), commute t l o right s x d)
+        (one-takes t o j k s d (takings t ks (step t j (step t k s))));
   }
 
   -- Lists of steps from such a state that differ by such changes of places end alike, with the same takings
-  pub alike : {s : State} {js ks : List ℕ} → Held s → Swaps t s js ks → Alike t js ks s
+  pub alike : {s : State} {js ks : List ℕ} → Held s → Swaps t o s js ks → Alike t js ks s
   alike x none = record { end = refl; takings-same = refl }
   alike {s} x (swap {ks = ks} d) = swap-alike ks s x d
   alike {s} x (later {k = k} w) =
@@ -540,39 +585,84 @@ module _ (t : Task) (l : Laws t) where
   alike x (more v w) = let y = alike x v in let z = alike x w in record { end = y .end ∙ z .end; takings-same = y .takings-same ∙ z .takings-same }
 
   -- After every list of steps from a fresh state: two steps of different cores that do not both touch the semaphore can change places
-  pub steps-commute : (s : State) → Fresh s → (is : List ℕ) (j k : ℕ) → Independent t j k (run t is s) → Alike t (j ∷ k ∷ []) (k ∷ j ∷ []) (run t is s)
+  pub steps-commute : (s : State) → Fresh s → (is : List ℕ) (j k : ℕ) → Independent t o j k (run t is s) → Alike t (j ∷ k ∷ []) (k ∷ j ∷ []) (run t is s)
   steps-commute s f is j k d = swap-alike [] (run t is s) (held-run t l s f is) d
 
   -- Lists of steps from a fresh state that differ by such changes of places end alike, with the same takings
-  pub swaps-alike : (s : State) → Fresh s → (js ks : List ℕ) → Swaps t s js ks → Alike t js ks s
+  pub swaps-alike : (s : State) → Fresh s → (js ks : List ℕ) → Swaps t o s js ks → Alike t js ks s
   swaps-alike s f js ks w = alike (held-fresh s f) w
 
 -- Changes of places can be taken back
-pub swaps-back : {t : Task} {s : State} {js ks : List ℕ} → Swaps t s js ks → Swaps t s ks js
+pub swaps-back : {t : Task} {o : DataFootprints} {s : State} {js ks : List ℕ} → Swaps t o s js ks → Swaps t o s ks js
 swaps-back none = none
 swaps-back (swap d) = swap (turned d)
 swaps-back (later w) = later (swaps-back w)
 swaps-back (more v w) = more (swaps-back w) (swaps-back v)
 
--- An instruction does not touch the semaphore
-pub instruction-alone : (t : Task) (k : ℕ) (s : State) → mode (at s k) ≡ 2 → Touches t k s semaphore → ⊥
-unfolding footprint
-instruction-alone t k s e h = go (rw e at h)
+-- data, or a byte that is copied, is not the semaphore
+not-data : (k : ℕ) (is : List ℕ) → In semaphore (locals k is) → ⊥
+not-data k is h = go (by-local (λ (p : Place). p ≢ semaphore) k is (λ i m e. never (cc)) semaphore h)
   where
-    go : In semaphore (control k ∷ local k ∷ []) ⊎ In semaphore (control k ∷ local k ∷ []) → ⊥
+    go : semaphore ≢ semaphore → ⊥
+    go n = n refl
+
+not-target : (place : ℕ → Place) → ((i : ℕ) → semaphore ≢ place i) → (ms : List Move) → In semaphore (targets place ms) → ⊥
+not-target place n [] h = h
+not-target place n (m ∷ ms) (inl e) = n (m .target) e
+not-target place n (m ∷ ms) (inr h) = h
+
+-- An instruction does not touch the semaphore
+pub instruction-alone : (t : Task) (o : DataFootprints) (k : ℕ) (s : State) → mode (at s k) ≡ 2 → Touches t o k s semaphore → ⊥
+unfolding footprint
+instruction-alone t o k s e h = go (rw e at h)
+  where
+    go : In semaphore (control k ∷ locals k (o k (at s k) .reads)) ⊎ In semaphore (control k ∷ locals k (o k (at s k) .writes)) → ⊥
     go (inl (inl z)) = never (cc)
-    go (inl (inr (inl z))) = never (cc)
-    go (inl (inr (inr z))) = z
+    go (inl (inr m)) = not-data k (o k (at s k) .reads) m
     go (inr (inl z)) = never (cc)
-    go (inr (inr (inl z))) = never (cc)
-    go (inr (inr (inr z))) = z
+    go (inr (inr m)) = not-data k (o k (at s k) .writes) m
+
+-- a step that touches the semaphore reads it, whosever turn it is
+module _ (t : Task) (o : DataFootprints) (k : ℕ) (c : Core) (b b′ : Bool) where
+  released-read : (place from-place : ℕ → Place) → ((i : ℕ) → semaphore ≢ place i) → (ns ms : List Move) → In semaphore (control k ∷ release ns ++ targets place ms)
+      → In semaphore (control k ∷ release ns ++ sources from-place ms)
+  released-read place from-place n ns ms (inl z) = inl z
+  released-read place from-place n ns ms (inr h) = go (in-append semaphore (release ns) (targets place ms) h)
+    where
+      go : In semaphore (release ns) ⊎ In semaphore (targets place ms) → In semaphore (control k ∷ release ns ++ sources from-place ms)
+      go (inl r) = inr (in-left semaphore (release ns) (sources from-place ms) r)
+      go (inr r) = absurd (not-target place n ms r)
+
+  asks-in : (n : ℕ) → In semaphore (footprintIn n t o k c b .reads) ⊎ In semaphore (footprintIn n t o k c b .writes) → In semaphore (footprintIn n t o k c b′ .reads)
+  asks-in zero (inl h) = h
+  asks-in zero (inr h) = go (drop (c .registers .cycles) (t .samples k)) h
+    where
+      go : (rs : List Sample) → In semaphore (unspent rs (inTurn b k (inputs k rs))) → In semaphore (control k ∷ unspent rs (semaphore ∷ []))
+      go [] h = absurd h
+      go (r ∷ rs) h = inr (inl refl)
+  asks-in (suc zero) (inl h) = h
+  asks-in (suc zero) (inr h) = let ms = left c (t .reads k) in released-read (local k) byte (λ i e. never (cc)) (drop 1 ms) ms h
+  asks-in (suc (suc zero)) (inl h) = h
+  asks-in (suc (suc zero)) (inr (inl z)) = inl z
+  asks-in (suc (suc zero)) (inr (inr h)) = absurd (not-data k (o k c .writes) h)
+  asks-in (suc (suc (suc zero))) h = inr (inl refl)
+  asks-in (suc (suc (suc (suc zero)))) (inl h) = h
+  asks-in (suc (suc (suc (suc zero)))) (inr h) = let ms = left c (t .writes k) in released-read byte (local k) (λ i e. never (cc)) (drop 1 ms) ms h
+  asks-in (suc (suc (suc (suc (suc n))))) (inl h) = h
+  asks-in (suc (suc (suc (suc (suc n))))) (inr h) = absurd h
+
+-- the step of another core leaves it so that a step does not touch the semaphore
+still-alone : (t : Task) (o : DataFootprints) (j k : ℕ) (s : State) → k ≢ j → (Touches t o k s semaphore → ⊥) → Touches t o k (step t j s) semaphore → ⊥
+unfolding footprint
+still-alone t o j k s n u h = u (inl (asks-in t o k (at s k) (turn (step t j s .semaphore) k) (turn (s .semaphore) k) (mode (at s k)) (rw (others-stay t j s k n) at h)))
 
 -- A step that does not touch the semaphore can go before any steps of other cores
-pub step-first : (t : Task) (s : State) (k : ℕ) (js ks : List ℕ) → ((j : ℕ) → In j js → j ≢ k) → (Touches t k s semaphore → ⊥) → Swaps t s (js ++ (k ∷ ks)) (k ∷ (js ++ ks))
-step-first t s k [] ks n u = none
-step-first t s k (j ∷ js) ks n u =
+pub step-first : (t : Task) (o : DataFootprints) (s : State) (k : ℕ) (js ks : List ℕ) → ((j : ℕ) → In j js → j ≢ k) → (Touches t o k s semaphore → ⊥)
+    → Swaps t o s (js ++ (k ∷ ks)) (k ∷ (js ++ ks))
+step-first t o s k [] ks n u = none
+step-first t o s k (j ∷ js) ks n u =
     more
-    (later (step-first t (step t j s) k js ks (λ i h. n i (inr h)) (rw (← kept-places t k j s (λ e. n j (inl refl) (sym e))) at u)))
+    (later (step-first t o (step t j s) k js ks (λ i h. n i (inr h)) (still-alone t o j k s (λ e. n j (inl refl) (sym e)) u)))
     (swap record { different = n j (inl refl); not-both = λ a b. u b })
 
 -- the first steps of both cores of a small task set, in two orders: who steps first holds the semaphore

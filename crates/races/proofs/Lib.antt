@@ -1,1 +1,2 @@
 pub mod Footprint
+pub mod Stretch
