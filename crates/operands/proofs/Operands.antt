@@ -28,7 +28,8 @@ use Rattle.protocol.specs.State.{Core, Task}
 use Rattle.protocol.specs.Instruction.{Executed, backFrom, appliedBy, applied, halted, limited, instructionBy}
 use Rattle.protocol.specs.Variables.{In}
 use Rattle.protocol.proofs.Bytes.{in-left, in-right}
-use Rattle.races.specs.Footprint.{Control, controlOf, stretch, DataFootprint, DataFootprintsRight}
+use Rattle.races.specs.Footprint.{controlOf, stretch, DataFootprint, DataFootprintsRight}
+use Rattle.races.proofs.Footprint.{withData, by-control}
 use Rattle.races.proofs.Stretch.{splice-outside, splice-inside, read-alike, part-alike}
 use Rattle.code.specs.declared.Instruction.{Instruction}
 use Rattle.code.specs.declared.Instruction.the-variants.{Return, Jump, JumpZero, JumpNotZero, CallInstance, CallFunction, MoveConstant, CopyMemory, ReadElement, WriteElement, Typed, CycleTime, FlagByte, Convert, Pack, Unpack, Unknown}
@@ -251,7 +252,7 @@ back-memory (suc n) m x = refl
 -- cores with the same registers and call stack, x and that with the data d′
 module _ (x : Core) (d′ : List ℕ) (size : length (x .memory) ≡ length d′) where
   abbrev other : Core
-  other = record { registers = x .registers; stack = x .stack; memory = d′ }
+  other = withData (controlOf x) d′
 
   outcome-same : {ws : List ℕ} {y y′ : Executed} → Answers (x .memory) d′ ws y y′ → y .outcome ≡ y′ .outcome
   outcome-same (halts b) = refl
@@ -328,10 +329,6 @@ fault-reads (Fault b) f = refl
 fault-reads (Next p) f = refl
 fault-reads (Call next target offset) f = refl
 fault-reads Returned f = refl
-
--- what holds of a core's registers and call stack with another's data holds of the other, where these are the same
-by-control : (P : Core → Type 0) (x x′ : Core) → controlOf x ≡ controlOf x′ → P (record { registers = x .registers; stack = x .stack; memory = x′ .memory }) → P x′
-by-control P x x′ e h = subst (λ (k : Control). P (record { registers = k .registers; stack = k .stack; memory = x′ .memory })) e h
 
 module _ (limit : ℕ) (c : List ℕ) (x : Core) where
   kept-bytes : (i : ℕ) → (In i (dataFootprint limit c x .writes) → ⊥) → getD (x .memory) i 0 ≡ getD (afterwards limit c x .memory) i 0

@@ -77,8 +77,12 @@ by-local P k (x ∷ is) f p (inl e) = subst P (sym e) (f x (inl refl))
 by-local P k (x ∷ is) f p (inr h) = by-local P k is (λ i m. f i (inr m)) p h
 
 -- a core is its registers with its call stack, and its data
-abbrev withData : Control → List ℕ → Core
+abbrev pub withData : Control → List ℕ → Core
 withData c m = record { registers = c .registers; stack = c .stack; memory = m }
+
+-- what holds of c's registers and call stack with the data of c′ holds of c′, where these are the same
+pub by-control : (P : Core → Type 0) (c c′ : Core) → controlOf c ≡ controlOf c′ → P (withData (controlOf c) (c′ .memory)) → P c′
+by-control P c c′ e x = subst (λ (z : Control). P (withData z (c′ .memory))) e x
 
 same-core : (c c′ : Core) → controlOf c ≡ controlOf c′ → length (c .memory) ≡ length (c′ .memory) → ((i : ℕ) → getD (c .memory) i 0 ≡ getD (c′ .memory) i 0) → c ≡ c′
 same-core c c′ e l m = λ x. record { registers = e x .registers; stack = e x .stack; memory = ext-getD 0 (c .memory) (c′ .memory) l (λ i h. m i) x }
@@ -276,10 +280,6 @@ module _ (t : Task) (o : DataFootprints) (right : DataFootprintsRight t o) (k : 
   abbrev there-too : Core
   there-too = withData (controlOf (at s k)) (at s′ k .memory)
 
-  -- what a step of s′ gives is what it gives to that core
-  in-s′ : (P : Core → Type 0) → P there-too → P (at s′ k)
-  in-s′ P x = subst (λ (c : Control). P (withData c (at s′ k .memory))) same x
-
   same-sources : ((p : Place) → In p (control k ∷ locals k (o k (at s k) .reads)) → Same p s s′) → SameSources o k (at s k) there-too
   same-sources a = record { same-control = refl; size = data-size; read = λ i h. a (local k i) (inr (in-locals k (o k (at s k) .reads) i h)) }
 
@@ -338,13 +338,13 @@ module _ (t : Task) (o : DataFootprints) (right : DataFootprintsRight t o) (k : 
   same-places : footprint t o k s ≡ footprint t o k s′
   unfolding footprint
   same-places =
-      in-s′ t o right k s s′ (a .size) control-too (a .data-size) (λ (c : Core). footprintIn (mode (at s k)) t o k (at s k) (turn (s .semaphore) k) ≡ footprintIn (mode c) t o k c (turn (s′ .semaphore) k))
+      by-control (λ (c : Core). footprintIn (mode (at s k)) t o k (at s k) (turn (s .semaphore) k) ≡ footprintIn (mode c) t o k c (turn (s′ .semaphore) k)) (at s k) (at s′ k) control-too
       (places-in t o right k s s′ (a .size) control-too (a .data-size) (mode (at s k)) (a .read))
 
   same-written : (p : Place) → Writes t o k s p → Same p (step t k s) (step t k s′)
   unfolding footprint step
   same-written p h =
-      in-s′ t o right k s s′ (a .size) control-too (a .data-size) (λ (c : Core). Same p (stepIn (mode (at s k)) t k (at s k) s) (stepIn (mode c) t k c s′))
+      by-control (λ (c : Core). Same p (stepIn (mode (at s k)) t k (at s k) s) (stepIn (mode c) t k c s′)) (at s k) (at s′ k) control-too
       (same-in t o right k s s′ (a .size) control-too (a .data-size) (mode (at s k)) refl (a .read) p h)
 
   -- core k's registers after the step, written or not
