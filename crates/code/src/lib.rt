@@ -373,7 +373,7 @@ fn inside(low: u8, high: u8, x: u8) -> bool
 // ---- one instruction, judged
 
 // Whether the command with this code byte is typed and takes type t.
-fn takes_type(code: u8, t: u8) -> bool
+pub fn takes_type(code: u8, t: u8) -> bool
     ensures { λ r. ⌜ r ≡ takes code t ⌝ }
 {
     if inside(16, 17, code) {

@@ -1,5 +1,5 @@
 -- Laws of a command's answer, over its code byte and operands. In order: what is given; what the test of the addresses gives; a store by its width; the ways that a command ends;
--- the code byte that a `match` found. Assumes nothing.
+-- the type that a `match` found. Assumes nothing.
 use Prim.Native.Nat.{ℕ, _+_, _^_, _≤_, _<_}
 use mathlib.Core.Bool.{Bool, true, false}
 use mathlib.Core.List.{List}
@@ -115,10 +115,8 @@ module _ (code : ℕ) (o : Operands) (s : List ℕ) (n m k : ℕ) (r : Bool) (e 
         ∙ ap (λ (x : ℕ). attempt Done (splice s (o .to) (bytesLE x (command code (o .kind) (readLE s (o .first) (widthOf (o .kind))) (readLE s (o .second) (secondWidth code (o .kind))))))) wide
         ∙ sym (pick-false _ _ _ (sym tested ∙ f) ∙ pick-false _ _ _ z)
 
--- ---- the code byte that a `match` found
+-- ---- the type k that a `match` found
 
-pub given-at : {code : ℕ} {o : Operands} (k : ℕ) → code ≡ k → Given code o → Given k o
-given-at {code} {o} k e g = subst (λ (n : ℕ). Given n o) e g
-
-pub attempted-at : (code k : ℕ) (o : Operands) (s t : List ℕ) (p : Performed) → code ≡ k → attempt p t ≡ attempted k o s → attempt p t ≡ attempted code o s
-attempted-at code k o s t p e h = h ∙ ap (λ (n : ℕ). attempted n o s) (sym e)
+pub command-at : (code t k : ℕ) (s : List ℕ) (a b r : ℕ) → t ≡ k → r ≡ command code k (readLE s a (widthOf k)) (readLE s b (widthOf k))
+    → r ≡ command code t (readLE s a (widthOf t)) (readLE s b (widthOf t))
+command-at code t k s a b r e h = h ∙ ap (λ (n : ℕ). command code n (readLE s a (widthOf n)) (readLE s b (widthOf n))) (sym e)

@@ -2,6 +2,7 @@
 use Prim.Native.Nat.{ℕ, _<_}
 use mathlib.Core.Bool.{true}
 use mathlib.Core.List.{List}
+use mathlib.Core.Option.{Option, none, some}
 use mathlib.Core.Path.{_≡_}
 use lib.ListN.{length}
 use Rattle.verdict.specs.Verdict.{pick}
@@ -12,21 +13,30 @@ use Rattle.commands.specs.declared.Operands.{Operands}
 use Rattle.commands.specs.declared.Performed.{Performed}
 use Rattle.commands.specs.declared.Performed.the-variants.{Done, Beyond, ByZero}
 
--- ---- an answer with the data afterwards
+-- ---- an answer, by document 01's number for it, with the data afterwards
+
+-- "Bits: .. 3 zero divisor, 4 address beyond the data": the flag bit of the fault that an answer is; a command that is done has none
+abbrev pub flagBit : Performed → Option ℕ
+flagBit Done = none
+flagBit Beyond = some 4
+flagBit ByZero = some 3
 
 pub record Attempt : Type 0 where
-  pub answer : Performed
+  pub fault : Option ℕ
   pub memory : List ℕ
 
+abbrev pub ending : Option ℕ → List ℕ → Attempt
+ending f m = record { fault = f; memory = m }
+
 abbrev pub attempt : Performed → List ℕ → Attempt
-attempt p m = record { answer = p; memory = m }
+attempt p m = ending (flagBit p) m
 
 -- the command with this code byte on the data s
 unfoldable pub attempted : ℕ → Operands → List ℕ → Attempt
 attempted code o s =
-    pick (typedBeyond code (o .kind) (length s) (o .to) (o .first) (o .second)) (attempt Beyond s)
-    (pick (zeroDivisor code (o .kind) (readLE s (o .second) (secondWidth code (o .kind)))) (attempt ByZero s)
-    (attempt Done (performed code (o .kind) s (o .to) (o .first) (o .second))))
+    pick (typedBeyond code (o .kind) (length s) (o .to) (o .first) (o .second)) (ending (some 4) s)
+    (pick (zeroDivisor code (o .kind) (readLE s (o .second) (secondWidth code (o .kind)))) (ending (some 3) s)
+    (ending none (performed code (o .kind) s (o .to) (o .first) (o .second))))
 
 -- ---- what it asks: a type on the command's list; places of addresses are below 98,304
 

@@ -2,10 +2,9 @@
 // A width w is in bytes. A command leaves a value of a kind that it does not take as it is; no accepted code asks for that.
 ghost use mathlib.Core.Path.{_≡_};
 ghost use mathlib.Core.Bool.{true, false};
-ghost use Prim.Native.Nat.{_+_, _%_, _^_, _≤_, _<_};
+ghost use Prim.Native.Nat.{_+_, _^_, _≤_, _<_};
 ghost use lib.ListN.{length};
-ghost use lib.Dec.{leb, eqb};
-ghost use Rattle.verdict.specs.Verdict.{both, either, within};
+ghost use Rattle.verdict.specs.Verdict.{either};
 ghost use Rattle.memory.specs.Memory.{splice, bytesLE, readLE};
 ghost use Rattle.values.specs.Types.{widthOf, takes};
 ghost use Rattle.values.specs.Width.{Width};
@@ -274,72 +273,18 @@ pub fn ne(a: Value, b: Value) -> bool
     }
 }
 
-// Whether t is one of the types from low to high.
-fn among(low: u8, high: u8, t: u8) -> bool
-    ensures { λ r. ⌜ r ≡ within low high t ⌝ }
+// Whether one of the operands is beyond the data: the result of n bytes, the sources of m and k bytes.
+fn beyond(size: usize, o: Operands, n: usize, m: usize, k: usize) -> bool
+    requires { ⌜ (o .to + n < 2 ^ 64) × (o .first + m < 2 ^ 64) × (o .second + k < 2 ^ 64) ⌝ }
+    ensures { λ r. ⌜ r ≡ either (beyond size (o .to) n) (anyBeyond size (o .first) m (o .second) k) ⌝ }
 {
-    if t < low {
-        return false;
-    }
-    t <= high
-}
-
-// Whether t is a type of bits: BOOL, BYTE, WORD, DWORD or LWORD.
-fn of_bits(t: u8) -> bool
-    ensures { λ r. ⌜ r ≡ both (leb t 8) (eqb (t % 2) 0) ⌝ }
-{
-    if 8 < t {
-        return false;
-    }
-    t % 2 == 0
-}
-
-// Whether the command with this code byte takes the type t.
-pub fn takes_type(code: u8, t: u8) -> bool
-    ensures { λ r. ⌜ r ≡ takes code t ⌝ }
-{
-    if code < 16 {
-        return false;
-    }
-    if code < 18 {
-        return among(1, 11, t);
-    }
-    if code < 20 {
-        return among(1, 10, t);
-    }
-    if code < 21 {
-        return among(1, 8, t);
-    }
-    if code < 24 {
-        return false;
-    }
-    if code < 28 {
-        return of_bits(t);
-    }
-    if code < 32 {
-        if t < 2 {
-            return false;
-        }
-        return of_bits(t);
-    }
-    if code < 38 {
-        return t <= 11;
-    }
-    false
-}
-
-// Whether one of three operands is beyond the data: n bytes at p, m bytes at q, k bytes at s.
-fn beyond(size: usize, p: usize, n: usize, q: usize, m: usize, s: usize, k: usize) -> bool
-    requires { ⌜ (p + n < 2 ^ 64) × (q + m < 2 ^ 64) × (s + k < 2 ^ 64) ⌝ }
-    ensures { λ r. ⌜ r ≡ either (beyond size p n) (anyBeyond size q m s k) ⌝ }
-{
-    if size < p + n {
+    if size < o.to + n {
         return true;
     }
-    if size < q + m {
+    if size < o.first + m {
         return true;
     }
-    size < s + k
+    size < o.second + k
 }
 
 // Whether DIV of a whole-number type would have a zero divisor.
@@ -406,15 +351,11 @@ pub fn add_at(d: &mut [u8], o: Operands) -> Performed
     requires { ⌜ Given 16 o ⌝ }
     ensures { λ r. ⌜ attempt r (now (d .exit)) ≡ attempted 16 o (now (d .entry)) ⌝ }
 {
-    let t = o.kind;
-    let to = o.to;
-    let a = o.first;
-    let b = o.second;
-    let w = values::width_of(t);
-    if beyond(d.len(), to, w, a, w, b, w) {
+    let w = values::width_of(o.kind);
+    if beyond(d.len(), o, w, w, w) {
         return Performed::Beyond;
     }
-    put(d, w, to, add_of(d, t, a, b))
+    put(d, w, o.to, add_of(d, o.kind, o.first, o.second))
 }
 
 fn sub_of(d: &[u8], t: u8, a: usize, b: usize) -> u64
@@ -440,15 +381,11 @@ pub fn sub_at(d: &mut [u8], o: Operands) -> Performed
     requires { ⌜ Given 17 o ⌝ }
     ensures { λ r. ⌜ attempt r (now (d .exit)) ≡ attempted 17 o (now (d .entry)) ⌝ }
 {
-    let t = o.kind;
-    let to = o.to;
-    let a = o.first;
-    let b = o.second;
-    let w = values::width_of(t);
-    if beyond(d.len(), to, w, a, w, b, w) {
+    let w = values::width_of(o.kind);
+    if beyond(d.len(), o, w, w, w) {
         return Performed::Beyond;
     }
-    put(d, w, to, sub_of(d, t, a, b))
+    put(d, w, o.to, sub_of(d, o.kind, o.first, o.second))
 }
 
 fn mul_of(d: &[u8], t: u8, a: usize, b: usize) -> u64
@@ -473,15 +410,11 @@ pub fn mul_at(d: &mut [u8], o: Operands) -> Performed
     requires { ⌜ Given 18 o ⌝ }
     ensures { λ r. ⌜ attempt r (now (d .exit)) ≡ attempted 18 o (now (d .entry)) ⌝ }
 {
-    let t = o.kind;
-    let to = o.to;
-    let a = o.first;
-    let b = o.second;
-    let w = values::width_of(t);
-    if beyond(d.len(), to, w, a, w, b, w) {
+    let w = values::width_of(o.kind);
+    if beyond(d.len(), o, w, w, w) {
         return Performed::Beyond;
     }
-    put(d, w, to, mul_of(d, t, a, b))
+    put(d, w, o.to, mul_of(d, o.kind, o.first, o.second))
 }
 
 fn div_of(d: &[u8], t: u8, a: usize, b: usize) -> u64
@@ -506,18 +439,14 @@ pub fn div_at(d: &mut [u8], o: Operands) -> Performed
     requires { ⌜ Given 19 o ⌝ }
     ensures { λ r. ⌜ attempt r (now (d .exit)) ≡ attempted 19 o (now (d .entry)) ⌝ }
 {
-    let t = o.kind;
-    let to = o.to;
-    let a = o.first;
-    let b = o.second;
-    let w = values::width_of(t);
-    if beyond(d.len(), to, w, a, w, b, w) {
+    let w = values::width_of(o.kind);
+    if beyond(d.len(), o, w, w, w) {
         return Performed::Beyond;
     }
-    if zero_divisor(t, d, b) {
+    if zero_divisor(o.kind, d, o.second) {
         return Performed::ByZero;
     }
-    put(d, w, to, div_of(d, t, a, b))
+    put(d, w, o.to, div_of(d, o.kind, o.first, o.second))
 }
 
 fn modulo_of(d: &[u8], t: u8, a: usize, b: usize) -> u64
@@ -540,15 +469,11 @@ pub fn modulo_at(d: &mut [u8], o: Operands) -> Performed
     requires { ⌜ Given 20 o ⌝ }
     ensures { λ r. ⌜ attempt r (now (d .exit)) ≡ attempted 20 o (now (d .entry)) ⌝ }
 {
-    let t = o.kind;
-    let to = o.to;
-    let a = o.first;
-    let b = o.second;
-    let w = values::width_of(t);
-    if beyond(d.len(), to, w, a, w, b, w) {
+    let w = values::width_of(o.kind);
+    if beyond(d.len(), o, w, w, w) {
         return Performed::Beyond;
     }
-    put(d, w, to, modulo_of(d, t, a, b))
+    put(d, w, o.to, modulo_of(d, o.kind, o.first, o.second))
 }
 
 fn and_of(d: &[u8], t: u8, a: usize, b: usize) -> u64
@@ -568,15 +493,11 @@ pub fn and_at(d: &mut [u8], o: Operands) -> Performed
     requires { ⌜ Given 24 o ⌝ }
     ensures { λ r. ⌜ attempt r (now (d .exit)) ≡ attempted 24 o (now (d .entry)) ⌝ }
 {
-    let t = o.kind;
-    let to = o.to;
-    let a = o.first;
-    let b = o.second;
-    let w = values::width_of(t);
-    if beyond(d.len(), to, w, a, w, b, w) {
+    let w = values::width_of(o.kind);
+    if beyond(d.len(), o, w, w, w) {
         return Performed::Beyond;
     }
-    put(d, w, to, and_of(d, t, a, b))
+    put(d, w, o.to, and_of(d, o.kind, o.first, o.second))
 }
 
 fn or_of(d: &[u8], t: u8, a: usize, b: usize) -> u64
@@ -596,15 +517,11 @@ pub fn or_at(d: &mut [u8], o: Operands) -> Performed
     requires { ⌜ Given 25 o ⌝ }
     ensures { λ r. ⌜ attempt r (now (d .exit)) ≡ attempted 25 o (now (d .entry)) ⌝ }
 {
-    let t = o.kind;
-    let to = o.to;
-    let a = o.first;
-    let b = o.second;
-    let w = values::width_of(t);
-    if beyond(d.len(), to, w, a, w, b, w) {
+    let w = values::width_of(o.kind);
+    if beyond(d.len(), o, w, w, w) {
         return Performed::Beyond;
     }
-    put(d, w, to, or_of(d, t, a, b))
+    put(d, w, o.to, or_of(d, o.kind, o.first, o.second))
 }
 
 fn xor_of(d: &[u8], t: u8, a: usize, b: usize) -> u64
@@ -624,15 +541,11 @@ pub fn xor_at(d: &mut [u8], o: Operands) -> Performed
     requires { ⌜ Given 26 o ⌝ }
     ensures { λ r. ⌜ attempt r (now (d .exit)) ≡ attempted 26 o (now (d .entry)) ⌝ }
 {
-    let t = o.kind;
-    let to = o.to;
-    let a = o.first;
-    let b = o.second;
-    let w = values::width_of(t);
-    if beyond(d.len(), to, w, a, w, b, w) {
+    let w = values::width_of(o.kind);
+    if beyond(d.len(), o, w, w, w) {
         return Performed::Beyond;
     }
-    put(d, w, to, xor_of(d, t, a, b))
+    put(d, w, o.to, xor_of(d, o.kind, o.first, o.second))
 }
 
 fn not_of(d: &[u8], t: u8, a: usize) -> u64
@@ -652,15 +565,11 @@ pub fn not_at(d: &mut [u8], o: Operands) -> Performed
     requires { ⌜ Given 27 o ⌝ }
     ensures { λ r. ⌜ attempt r (now (d .exit)) ≡ attempted 27 o (now (d .entry)) ⌝ }
 {
-    let t = o.kind;
-    let to = o.to;
-    let a = o.first;
-    let b = o.second;
-    let w = values::width_of(t);
-    if beyond(d.len(), to, w, a, w, b, 0) {
+    let w = values::width_of(o.kind);
+    if beyond(d.len(), o, w, w, 0) {
         return Performed::Beyond;
     }
-    put(d, w, to, not_of(d, t, a))
+    put(d, w, o.to, not_of(d, o.kind, o.first))
 }
 
 fn shl_of(d: &[u8], t: u8, a: usize, b: usize) -> u64
@@ -680,15 +589,11 @@ pub fn shl_at(d: &mut [u8], o: Operands) -> Performed
     requires { ⌜ Given 28 o ⌝ }
     ensures { λ r. ⌜ attempt r (now (d .exit)) ≡ attempted 28 o (now (d .entry)) ⌝ }
 {
-    let t = o.kind;
-    let to = o.to;
-    let a = o.first;
-    let b = o.second;
-    let w = values::width_of(t);
-    if beyond(d.len(), to, w, a, w, b, 1) {
+    let w = values::width_of(o.kind);
+    if beyond(d.len(), o, w, w, 1) {
         return Performed::Beyond;
     }
-    put(d, w, to, shl_of(d, t, a, b))
+    put(d, w, o.to, shl_of(d, o.kind, o.first, o.second))
 }
 
 fn shr_of(d: &[u8], t: u8, a: usize, b: usize) -> u64
@@ -708,15 +613,11 @@ pub fn shr_at(d: &mut [u8], o: Operands) -> Performed
     requires { ⌜ Given 29 o ⌝ }
     ensures { λ r. ⌜ attempt r (now (d .exit)) ≡ attempted 29 o (now (d .entry)) ⌝ }
 {
-    let t = o.kind;
-    let to = o.to;
-    let a = o.first;
-    let b = o.second;
-    let w = values::width_of(t);
-    if beyond(d.len(), to, w, a, w, b, 1) {
+    let w = values::width_of(o.kind);
+    if beyond(d.len(), o, w, w, 1) {
         return Performed::Beyond;
     }
-    put(d, w, to, shr_of(d, t, a, b))
+    put(d, w, o.to, shr_of(d, o.kind, o.first, o.second))
 }
 
 fn rol_of(d: &[u8], t: u8, a: usize, b: usize) -> u64
@@ -736,15 +637,11 @@ pub fn rol_at(d: &mut [u8], o: Operands) -> Performed
     requires { ⌜ Given 30 o ⌝ }
     ensures { λ r. ⌜ attempt r (now (d .exit)) ≡ attempted 30 o (now (d .entry)) ⌝ }
 {
-    let t = o.kind;
-    let to = o.to;
-    let a = o.first;
-    let b = o.second;
-    let w = values::width_of(t);
-    if beyond(d.len(), to, w, a, w, b, 1) {
+    let w = values::width_of(o.kind);
+    if beyond(d.len(), o, w, w, 1) {
         return Performed::Beyond;
     }
-    put(d, w, to, rol_of(d, t, a, b))
+    put(d, w, o.to, rol_of(d, o.kind, o.first, o.second))
 }
 
 fn ror_of(d: &[u8], t: u8, a: usize, b: usize) -> u64
@@ -764,15 +661,20 @@ pub fn ror_at(d: &mut [u8], o: Operands) -> Performed
     requires { ⌜ Given 31 o ⌝ }
     ensures { λ r. ⌜ attempt r (now (d .exit)) ≡ attempted 31 o (now (d .entry)) ⌝ }
 {
-    let t = o.kind;
-    let to = o.to;
-    let a = o.first;
-    let b = o.second;
-    let w = values::width_of(t);
-    if beyond(d.len(), to, w, a, w, b, 1) {
+    let w = values::width_of(o.kind);
+    if beyond(d.len(), o, w, w, 1) {
         return Performed::Beyond;
     }
-    put(d, w, to, ror_of(d, t, a, b))
+    put(d, w, o.to, ror_of(d, o.kind, o.first, o.second))
+}
+
+// A comparison has one body, which each arm calls with its type: compiled it is the same. The other commands do not become so small
+// that the compiler takes the body apart again for each type (docs/PERFORMANCE.md).
+fn gt_in(d: &[u8], t: u8, a: usize, b: usize) -> u64
+    requires { ⌜ (t < 12) × (a + widthOf t ≤ length (now d)) × (b + widthOf t ≤ length (now d)) ⌝ }
+    ensures { λ r. ⌜ r ≡ command 32 t (readLE (now (d .entry)) a (widthOf t)) (readLE (now (d .entry)) b (widthOf t)) ⌝ }
+{
+    gt(read(d, t, a), read(d, t, b)) as u64
 }
 
 fn gt_of(d: &[u8], t: u8, a: usize, b: usize) -> u64
@@ -780,18 +682,18 @@ fn gt_of(d: &[u8], t: u8, a: usize, b: usize) -> u64
     ensures { λ r. ⌜ r ≡ command 32 t (readLE (now (d .entry)) a (widthOf t)) (readLE (now (d .entry)) b (widthOf t)) ⌝ }
 {
     match t {
-        0 => gt(read(d, 0, a), read(d, 0, b)) as u64,
-        1 => gt(read(d, 1, a), read(d, 1, b)) as u64,
-        2 => gt(read(d, 2, a), read(d, 2, b)) as u64,
-        3 => gt(read(d, 3, a), read(d, 3, b)) as u64,
-        4 => gt(read(d, 4, a), read(d, 4, b)) as u64,
-        5 => gt(read(d, 5, a), read(d, 5, b)) as u64,
-        6 => gt(read(d, 6, a), read(d, 6, b)) as u64,
-        7 => gt(read(d, 7, a), read(d, 7, b)) as u64,
-        8 => gt(read(d, 8, a), read(d, 8, b)) as u64,
-        9 => gt(read(d, 9, a), read(d, 9, b)) as u64,
-        10 => gt(read(d, 10, a), read(d, 10, b)) as u64,
-        _ => gt(read(d, 11, a), read(d, 11, b)) as u64,
+        0 => gt_in(d, 0, a, b),
+        1 => gt_in(d, 1, a, b),
+        2 => gt_in(d, 2, a, b),
+        3 => gt_in(d, 3, a, b),
+        4 => gt_in(d, 4, a, b),
+        5 => gt_in(d, 5, a, b),
+        6 => gt_in(d, 6, a, b),
+        7 => gt_in(d, 7, a, b),
+        8 => gt_in(d, 8, a, b),
+        9 => gt_in(d, 9, a, b),
+        10 => gt_in(d, 10, a, b),
+        _ => gt_in(d, 11, a, b),
     }
 }
 
@@ -799,15 +701,18 @@ pub fn gt_at(d: &mut [u8], o: Operands) -> Performed
     requires { ⌜ Given 32 o ⌝ }
     ensures { λ r. ⌜ attempt r (now (d .exit)) ≡ attempted 32 o (now (d .entry)) ⌝ }
 {
-    let t = o.kind;
-    let to = o.to;
-    let a = o.first;
-    let b = o.second;
-    let w = values::width_of(t);
-    if beyond(d.len(), to, 1, a, w, b, w) {
+    let w = values::width_of(o.kind);
+    if beyond(d.len(), o, 1, w, w) {
         return Performed::Beyond;
     }
-    put(d, 1, to, gt_of(d, t, a, b))
+    put(d, 1, o.to, gt_of(d, o.kind, o.first, o.second))
+}
+
+fn ge_in(d: &[u8], t: u8, a: usize, b: usize) -> u64
+    requires { ⌜ (t < 12) × (a + widthOf t ≤ length (now d)) × (b + widthOf t ≤ length (now d)) ⌝ }
+    ensures { λ r. ⌜ r ≡ command 33 t (readLE (now (d .entry)) a (widthOf t)) (readLE (now (d .entry)) b (widthOf t)) ⌝ }
+{
+    ge(read(d, t, a), read(d, t, b)) as u64
 }
 
 fn ge_of(d: &[u8], t: u8, a: usize, b: usize) -> u64
@@ -815,18 +720,18 @@ fn ge_of(d: &[u8], t: u8, a: usize, b: usize) -> u64
     ensures { λ r. ⌜ r ≡ command 33 t (readLE (now (d .entry)) a (widthOf t)) (readLE (now (d .entry)) b (widthOf t)) ⌝ }
 {
     match t {
-        0 => ge(read(d, 0, a), read(d, 0, b)) as u64,
-        1 => ge(read(d, 1, a), read(d, 1, b)) as u64,
-        2 => ge(read(d, 2, a), read(d, 2, b)) as u64,
-        3 => ge(read(d, 3, a), read(d, 3, b)) as u64,
-        4 => ge(read(d, 4, a), read(d, 4, b)) as u64,
-        5 => ge(read(d, 5, a), read(d, 5, b)) as u64,
-        6 => ge(read(d, 6, a), read(d, 6, b)) as u64,
-        7 => ge(read(d, 7, a), read(d, 7, b)) as u64,
-        8 => ge(read(d, 8, a), read(d, 8, b)) as u64,
-        9 => ge(read(d, 9, a), read(d, 9, b)) as u64,
-        10 => ge(read(d, 10, a), read(d, 10, b)) as u64,
-        _ => ge(read(d, 11, a), read(d, 11, b)) as u64,
+        0 => ge_in(d, 0, a, b),
+        1 => ge_in(d, 1, a, b),
+        2 => ge_in(d, 2, a, b),
+        3 => ge_in(d, 3, a, b),
+        4 => ge_in(d, 4, a, b),
+        5 => ge_in(d, 5, a, b),
+        6 => ge_in(d, 6, a, b),
+        7 => ge_in(d, 7, a, b),
+        8 => ge_in(d, 8, a, b),
+        9 => ge_in(d, 9, a, b),
+        10 => ge_in(d, 10, a, b),
+        _ => ge_in(d, 11, a, b),
     }
 }
 
@@ -834,15 +739,18 @@ pub fn ge_at(d: &mut [u8], o: Operands) -> Performed
     requires { ⌜ Given 33 o ⌝ }
     ensures { λ r. ⌜ attempt r (now (d .exit)) ≡ attempted 33 o (now (d .entry)) ⌝ }
 {
-    let t = o.kind;
-    let to = o.to;
-    let a = o.first;
-    let b = o.second;
-    let w = values::width_of(t);
-    if beyond(d.len(), to, 1, a, w, b, w) {
+    let w = values::width_of(o.kind);
+    if beyond(d.len(), o, 1, w, w) {
         return Performed::Beyond;
     }
-    put(d, 1, to, ge_of(d, t, a, b))
+    put(d, 1, o.to, ge_of(d, o.kind, o.first, o.second))
+}
+
+fn eq_in(d: &[u8], t: u8, a: usize, b: usize) -> u64
+    requires { ⌜ (t < 12) × (a + widthOf t ≤ length (now d)) × (b + widthOf t ≤ length (now d)) ⌝ }
+    ensures { λ r. ⌜ r ≡ command 34 t (readLE (now (d .entry)) a (widthOf t)) (readLE (now (d .entry)) b (widthOf t)) ⌝ }
+{
+    eq(read(d, t, a), read(d, t, b)) as u64
 }
 
 fn eq_of(d: &[u8], t: u8, a: usize, b: usize) -> u64
@@ -850,18 +758,18 @@ fn eq_of(d: &[u8], t: u8, a: usize, b: usize) -> u64
     ensures { λ r. ⌜ r ≡ command 34 t (readLE (now (d .entry)) a (widthOf t)) (readLE (now (d .entry)) b (widthOf t)) ⌝ }
 {
     match t {
-        0 => eq(read(d, 0, a), read(d, 0, b)) as u64,
-        1 => eq(read(d, 1, a), read(d, 1, b)) as u64,
-        2 => eq(read(d, 2, a), read(d, 2, b)) as u64,
-        3 => eq(read(d, 3, a), read(d, 3, b)) as u64,
-        4 => eq(read(d, 4, a), read(d, 4, b)) as u64,
-        5 => eq(read(d, 5, a), read(d, 5, b)) as u64,
-        6 => eq(read(d, 6, a), read(d, 6, b)) as u64,
-        7 => eq(read(d, 7, a), read(d, 7, b)) as u64,
-        8 => eq(read(d, 8, a), read(d, 8, b)) as u64,
-        9 => eq(read(d, 9, a), read(d, 9, b)) as u64,
-        10 => eq(read(d, 10, a), read(d, 10, b)) as u64,
-        _ => eq(read(d, 11, a), read(d, 11, b)) as u64,
+        0 => eq_in(d, 0, a, b),
+        1 => eq_in(d, 1, a, b),
+        2 => eq_in(d, 2, a, b),
+        3 => eq_in(d, 3, a, b),
+        4 => eq_in(d, 4, a, b),
+        5 => eq_in(d, 5, a, b),
+        6 => eq_in(d, 6, a, b),
+        7 => eq_in(d, 7, a, b),
+        8 => eq_in(d, 8, a, b),
+        9 => eq_in(d, 9, a, b),
+        10 => eq_in(d, 10, a, b),
+        _ => eq_in(d, 11, a, b),
     }
 }
 
@@ -869,15 +777,18 @@ pub fn eq_at(d: &mut [u8], o: Operands) -> Performed
     requires { ⌜ Given 34 o ⌝ }
     ensures { λ r. ⌜ attempt r (now (d .exit)) ≡ attempted 34 o (now (d .entry)) ⌝ }
 {
-    let t = o.kind;
-    let to = o.to;
-    let a = o.first;
-    let b = o.second;
-    let w = values::width_of(t);
-    if beyond(d.len(), to, 1, a, w, b, w) {
+    let w = values::width_of(o.kind);
+    if beyond(d.len(), o, 1, w, w) {
         return Performed::Beyond;
     }
-    put(d, 1, to, eq_of(d, t, a, b))
+    put(d, 1, o.to, eq_of(d, o.kind, o.first, o.second))
+}
+
+fn le_in(d: &[u8], t: u8, a: usize, b: usize) -> u64
+    requires { ⌜ (t < 12) × (a + widthOf t ≤ length (now d)) × (b + widthOf t ≤ length (now d)) ⌝ }
+    ensures { λ r. ⌜ r ≡ command 35 t (readLE (now (d .entry)) a (widthOf t)) (readLE (now (d .entry)) b (widthOf t)) ⌝ }
+{
+    le(read(d, t, a), read(d, t, b)) as u64
 }
 
 fn le_of(d: &[u8], t: u8, a: usize, b: usize) -> u64
@@ -885,18 +796,18 @@ fn le_of(d: &[u8], t: u8, a: usize, b: usize) -> u64
     ensures { λ r. ⌜ r ≡ command 35 t (readLE (now (d .entry)) a (widthOf t)) (readLE (now (d .entry)) b (widthOf t)) ⌝ }
 {
     match t {
-        0 => le(read(d, 0, a), read(d, 0, b)) as u64,
-        1 => le(read(d, 1, a), read(d, 1, b)) as u64,
-        2 => le(read(d, 2, a), read(d, 2, b)) as u64,
-        3 => le(read(d, 3, a), read(d, 3, b)) as u64,
-        4 => le(read(d, 4, a), read(d, 4, b)) as u64,
-        5 => le(read(d, 5, a), read(d, 5, b)) as u64,
-        6 => le(read(d, 6, a), read(d, 6, b)) as u64,
-        7 => le(read(d, 7, a), read(d, 7, b)) as u64,
-        8 => le(read(d, 8, a), read(d, 8, b)) as u64,
-        9 => le(read(d, 9, a), read(d, 9, b)) as u64,
-        10 => le(read(d, 10, a), read(d, 10, b)) as u64,
-        _ => le(read(d, 11, a), read(d, 11, b)) as u64,
+        0 => le_in(d, 0, a, b),
+        1 => le_in(d, 1, a, b),
+        2 => le_in(d, 2, a, b),
+        3 => le_in(d, 3, a, b),
+        4 => le_in(d, 4, a, b),
+        5 => le_in(d, 5, a, b),
+        6 => le_in(d, 6, a, b),
+        7 => le_in(d, 7, a, b),
+        8 => le_in(d, 8, a, b),
+        9 => le_in(d, 9, a, b),
+        10 => le_in(d, 10, a, b),
+        _ => le_in(d, 11, a, b),
     }
 }
 
@@ -904,15 +815,18 @@ pub fn le_at(d: &mut [u8], o: Operands) -> Performed
     requires { ⌜ Given 35 o ⌝ }
     ensures { λ r. ⌜ attempt r (now (d .exit)) ≡ attempted 35 o (now (d .entry)) ⌝ }
 {
-    let t = o.kind;
-    let to = o.to;
-    let a = o.first;
-    let b = o.second;
-    let w = values::width_of(t);
-    if beyond(d.len(), to, 1, a, w, b, w) {
+    let w = values::width_of(o.kind);
+    if beyond(d.len(), o, 1, w, w) {
         return Performed::Beyond;
     }
-    put(d, 1, to, le_of(d, t, a, b))
+    put(d, 1, o.to, le_of(d, o.kind, o.first, o.second))
+}
+
+fn lt_in(d: &[u8], t: u8, a: usize, b: usize) -> u64
+    requires { ⌜ (t < 12) × (a + widthOf t ≤ length (now d)) × (b + widthOf t ≤ length (now d)) ⌝ }
+    ensures { λ r. ⌜ r ≡ command 36 t (readLE (now (d .entry)) a (widthOf t)) (readLE (now (d .entry)) b (widthOf t)) ⌝ }
+{
+    lt(read(d, t, a), read(d, t, b)) as u64
 }
 
 fn lt_of(d: &[u8], t: u8, a: usize, b: usize) -> u64
@@ -920,18 +834,18 @@ fn lt_of(d: &[u8], t: u8, a: usize, b: usize) -> u64
     ensures { λ r. ⌜ r ≡ command 36 t (readLE (now (d .entry)) a (widthOf t)) (readLE (now (d .entry)) b (widthOf t)) ⌝ }
 {
     match t {
-        0 => lt(read(d, 0, a), read(d, 0, b)) as u64,
-        1 => lt(read(d, 1, a), read(d, 1, b)) as u64,
-        2 => lt(read(d, 2, a), read(d, 2, b)) as u64,
-        3 => lt(read(d, 3, a), read(d, 3, b)) as u64,
-        4 => lt(read(d, 4, a), read(d, 4, b)) as u64,
-        5 => lt(read(d, 5, a), read(d, 5, b)) as u64,
-        6 => lt(read(d, 6, a), read(d, 6, b)) as u64,
-        7 => lt(read(d, 7, a), read(d, 7, b)) as u64,
-        8 => lt(read(d, 8, a), read(d, 8, b)) as u64,
-        9 => lt(read(d, 9, a), read(d, 9, b)) as u64,
-        10 => lt(read(d, 10, a), read(d, 10, b)) as u64,
-        _ => lt(read(d, 11, a), read(d, 11, b)) as u64,
+        0 => lt_in(d, 0, a, b),
+        1 => lt_in(d, 1, a, b),
+        2 => lt_in(d, 2, a, b),
+        3 => lt_in(d, 3, a, b),
+        4 => lt_in(d, 4, a, b),
+        5 => lt_in(d, 5, a, b),
+        6 => lt_in(d, 6, a, b),
+        7 => lt_in(d, 7, a, b),
+        8 => lt_in(d, 8, a, b),
+        9 => lt_in(d, 9, a, b),
+        10 => lt_in(d, 10, a, b),
+        _ => lt_in(d, 11, a, b),
     }
 }
 
@@ -939,15 +853,18 @@ pub fn lt_at(d: &mut [u8], o: Operands) -> Performed
     requires { ⌜ Given 36 o ⌝ }
     ensures { λ r. ⌜ attempt r (now (d .exit)) ≡ attempted 36 o (now (d .entry)) ⌝ }
 {
-    let t = o.kind;
-    let to = o.to;
-    let a = o.first;
-    let b = o.second;
-    let w = values::width_of(t);
-    if beyond(d.len(), to, 1, a, w, b, w) {
+    let w = values::width_of(o.kind);
+    if beyond(d.len(), o, 1, w, w) {
         return Performed::Beyond;
     }
-    put(d, 1, to, lt_of(d, t, a, b))
+    put(d, 1, o.to, lt_of(d, o.kind, o.first, o.second))
+}
+
+fn ne_in(d: &[u8], t: u8, a: usize, b: usize) -> u64
+    requires { ⌜ (t < 12) × (a + widthOf t ≤ length (now d)) × (b + widthOf t ≤ length (now d)) ⌝ }
+    ensures { λ r. ⌜ r ≡ command 37 t (readLE (now (d .entry)) a (widthOf t)) (readLE (now (d .entry)) b (widthOf t)) ⌝ }
+{
+    ne(read(d, t, a), read(d, t, b)) as u64
 }
 
 fn ne_of(d: &[u8], t: u8, a: usize, b: usize) -> u64
@@ -955,18 +872,18 @@ fn ne_of(d: &[u8], t: u8, a: usize, b: usize) -> u64
     ensures { λ r. ⌜ r ≡ command 37 t (readLE (now (d .entry)) a (widthOf t)) (readLE (now (d .entry)) b (widthOf t)) ⌝ }
 {
     match t {
-        0 => ne(read(d, 0, a), read(d, 0, b)) as u64,
-        1 => ne(read(d, 1, a), read(d, 1, b)) as u64,
-        2 => ne(read(d, 2, a), read(d, 2, b)) as u64,
-        3 => ne(read(d, 3, a), read(d, 3, b)) as u64,
-        4 => ne(read(d, 4, a), read(d, 4, b)) as u64,
-        5 => ne(read(d, 5, a), read(d, 5, b)) as u64,
-        6 => ne(read(d, 6, a), read(d, 6, b)) as u64,
-        7 => ne(read(d, 7, a), read(d, 7, b)) as u64,
-        8 => ne(read(d, 8, a), read(d, 8, b)) as u64,
-        9 => ne(read(d, 9, a), read(d, 9, b)) as u64,
-        10 => ne(read(d, 10, a), read(d, 10, b)) as u64,
-        _ => ne(read(d, 11, a), read(d, 11, b)) as u64,
+        0 => ne_in(d, 0, a, b),
+        1 => ne_in(d, 1, a, b),
+        2 => ne_in(d, 2, a, b),
+        3 => ne_in(d, 3, a, b),
+        4 => ne_in(d, 4, a, b),
+        5 => ne_in(d, 5, a, b),
+        6 => ne_in(d, 6, a, b),
+        7 => ne_in(d, 7, a, b),
+        8 => ne_in(d, 8, a, b),
+        9 => ne_in(d, 9, a, b),
+        10 => ne_in(d, 10, a, b),
+        _ => ne_in(d, 11, a, b),
     }
 }
 
@@ -974,41 +891,9 @@ pub fn ne_at(d: &mut [u8], o: Operands) -> Performed
     requires { ⌜ Given 37 o ⌝ }
     ensures { λ r. ⌜ attempt r (now (d .exit)) ≡ attempted 37 o (now (d .entry)) ⌝ }
 {
-    let t = o.kind;
-    let to = o.to;
-    let a = o.first;
-    let b = o.second;
-    let w = values::width_of(t);
-    if beyond(d.len(), to, 1, a, w, b, w) {
+    let w = values::width_of(o.kind);
+    if beyond(d.len(), o, 1, w, w) {
         return Performed::Beyond;
     }
-    put(d, 1, to, ne_of(d, t, a, b))
-}
-
-// The typed command with this code byte.
-pub fn perform(code: u8, d: &mut [u8], o: Operands) -> Performed
-    requires { ⌜ Given code o ⌝ }
-    ensures { λ r. ⌜ attempt r (now (d .exit)) ≡ attempted code o (now (d .entry)) ⌝ }
-{
-    match code {
-        16 => add_at(d, o),
-        17 => sub_at(d, o),
-        18 => mul_at(d, o),
-        19 => div_at(d, o),
-        20 => modulo_at(d, o),
-        24 => and_at(d, o),
-        25 => or_at(d, o),
-        26 => xor_at(d, o),
-        27 => not_at(d, o),
-        28 => shl_at(d, o),
-        29 => shr_at(d, o),
-        30 => rol_at(d, o),
-        31 => ror_at(d, o),
-        32 => gt_at(d, o),
-        33 => ge_at(d, o),
-        34 => eq_at(d, o),
-        35 => le_at(d, o),
-        36 => lt_at(d, o),
-        _ => ne_at(d, o),
-    }
+    put(d, 1, o.to, ne_of(d, o.kind, o.first, o.second))
 }

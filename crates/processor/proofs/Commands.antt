@@ -4,6 +4,7 @@ use mathlib.Core.Path.{_≡_, refl, sym, ap, _∙_}
 use mathlib.Core.Bool.{Bool, true, false, not, Bool·beq}
 use mathlib.Core.Logic.{_⊎_, inl, inr}
 use mathlib.Core.List.{List}
+use mathlib.Core.Option.{Option, none, some}
 use Prim.Native.Nat.{ℕ, _+_, _*_, _≤_, _<_}
 use native.Mathlib.Omega.{arith}
 use borrow.Author.Tests.{eq-eqb, ne-eqb, le-leb, lt-leb}
@@ -21,9 +22,7 @@ use Rattle.code.specs.Instructions.{typedAt, instructionAt, instructionLength}
 use Rattle.values.specs.Types.{widthOf}
 use Rattle.values.specs.Commands.{beyond, anyBeyond}
 use Rattle.commands.specs.declared.Operands.{Operands}
-use Rattle.commands.specs.declared.Performed.{Performed}
-use Rattle.commands.specs.declared.Performed.the-variants.{Done, Beyond, ByZero}
-use Rattle.commands.specs.Attempts.{Attempt, attempt, attempted}
+use Rattle.commands.specs.Attempts.{Attempt, ending, attempted}
 use Rattle.conversions.specs.declared.Conversion.{Conversion}
 use Rattle.conversions.specs.declared.Conversion.the-variants.{Beyond as Outside}
 use Rattle.conversions.specs.Conversions.{Result, stores, not-held, converted as convertedTo}
@@ -32,7 +31,7 @@ use Rattle.packed.specs.Packed.{packed, unpacked}
 use Rattle.packed.specs.Data.{packing, unpacking}
 use Rattle.processor.specs.Executable.{Reports}
 use Rattle.processor.specs.Processor.{placeOf, answer, branched, called, passed, decided, faultIf, changed, elementAt, ofElement, ofConversion, dataPart, meaning, executed}
-use Rattle.processor.specs.Typed.{operandsAt, outcomeOf, conversionOutcome}
+use Rattle.processor.specs.Typed.{operandsAt, outcomeBy, conversionOutcome}
 use Rattle.processor.proofs.Accepted.{TypedAt, three-here, three-given, next-fits}
 
 is-true : (b : Bool) → Bool·beq b true ≡ b
@@ -257,19 +256,19 @@ module _ (c : List ℕ) (r : Registers) (d : List ℕ) where
 
   -- what a typed command answers, as the instruction's answer
   abbrev finished : ℕ → Attempt → Executed
-  finished next a = answer (outcomeOf next (a .answer)) (a .memory)
+  finished next a = answer (outcomeBy next (a .fault)) (a .memory)
 
   finished-tests : (next : ℕ) (x y : Bool) (m : List ℕ)
-      → finished next (pick x (attempt Beyond d) (pick y (attempt ByZero d) (attempt Done m))) ≡ passed next d (faultIf x 4 (faultIf y 3 (changed r m)))
+      → finished next (pick x (ending (some 4) d) (pick y (ending (some 3) d) (ending none m))) ≡ passed next d (faultIf x 4 (faultIf y 3 (changed r m)))
   unfolding pick
   finished-tests next true y m = refl
   finished-tests next false true m = refl
   finished-tests next false false m = refl
 
-  pub typed-done : (op n : ℕ) (o : Operands) (p : Performed) (q : Outcome) (m : List ℕ) → TypedAt c (r .counter) op n
-      → o ≡ operandsAt n c r → attempt p m ≡ attempted op o d → q ≡ outcomeOf (r .counter + (n + 2)) p → answer q m ≡ executed c r d
+  pub typed-done : (op n : ℕ) (o : Operands) (b : Option ℕ) (q : Outcome) (m : List ℕ) → TypedAt c (r .counter) op n
+      → o ≡ operandsAt n c r → ending b m ≡ attempted op o d → q ≡ outcomeBy (r .counter + (n + 2)) b → answer q m ≡ executed c r d
   unfolding attempted dataPart
-  typed-done op n o p q m x e f g =
+  typed-done op n o b q m x e f g =
       rw g (ap (finished (r .counter + (n + 2))) f ∙ rw e (finished-tests (r .counter + (n + 2)) _ _ _) ∙ sym (typed-at op n x))
 
   -- how a conversion ended, as the instruction's answer

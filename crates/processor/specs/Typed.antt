@@ -1,10 +1,11 @@
 -- What an instruction hands to its typed command, and what the answer of a typed command or of a conversion is as an instruction's.
 use Prim.Native.Nat.{ℕ, _+_, _<_}
 use mathlib.Core.List.{List}
+use mathlib.Core.Option.{Option, none, some}
 use Rattle.memory.specs.Memory.{byte, word}
 use Rattle.commands.specs.declared.Operands.{Operands}
 use Rattle.commands.specs.declared.Performed.{Performed}
-use Rattle.commands.specs.declared.Performed.the-variants.{Done, Beyond, ByZero}
+use Rattle.commands.specs.Attempts.{flagBit}
 use Rattle.conversions.specs.declared.Conversion.{Conversion}
 use Rattle.conversions.specs.declared.Conversion.the-variants.{Done as Converted, Beyond as Outside, NotHeld}
 use Rattle.protocol.specs.declared.Registers.{Registers}
@@ -26,11 +27,14 @@ operandsAt n c r =
 abbrev pub Low : Operands → Type 0
 Low o = (o .to < 98304) × (o .first < 98304) × (o .second < 98304)
 
--- done, control goes on at the next instruction; else a fault with its flag bit
+-- without a fault control goes on at the next instruction, else a fault with its flag bit
+abbrev pub outcomeBy : ℕ → Option ℕ → Outcome
+outcomeBy next none = Next next
+outcomeBy next (some b) = Fault b
+
+-- a typed command by its answer
 abbrev pub outcomeOf : ℕ → Performed → Outcome
-outcomeOf next Done = Next next
-outcomeOf next Beyond = Fault 4
-outcomeOf next ByZero = Fault 3
+outcomeOf next p = outcomeBy next (flagBit p)
 
 -- the same of a conversion
 abbrev pub conversionOutcome : ℕ → Conversion → Outcome

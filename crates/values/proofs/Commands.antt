@@ -1,12 +1,12 @@
 -- Laws of a command on memory, over the code byte. In order: types and widths; divisors; the test for a zero divisor; what makes a pattern the command's,
--- by the kind of its second operand; the last type of a `match`; the code byte that a `match` found; lengths. Assumes nothing.
+-- by the kind of its second operand; the last type of a `match`; the code byte that a `match` found. Assumes nothing.
 use Prim.Native.Nat.{ℕ, suc, _+_, _-_, _%_, _^_, _≤_, _<_}
 use mathlib.Core.Bool.{Bool, true, false}
 use mathlib.Core.List.{List, [], _∷_}
 use mathlib.Core.Path.{_≡_, refl, sym, _∙_, ap, subst}
 use mathlib.Core.Logic.{inl, inr}
 use native.Mathlib.Omega.{arith}
-use lib.ListN.{length, getD, List·getD-eq-default}
+use lib.ListN.{getD, List·getD-eq-default}
 use lib.IntN.{ℤ, pos, negsuc}
 use lib.Dec.{leb, ltb, eqb}
 use mir.Val.{boolByte}
@@ -14,12 +14,11 @@ use borrow.Author.Tests.{eqb-true, leb-true, ltb-true, ltb-false}
 use Rattle.verdict.specs.Verdict.{pick, both, within}
 use Rattle.verdict.proofs.Verdict.{absurd-bool, by-pick, both-true, both-not, inside, inside-true}
 use Rattle.memory.specs.Memory.{readLE}
-use Rattle.memory.proofs.Laws.{length-splice}
 use Rattle.memory.proofs.Number.{read-byte}
 use Rattle.values.specs.Types.{widthOf, takes}
 use Rattle.values.specs.Width.{Width, signed, eqZ}
 use Rattle.values.specs.Values.{typed, patternOf, stored, readValue}
-use Rattle.values.specs.Commands.{result, resultType, secondWidth, command, zeroDivisor, performed, byZero}
+use Rattle.values.specs.Commands.{result, resultType, secondWidth, command, zeroDivisor, byZero}
 use Rattle.values.specs.declared.Value.{Value}
 use Rattle.values.specs.declared.Value.the-variants.{Bool as VBool}
 use Rattle.values.proofs.Widths.{width-pos, width-le}
@@ -223,9 +222,3 @@ last-code code t h n16 n17 n18 n19 n20 n24 n25 n26 n27 n28 n29 n30 n31 n32 n33 n
     (λ c. by-pick (λ (x : Bool). x ≡ true → code ≡ 37) (within 32 37 code) _ _
     (λ c e. let i = inside-true 32 37 code c in exactly (i .1) (past (past (past (past (past (i .0) n32) n33) n34) n35) n36))
     (λ c e. absurd-bool e)))))) h
-
--- ---- lengths
-
-pub length-performed : (code t : ℕ) (s : List ℕ) (to a b : ℕ) → length (performed code t s to a b) ≡ length s
-unfolding performed
-length-performed code t s to a b = length-splice s to _

@@ -2,7 +2,6 @@ pub mod Widths
 pub mod Signs
 pub mod Floats
 pub mod Types
-pub mod Taken
 pub mod Bits
 pub mod Reading
 pub mod Commands

@@ -1,6 +1,7 @@
 // Runs every vector of the files in data/ through the typed commands and conversions: the published float vectors, comparisons of special floats,
 // whole numbers at their limits, conversions between every two number types, and packed decimal. For each file and command it prints how many vectors were compared and how many differed.
 ghost use Prim.Native.Nat.{_<_};
+ghost use Rattle.commands.specs.Attempts.{Given};
 use commands::Operands;
 use commands::Performed;
 use conversions::Conversion;
@@ -140,9 +141,37 @@ enum Outcome {
     Stored(u64),
 }
 
+// The typed command with this code byte.
+fn perform(code: u8, d: &mut [u8], o: Operands) -> Performed
+    requires { ⌜ Given code o ⌝ }
+{
+    match code {
+        16 => commands::add_at(d, o),
+        17 => commands::sub_at(d, o),
+        18 => commands::mul_at(d, o),
+        19 => commands::div_at(d, o),
+        20 => commands::modulo_at(d, o),
+        24 => commands::and_at(d, o),
+        25 => commands::or_at(d, o),
+        26 => commands::xor_at(d, o),
+        27 => commands::not_at(d, o),
+        28 => commands::shl_at(d, o),
+        29 => commands::shr_at(d, o),
+        30 => commands::rol_at(d, o),
+        31 => commands::ror_at(d, o),
+        32 => commands::gt_at(d, o),
+        33 => commands::ge_at(d, o),
+        34 => commands::eq_at(d, o),
+        35 => commands::le_at(d, o),
+        36 => commands::lt_at(d, o),
+        37 => commands::ne_at(d, o),
+        _ => Performed::Beyond,
+    }
+}
+
 // The command on memory: a at 0, b at 8, the result at 16.
 fn run(code: u8, t: u8, a: u64, b: u64) -> Outcome {
-    if !commands::takes_type(code, t) {
+    if !code::takes_type(code, t) {
         return Outcome::Unknown;
     }
     let mut d = [0u8; 24];
@@ -154,7 +183,7 @@ fn run(code: u8, t: u8, a: u64, b: u64) -> Outcome {
         first: 0,
         second: 8,
     };
-    match commands::perform(code, &mut d, o) {
+    match perform(code, &mut d, o) {
         Performed::Done => Outcome::Stored(memory::load(&d, 16, 8)),
         Performed::ByZero => Outcome::Fault,
         Performed::Beyond => Outcome::Unknown,

@@ -5,27 +5,8 @@ use borrow.Author.Needs.{needs}
 use Rattle.commands.proofs.ge.Statement.{statement}
 use Rattle.commands.proofs.ge.Tie as tie
 
-returns : tie.Need-returns
-unfolding GE
-returns c = search comparisons
-
-returns-2 : tie.Need-returns-2
-unfolding GE
-returns-2 c = search comparisons
-
-returns-3 : tie.Need-returns-3
-unfolding GE
-returns-3 c = search comparisons
-
-returns-4 : tie.Need-returns-4
-unfolding GE
-returns-4 c = search comparisons
-
-returns-5 : tie.Need-returns-5
-unfolding GE
-returns-5 c = search comparisons
-
 pub ge-spec : {M : Type 1} → statement M
+unfolding GE
 ge-spec =
     tie.close
     (tie.spec
@@ -39,8 +20,8 @@ ge-spec =
     (λ c κs. search needs)
     (λ c. search needs)
     (λ c κs. search needs)
-    returns
-    returns-2
-    returns-3
-    returns-4
-    returns-5)
+    (λ c. search comparisons)
+    (λ c. search comparisons)
+    (λ c. search comparisons)
+    (λ c. search comparisons)
+    (λ c. search comparisons))

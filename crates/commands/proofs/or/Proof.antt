@@ -5,27 +5,8 @@ use borrow.Author.Needs.{needs}
 use Rattle.commands.proofs.or.Statement.{statement}
 use Rattle.commands.proofs.or.Tie as tie
 
-returns : tie.Need-returns
-unfolding OR
-returns c = search kinds
-
-returns-2 : tie.Need-returns-2
-unfolding OR
-returns-2 c = search kinds
-
-returns-3 : tie.Need-returns-3
-unfolding OR
-returns-3 c = search kinds
-
-returns-4 : tie.Need-returns-4
-unfolding OR
-returns-4 c = search kinds
-
-returns-5 : tie.Need-returns-5
-unfolding OR
-returns-5 c = search kinds
-
 pub or-spec : {M : Type 1} → statement M
+unfolding OR
 or-spec =
     tie.close
     (tie.spec
@@ -36,8 +17,8 @@ or-spec =
     (λ c κs. search needs)
     (λ c. search needs)
     (λ c. search needs)
-    returns
-    returns-2
-    returns-3
-    returns-4
-    returns-5)
+    (λ c. search kinds)
+    (λ c. search kinds)
+    (λ c. search kinds)
+    (λ c. search kinds)
+    (λ c. search kinds))

@@ -5,27 +5,8 @@ use borrow.Author.Needs.{needs}
 use Rattle.commands.proofs.xor.Statement.{statement}
 use Rattle.commands.proofs.xor.Tie as tie
 
-returns : tie.Need-returns
-unfolding XOR
-returns c = search kinds
-
-returns-2 : tie.Need-returns-2
-unfolding XOR
-returns-2 c = search kinds
-
-returns-3 : tie.Need-returns-3
-unfolding XOR
-returns-3 c = search kinds
-
-returns-4 : tie.Need-returns-4
-unfolding XOR
-returns-4 c = search kinds
-
-returns-5 : tie.Need-returns-5
-unfolding XOR
-returns-5 c = search kinds
-
 pub xor-spec : {M : Type 1} → statement M
+unfolding XOR
 xor-spec =
     tie.close
     (tie.spec
@@ -36,8 +17,8 @@ xor-spec =
     (λ c κs. search needs)
     (λ c. search needs)
     (λ c. search needs)
-    returns
-    returns-2
-    returns-3
-    returns-4
-    returns-5)
+    (λ c. search kinds)
+    (λ c. search kinds)
+    (λ c. search kinds)
+    (λ c. search kinds)
+    (λ c. search kinds))
