@@ -1,14 +1,10 @@
 //! Document 02, 2.11: its numbers and its sentence by example, a short comparison, and wrong implementations that the comparison has to see.
 
-use rikzord_comparison::holding::*;
+use independent::holding::*;
 use std::panic::catch_unwind;
 
 fn all() -> Vec<Lowest> {
-    vec![
-        lowest,
-        #[cfg(feature = "linked")]
-        rikzord_comparison::linked::lowest,
-    ]
+    vec![lowest, trials::linked::lowest]
 }
 
 /// The number, and the answers as INTs; two bytes more are lent than the records need, and must stay.

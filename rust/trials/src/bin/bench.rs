@@ -1,18 +1,19 @@
-//! Times two machines side by side on the same work, in one process: the reference and the linked machine, or, without it, the reference
-//! twice, which shows the noise. Calls alternate, the least time of each call counts; what the machines leave is compared after each round.
+//! Times two machines side by side on the same work, in one process: the reference and the proved machine, or, as `noise`, the reference twice. Calls
+//! alternate, the least time of each call counts; what the machines leave is compared after each round.
 //!
-//! `bench [rounds]`
+//! `bench [rounds [noise]]`
 
-use rikzord_comparison::bounds::{self, Takes};
-use rikzord_comparison::draft::{Code, CoreRecord, Draft, Program, Variable};
-use rikzord_comparison::holding::{self, Lowest, Record};
-use rikzord_comparison::interface::{Machine, Reference};
-use rikzord_comparison::reference::command::*;
-use rikzord_comparison::reference::types::*;
-use rikzord_comparison::reference::{mode, refusal, Core, Semaphore, MOST_CODE, SHARED_SIZE};
-use rikzord_comparison::rerun::{self, Lent, Rerun};
+use independent::bounds::{self, Takes};
+use independent::draft::{Code, CoreRecord, Draft, Program, Variable};
+use independent::holding::{self, Lowest, Record};
+use independent::interface::{Machine, Reference};
+use independent::reference::command::*;
+use independent::reference::types::*;
+use independent::reference::{mode, refusal, Core, Semaphore, MOST_CODE, SHARED_SIZE};
+use independent::rerun::{self, Lent, Rerun};
 use std::hint::black_box;
 use std::time::{Duration, Instant};
+use trials::linked::{self, Linked};
 
 const STEPS: usize = 1_000_000;
 /// So many in one call that the judging of the call hardly counts, and so few that a call is seldom interrupted.
@@ -22,11 +23,17 @@ const CALLS: usize = STEPS / STEPS_IN_A_CALL;
 const FILES: usize = 50;
 
 fn main() {
-    let rounds = std::env::args().nth(1).map_or(15, |number| number.parse().expect("a number of rounds"));
-    #[cfg(feature = "linked")]
-    let second = rikzord_comparison::linked::Linked;
-    #[cfg(not(feature = "linked"))]
-    let second = Reference;
+    let mut arguments = std::env::args().skip(1);
+    let rounds = arguments.next().map_or(15, |number| number.parse().expect("a number of rounds"));
+    match arguments.next().as_deref() {
+        None => bench(rounds, Linked, linked::rerun, linked::takes, linked::lowest),
+        Some("noise") => bench(rounds, Reference, rerun::rerun, bounds::takes, holding::lowest),
+        Some(other) => panic!("bench [rounds [noise]], not {other}"),
+    }
+}
+
+/// Every table, with the second machine as the one beside the reference.
+fn bench<M: Machine>(rounds: usize, second: M, second_rerun: Rerun, second_takes: Takes, second_lowest: Lowest) {
     println!("{:34} {:>12} {:>12} {:>8}", "ns", Reference.name(), second.name(), "ratio");
     for (name, draft) in workloads() {
         let work = Work::new(&draft);
@@ -44,23 +51,11 @@ fn main() {
         least.round(round, |_| judge(&Reference, &file), |_| judge(&second, &file));
     }
     least.report(&format!("judging {} bytes, a byte", file.len()), FILES * file.len());
-    #[cfg(feature = "linked")]
-    let rerun = rikzord_comparison::linked::rerun;
-    #[cfg(not(feature = "linked"))]
-    let rerun = rerun::rerun;
-    rerun_of_a_run(rounds, &second, rerun);
-    #[cfg(feature = "linked")]
-    let takes = rikzord_comparison::linked::takes;
-    #[cfg(not(feature = "linked"))]
-    let takes = bounds::takes;
+    rerun_of_a_run(rounds, &second, second_rerun);
     for length in [MOST_CODE / 8, MOST_CODE / 2, MOST_CODE] {
-        what_it_takes(length, rounds, takes);
+        what_it_takes(length, rounds, second_takes);
     }
-    #[cfg(feature = "linked")]
-    let second = rikzord_comparison::linked::lowest;
-    #[cfg(not(feature = "linked"))]
-    let second = holding::lowest;
-    let times = [10, 10_000].map(|window| lowest(window, rounds.min(3), second));
+    let times = [10, 10_000].map(|window| lowest(window, rounds.min(3), second_lowest));
     println!(
         "lowest: a record with 10,000 in its window takes {:.2} of the time of one with 10",
         times[1].as_secs_f64() / times[0].as_secs_f64()

@@ -1,16 +1,12 @@
 //! Document 02, 2.10 by example; a short comparison; wrong loaders that the comparison has to see.
 
-use rikzord_comparison::draft::{CoreRecord, Draft, Program};
-use rikzord_comparison::profiles::*;
-use rikzord_comparison::reference::{self, command::*, types::*, Profile};
+use independent::draft::{CoreRecord, Draft, Program};
+use independent::profiles::*;
+use independent::reference::{self, command::*, types::*, Profile};
 use std::panic::catch_unwind;
 
 fn all() -> Vec<Loader> {
-    vec![
-        REFERENCE,
-        #[cfg(feature = "linked")]
-        rikzord_comparison::linked::LOADER,
-    ]
+    vec![REFERENCE, trials::linked::LOADER]
 }
 
 /// The number of a program under the small profile and the full one.

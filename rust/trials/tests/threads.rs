@@ -1,7 +1,7 @@
 //! Cores in threads of their own: what they leave is what the rerun of their order of takings leaves, and a rerun of another order is seen.
 
-use rikzord_comparison::reference::threads::{demonstrate, run};
-use rikzord_comparison::rerun::{rerun, rerun_with, Lent, Mistake};
+use independent::reference::threads::{demonstrate, run};
+use independent::rerun::{rerun, rerun_with, Lent, Mistake};
 
 #[test]
 fn threads_end_as_their_rerun() {

@@ -1,18 +1,14 @@
 //! Document 01's own examples, and the values at its open places: the listing, the samples of the refusals, the bench values, edges of
-//! files, commands, steps and states. They run on the reference and, where it is linked, on the proved machine.
+//! files, commands, steps and states. They run on the reference and on the proved machine.
 
-use rikzord_comparison::draft::{Code, CoreRecord, Draft, Program, Variable};
-use rikzord_comparison::interface::{Machine, Next, Reference};
-use rikzord_comparison::reference::command::*;
-use rikzord_comparison::reference::types::*;
-use rikzord_comparison::reference::*;
+use independent::draft::{Code, CoreRecord, Draft, Program, Variable};
+use independent::interface::{Machine, Next, Reference};
+use independent::reference::command::*;
+use independent::reference::types::*;
+use independent::reference::*;
 
 fn machines() -> Vec<Box<dyn Machine>> {
-    vec![
-        Box::new(Reference),
-        #[cfg(feature = "linked")]
-        Box::new(rikzord_comparison::linked::Linked),
-    ]
+    vec![Box::new(Reference), Box::new(trials::linked::Linked)]
 }
 
 // ---- the plant of a test: a file with its trace, and the memory that goes with it

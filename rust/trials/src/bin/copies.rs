@@ -3,7 +3,7 @@
 //!
 //! `copies [rounds]`, after `rt staticlib copies`
 
-use rikzord_comparison::random::Random;
+use independent::random::Random;
 use std::time::{Duration, Instant};
 
 extern "C" {

@@ -1,14 +1,10 @@
 //! Document 02, 2.14 by example; a short comparison; wrong windows that the comparison has to see.
 
-use rikzord_comparison::window::*;
+use independent::window::*;
 use std::panic::catch_unwind;
 
 fn all() -> Vec<Find> {
-    vec![
-        find,
-        #[cfg(feature = "linked")]
-        rikzord_comparison::linked::window,
-    ]
+    vec![find, trials::linked::window]
 }
 
 /// Core 0 has 3 bytes of data and RETURN, core 1 has 5 and six bytes of code.

@@ -173,7 +173,7 @@ fn near_digits(random: &mut Random, code: u8, width: usize) -> [u8; 8] {
         let number = random.pick(&numbers);
         return number.to_le_bytes();
     }
-    let mut packed = (0..digits).fold(0, |packed, _| packed << 4 | random.draw() % 10);
+    let mut packed = (0..digits).fold(0, |packed, _| (packed << 4) | (random.draw() % 10));
     if random.once_in(3) {
         let at = 4 * random.below(digits);
         packed = packed & !(15 << at) | (9 + random.draw() % 7) << at;
@@ -558,7 +558,7 @@ fn near_an_edge(random: &mut Random, from: u8, to: u8) -> [u8; 8] {
         }
         LREAL => (sign * (power + half)).to_bits().wrapping_add(random.below(3) as u64).wrapping_sub(1),
         // Longer than a float's digits, with a one far below.
-        _ => (digits & !0xFF_FFFF_FFFF) | random.draw() % 3 | 1 << random.below(64),
+        _ => (digits & !0xFF_FFFF_FFFF) | (random.draw() % 3) | 1 << random.below(64),
     }
     .to_le_bytes()
 }

@@ -8,11 +8,13 @@ use crate::random::{self, Random};
 use crate::reference::{self, command, refusal, types, Core, Profile, Semaphore, LENGTHS, MOST_CORES, SHARED_SIZE, SMALL_DATA};
 use std::collections::BTreeMap;
 
+pub type Fresh = fn(Profile, &[u8], &mut [Core], &mut Semaphore, &mut [u8], &mut [u8]) -> u8;
+
 /// An implementation under comparison.
 #[derive(Clone, Copy)]
 pub struct Loader {
     pub check: fn(Profile, &[u8]) -> u8,
-    pub fresh: fn(Profile, &[u8], &mut [Core], &mut Semaphore, &mut [u8], &mut [u8]) -> u8,
+    pub fresh: Fresh,
 }
 
 pub const REFERENCE: Loader = Loader { check: reference::check_file_for, fresh: reference::fresh_for };
@@ -146,7 +148,7 @@ impl Tally {
 /// A call for the fresh state over memories that are not clear, with everything that was lent.
 fn fresh(loader: Loader, profile: Profile, file: &[u8], table: usize, buffer: usize) -> (u8, Vec<Core>, Semaphore, Vec<u8>, Vec<u8>) {
     let mut table = vec![Core { places: [7; 16], ..Core::default() }; table];
-    let mut semaphore = Semaphore { holder: 9, waiting: 2, line: [3, 2, 1, 1], ..Semaphore::default() };
+    let mut semaphore = Semaphore { holder: 9, waiting: 2, line: [3, 2, 1, 1] };
     let (mut buffer, mut shared) = (vec![0xA5; buffer], vec![0x5A; SHARED_SIZE]);
     let number = (loader.fresh)(profile, file, &mut table, &mut semaphore, &mut buffer, &mut shared);
     (number, table, semaphore, buffer, shared)

@@ -1,17 +1,13 @@
 //! Document 02, 2.4, a fair line at the semaphore: who joins, who takes, and how many exchanges of others a core in line sees end. On the reference
-//! and, where it is linked, on the proved machine.
+//! and on the proved machine.
 
-use rikzord_comparison::draft::{Code, CoreRecord, Draft, Program};
-use rikzord_comparison::interface::{Machine, Next, Reference};
-use rikzord_comparison::random::Random;
-use rikzord_comparison::reference::{mode, refusal, Core, Semaphore, FREE, SHARED_SIZE};
+use independent::draft::{Code, CoreRecord, Draft, Program};
+use independent::interface::{Machine, Next, Reference};
+use independent::random::Random;
+use independent::reference::{mode, refusal, Core, Semaphore, FREE, SHARED_SIZE};
 
 fn machines() -> Vec<Box<dyn Machine>> {
-    vec![
-        Box::new(Reference),
-        #[cfg(feature = "linked")]
-        Box::new(rikzord_comparison::linked::Linked),
-    ]
+    vec![Box::new(Reference), Box::new(trials::linked::Linked)]
 }
 
 /// n cores of one data byte and no variables, whose code is RETURN: an exchange is a taking and its release.

@@ -1,25 +1,17 @@
 //! Document 02, 2.9: the lines between cores by example, a short comparison, wrong tests that the comparison has to see; and the ring of three whose run
 //! matches no order of whole cycles.
 
-use rikzord_comparison::interface::{Machine, Reference};
-use rikzord_comparison::lines::*;
-use rikzord_comparison::reference::{mode, Core, Semaphore, SHARED_SIZE};
+use independent::interface::{Machine, Reference};
+use independent::lines::*;
+use independent::reference::{mode, Core, Semaphore, SHARED_SIZE};
 use std::panic::catch_unwind;
 
 fn all() -> Vec<Check> {
-    vec![
-        check,
-        #[cfg(feature = "linked")]
-        rikzord_comparison::linked::check_cycles,
-    ]
+    vec![check, trials::linked::check_cycles]
 }
 
 fn machines() -> Vec<Box<dyn Machine>> {
-    vec![
-        Box::new(Reference),
-        #[cfg(feature = "linked")]
-        Box::new(rikzord_comparison::linked::Linked),
-    ]
+    vec![Box::new(Reference), Box::new(trials::linked::Linked)]
 }
 
 /// Variables of one byte, each with its writer and its readers. The code of each core is NOT BOOL from place 0 to place 1, and RETURN.

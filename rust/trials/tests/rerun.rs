@@ -1,17 +1,13 @@
 //! Document 02, 2.13: lists that runs wrote, cut anywhere; damaged lists against a search of every order of steps; a short comparison, and wrong reruns that it
 //! has to see.
 
-use rikzord_comparison::random::{self, Random};
-use rikzord_comparison::reference::{refusal, Core, Semaphore, SHARED_SIZE};
-use rikzord_comparison::rerun::*;
+use independent::random::{self, Random};
+use independent::reference::{refusal, Core, Semaphore, SHARED_SIZE};
+use independent::rerun::*;
 use std::panic::catch_unwind;
 
 fn all() -> Vec<Rerun> {
-    vec![
-        rerun,
-        #[cfg(feature = "linked")]
-        rikzord_comparison::linked::rerun,
-    ]
+    vec![rerun, trials::linked::rerun]
 }
 
 fn empty(cores: usize, data: usize) -> Lent {

@@ -1,30 +1,23 @@
 //! Document 02, 2.12 by example: start values in the fresh state and in what a reader brings before the first writing, files of the new form and their numbers,
 //! both converters; a short comparison of converters; wrong ones.
 
-use rikzord_comparison::draft::{CoreRecord, Draft, Program, Variable};
-use rikzord_comparison::forms::{compare, Convert, Converters, REFERENCE};
-use rikzord_comparison::reference::{self, cores, mode, refusal, Core, Semaphore, FILE_MARK, LONGEST_TASK, NEW_MARK, SHARED_SIZE};
+use independent::draft::{CoreRecord, Draft, Program, Variable};
+use independent::forms::{compare, Convert, Converters, REFERENCE};
+use independent::reference::{self, cores, mode, refusal, Core, Semaphore, FILE_MARK, LONGEST_TASK, NEW_MARK, SHARED_SIZE};
 use std::panic::catch_unwind;
 
 fn all() -> Vec<Converters> {
-    vec![
-        REFERENCE,
-        #[cfg(feature = "linked")]
-        rikzord_comparison::linked::CONVERTERS,
-    ]
+    vec![REFERENCE, trials::linked::CONVERTERS]
 }
 
 type Check = fn(&[u8]) -> u8;
 type Fresh = fn(&[u8], &mut [Core], &mut Semaphore, &mut [u8], &mut [u8]) -> u8;
 
 fn machines() -> Vec<(Check, Fresh)> {
-    #[cfg(feature = "linked")]
-    use rikzord_comparison::interface::Machine;
-    #[cfg(feature = "linked")]
-    use rikzord_comparison::linked::Linked;
+    use independent::interface::Machine;
+    use trials::linked::Linked;
     vec![
         (reference::check_file, reference::fresh),
-        #[cfg(feature = "linked")]
         (|file| Linked.check_file(file), |file, table, semaphore, buffer, shared| Linked.fresh(file, table, semaphore, buffer, shared)),
     ]
 }

@@ -1,28 +1,20 @@
 //! Document 02, 2.7: what a task takes by example; the numbers against a walk of every path; a limit at the count against one below it; a short
 //! comparison; wrong ones that the comparison has to see.
 
-use rikzord_comparison::bounds::*;
-use rikzord_comparison::draft::{CoreRecord, Draft, Program};
-use rikzord_comparison::interface::{Machine, Reference};
-use rikzord_comparison::random::Random;
-use rikzord_comparison::reference::command::*;
-use rikzord_comparison::reference::{flag, mode, Core, Semaphore, SHARED_SIZE};
+use independent::bounds::*;
+use independent::draft::{CoreRecord, Draft, Program};
+use independent::interface::{Machine, Reference};
+use independent::random::Random;
+use independent::reference::command::*;
+use independent::reference::{flag, mode, Core, Semaphore, SHARED_SIZE};
 use std::panic::catch_unwind;
 
 fn all() -> Vec<Takes> {
-    vec![
-        takes,
-        #[cfg(feature = "linked")]
-        rikzord_comparison::linked::takes,
-    ]
+    vec![takes, trials::linked::takes]
 }
 
 fn machines() -> Vec<Box<dyn Machine>> {
-    vec![
-        Box::new(Reference),
-        #[cfg(feature = "linked")]
-        Box::new(rikzord_comparison::linked::Linked),
-    ]
+    vec![Box::new(Reference), Box::new(trials::linked::Linked)]
 }
 
 /// The refusal number, the lengths, counts and depths with more places than any file needs.
@@ -84,7 +76,7 @@ fn by_example() {
         assert_eq!(answer(takes, &[]), refused(1));
         let mut long = file(vec![to_itself()]);
         long.push(0);
-        assert_eq!(answer(takes, &long).0, rikzord_comparison::reference::check_file(&long), "leftovers before 25");
+        assert_eq!(answer(takes, &long).0, independent::reference::check_file(&long), "leftovers before 25");
     }
 }
 

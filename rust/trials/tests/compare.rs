@@ -1,8 +1,8 @@
 //! A short comparison, and the test that the comparison sees wrong machines.
 
-use rikzord_comparison::comparison::compare;
-use rikzord_comparison::interface::{Machine, Next, Reference, Stepwise};
-use rikzord_comparison::reference::{self, command, flag, mode, refusal, types, Core, Semaphore};
+use independent::comparison::compare;
+use independent::interface::{Machine, Next, Reference, Stepwise};
+use independent::reference::{self, command, flag, mode, refusal, types, Core, Semaphore};
 use std::ops::Range;
 use std::panic::{catch_unwind, AssertUnwindSafe};
 
@@ -12,10 +12,9 @@ fn a_run_is_its_steps() {
     assert_eq!(tally.missing(), Vec::<String>::new());
 }
 
-#[cfg(feature = "linked")]
 #[test]
-fn the_linked_machine_agrees() {
-    let tally = compare(&Reference, &rikzord_comparison::linked::Linked, 3, 3000);
+fn the_proved_machine_agrees() {
+    let tally = compare(&Reference, &trials::linked::Linked, 3, 3000);
     assert_eq!(tally.missing(), Vec::<String>::new());
 }
 
