@@ -1,0 +1,28 @@
+//! `rikzord convert`: a task set file in the other form.
+
+use crate::arguments::Arguments;
+use crate::files;
+use crate::{Command, Failure, Outcome, Terminal};
+
+pub const COMMAND: Command = Command {
+    name: "convert",
+    usage: "--new|--old IN OUT",
+    summary: "for plants: a task set file in the form with start values (--new), or without (--old)",
+    details: "An old file becomes new with no start values. A new file goes back where it has none, else it is refused (32). Both ways together return the first file,\n\
+        and both files run alike. A file that is in the wanted form already is refused (2). OUT is written only where IN is accepted.",
+    perform,
+};
+
+fn perform(mut arguments: Arguments, terminal: &mut Terminal) -> Outcome {
+    let convert = match (arguments.has("--new"), arguments.has("--old")) {
+        (true, false) => rikzord::to_new,
+        (false, true) => rikzord::to_old,
+        (true, true) => return Err(Failure::Usage("--new and --old are both given".to_string())),
+        (false, false) => return Err(Failure::Usage("--new or --old is missing".to_string())),
+    };
+    let [path, out] = arguments.names(["IN", "OUT"])?;
+    let made = convert(&files::read(&path, &files::TASK_SET)?).map_err(|refusal| Failure::refused(&path, refusal))?;
+    files::write(&out, &made)?;
+    writeln!(terminal.output, "{out}: {} bytes", made.len())?;
+    Ok(())
+}

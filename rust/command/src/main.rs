@@ -1,0 +1,13 @@
+//! The command `rikzord`; `rikzord --help` says what it does.
+
+use std::process::ExitCode;
+
+fn main() -> ExitCode {
+    let arguments: Result<Vec<String>, _> = std::env::args_os().skip(1).map(|argument| argument.into_string()).collect();
+    let Ok(arguments) = arguments else {
+        eprintln!("rikzord: an argument is not in UTF-8");
+        return ExitCode::from(command::WRONG_USAGE);
+    };
+    let (input, output) = (std::io::stdin(), std::io::stdout());
+    ExitCode::from(command::run(&arguments, &mut input.lock(), &mut output.lock(), &mut std::io::stderr()))
+}

@@ -1,0 +1,60 @@
+//! `rikzord run` and `rikzord rerun`: where the cores stand after an order of steps, or after the takings of an order list.
+
+use crate::arguments::Arguments;
+use crate::{files, report};
+use crate::{Command, Failure, Outcome, Terminal};
+use rikzord::{State, Trace};
+
+pub const RUN: Command = Command {
+    name: "run",
+    usage: "FILE TRACE ORDER",
+    summary: "for the bench: listing, order of takings, registers and memory after the steps of an order",
+    details: "The order has one byte a step, the core's number; the run starts fresh. With --trace-none in place of TRACE every core has one record of time 0 and\n\
+        inputs 0, for fitters at a cold plant; an empty TRACE means the same. The first lines are those that the program `cores` prints. A memory is shown up\n\
+        to its last line with a byte other than 0.",
+    perform: run,
+};
+
+pub const RERUN: Command = Command {
+    name: "rerun",
+    usage: "FILE TRACE LIST",
+    summary: "for service: where the plant's cores stood, from the order list and the trace that the plant sends",
+    details: "The list has one byte a taking, the core's number, plus 16 for a writing. What is shown is how every run with those takings ends once each core is\n\
+        between cycles, stopped or waiting to write. A list that no order of steps produces is refused (33). --trace-none as for `run`.",
+    perform: rerun,
+};
+
+/// Task set, trace and a last file of a command line.
+struct Read {
+    set: rikzord::TaskSet,
+    trace: Trace,
+    last_path: String,
+    last: Vec<u8>,
+}
+
+fn read(mut arguments: Arguments, last: &str, kind: &files::Kind) -> Result<Read, Failure> {
+    let (path, trace_path, last_path) = if arguments.has("--trace-none") {
+        let [path, last_path] = arguments.names(["FILE", last])?;
+        (path, None, last_path)
+    } else {
+        let [path, trace_path, last_path] = arguments.names(["FILE", "TRACE", last])?;
+        (path, Some(trace_path), last_path)
+    };
+    let set = files::task_set(&path)?;
+    let trace = files::trace(trace_path.as_deref(), &set)?;
+    let last = files::read(&last_path, kind)?;
+    Ok(Read { set, trace, last_path, last })
+}
+
+fn run(arguments: Arguments, terminal: &mut Terminal) -> Outcome {
+    let Read { set, trace, last_path, last } = read(arguments, "ORDER", &files::ORDER)?;
+    let mut state = State::fresh(&set);
+    let takings = state.run(&set, &trace, &last).map_err(|refusal| Failure::refused(&last_path, refusal))?;
+    Ok(report::state(terminal.output, &state, Some(&takings))?)
+}
+
+fn rerun(arguments: Arguments, terminal: &mut Terminal) -> Outcome {
+    let Read { set, trace, last_path, last } = read(arguments, "LIST", &files::ORDER_LIST)?;
+    let state = State::rerun(&set, &trace, &last).map_err(|refusal| Failure::refused(&last_path, refusal))?;
+    Ok(report::state(terminal.output, &state, None)?)
+}
