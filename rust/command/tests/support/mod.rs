@@ -105,6 +105,7 @@ fn parse(text: &str) -> Vec<Exchange> {
 }
 
 /// The text of a dialogue, as it is stored.
+#[allow(dead_code, reason = "only one of the tests stores")]
 pub fn text(exchanges: &[Exchange]) -> String {
     let mut text = String::new();
     let mut line = |line: String| text += &(line + "\n");
