@@ -3,6 +3,7 @@
 
 mod support;
 
+use std::slice::from_ref;
 use support::{dialogues, folder, perform, text};
 
 #[test]
@@ -16,7 +17,7 @@ fn dialogues_are_as_stored() {
             std::fs::write(&path, text(&came)).expect("the dialogue is stored");
         }
         for (stored, came) in stored.iter().zip(&came).filter(|(stored, came)| stored != came) {
-            different.push(format!("{}\n-- stored\n{}-- came\n{}", path.display(), text(&[stored.clone()]), text(&[came.clone()])));
+            different.push(format!("{}\n-- stored\n{}-- came\n{}", path.display(), text(from_ref(stored)), text(from_ref(came))));
         }
     }
     assert!(store || different.is_empty(), "{}", different.join("\n"));
