@@ -1,10 +1,14 @@
 #!/bin/sh
-# Builds the archive, compiles the examples against it and compares what they print: document 01's listing; the line at the semaphore, what a task takes, the
+# Builds the archive, compiles the examples against it and compares what they print: a program to start from; document 01's listing; the line at the semaphore, what a task takes, the
 # lowest readings, the windows, the small profile, the start values and the reruns of document 02, 2.4, 2.7, 2.11, 2.14, 2.10, 2.12 and 2.13.
 set -e
 cd "$(dirname "$0")/.."
 rt staticlib rikzord
 mkdir -p target/c
+gcc -std=c99 -Wall -Wextra -Werror -Iinclude -o target/c/first c/first.c target/staticlib/librikzord.a
+printf 'refused 0; core 0 in mode 0, cycles complete 1, takings 2\n' > target/c/expected
+target/c/first | diff - target/c/expected
+echo "c: the program to start from runs"
 gcc -std=c11 -Wall -Wextra -Werror -Iinclude -o target/c/listing c/listing.c target/staticlib/librikzord.a
 printf 'core mode cycles flags count\n0 0 1 0 1\norder 0r 0w\n' > target/c/expected
 target/c/listing | diff - target/c/expected
