@@ -15,5 +15,4 @@ fn main() {
     };
     println!("cargo:rerun-if-changed={}", folder.join("libcopies.a").display());
     println!("cargo:rustc-link-search=native={}", folder.display());
-    println!("cargo:rustc-link-lib=static=copies");
 }

@@ -6,6 +6,7 @@
 use independent::random::Random;
 use std::time::{Duration, Instant};
 
+#[link(name = "copies", kind = "static")]
 extern "C" {
     fn rikzord_copy_by_words(data: *mut u8, data_len: usize, to: usize, from: usize, count: usize) -> u8;
     fn rikzord_copy_by_bytes(data: *mut u8, data_len: usize, to: usize, from: usize, count: usize) -> u8;
