@@ -8,8 +8,8 @@ pub struct Arguments {
 }
 
 impl Arguments {
-    pub fn new(arguments: &[String]) -> Arguments {
-        Arguments { left: arguments.to_vec() }
+    pub fn new(arguments: &[&str]) -> Arguments {
+        Arguments { left: arguments.iter().map(|argument| argument.to_string()).collect() }
     }
 
     /// Whether an option stands anywhere among the arguments; it is taken out.

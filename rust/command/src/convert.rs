@@ -3,6 +3,7 @@
 use crate::arguments::Arguments;
 use crate::files;
 use crate::{Command, Failure, Outcome, Terminal};
+use rikzord::{Refusal, TaskSet};
 
 pub const COMMAND: Command = Command {
     name: "convert",
@@ -14,14 +15,21 @@ pub const COMMAND: Command = Command {
 };
 
 fn perform(mut arguments: Arguments, terminal: &mut Terminal) -> Outcome {
-    let convert = match (arguments.has("--new"), arguments.has("--old")) {
-        (true, false) => rikzord::to_new,
-        (false, true) => rikzord::to_old,
+    let (convert, form): (fn(&[u8]) -> Result<Vec<u8>, Refusal>, &str) = match (arguments.has("--new"), arguments.has("--old")) {
+        (true, false) => (rikzord::to_new, "new"),
+        (false, true) => (rikzord::to_old, "old"),
         (true, true) => return Err(Failure::Usage("--new and --old are both given".to_string())),
         (false, false) => return Err(Failure::Usage("--new or --old is missing".to_string())),
     };
     let [path, out] = arguments.names(["IN", "OUT"])?;
-    let made = convert(&files::read(&path, &files::TASK_SET)?).map_err(|refusal| Failure::refused(&path, refusal))?;
+    let file = files::read(&path, &files::TASK_SET)?;
+    let made = convert(&file).map_err(|refusal| match refusal {
+        // Of a task set the mark can only be that of the form that is made.
+        Refusal::Mark if TaskSet::load(&file).is_ok() => {
+            Failure::Refused(format!("{path}: refused, {}: the file is in the {form} form already", refusal.number()))
+        }
+        refusal => Failure::refused(&path, refusal),
+    })?;
     files::write(&out, &made)?;
     writeln!(terminal.output, "{out}: {} bytes", made.len())?;
     Ok(())

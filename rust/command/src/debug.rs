@@ -9,10 +9,10 @@ use std::io::{self, Write};
 
 pub const COMMAND: Command = Command {
     name: "debug",
-    usage: "FILE TRACE",
+    usage: "FILE TRACE|--trace-none",
     summary: "for builders of a debugger: step cores one by one and look at registers, line, code and data",
     details: "It starts from the fresh state and reads one line after another from the standard input, so that a dialogue can be stored and piped in; what it cannot\n\
-        do it says, and goes on. `help` lists the lines that it takes. --trace-none in place of TRACE as for `run`.",
+        do it says, and goes on. `help` lists the lines that it takes. --trace-none is as for `run`.",
     perform,
 };
 
@@ -44,6 +44,10 @@ fn perform(mut arguments: Arguments, terminal: &mut Terminal) -> Outcome {
     let mut line = Vec::new();
     loop {
         line.clear();
+        if terminal.interactive {
+            write!(terminal.output, "> ")?;
+            terminal.output.flush()?;
+        }
         if read_line(terminal.input, &mut line)? == 0 {
             return Ok(());
         }

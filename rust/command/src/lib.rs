@@ -62,6 +62,8 @@ pub type Outcome = Result<(), Failure>;
 
 /// Where a command reads a dialogue from and writes its answers to.
 pub struct Terminal<'t> {
+    /// Whether somebody sits at it and wants to see when a line can be typed.
+    pub interactive: bool,
     pub input: &'t mut dyn BufRead,
     pub output: &'t mut dyn Write,
 }
@@ -90,17 +92,21 @@ pub const COMMANDS: &[Command] = &[
 ];
 
 /// Performs a command line; the exit status.
-pub fn run(arguments: &[String], input: &mut dyn BufRead, output: &mut dyn Write, errors: &mut dyn Write) -> u8 {
-    let mut terminal = Terminal { input, output };
-    let (name, outcome) = match arguments.split_first() {
-        None => (None, Err(Failure::Usage("no command".to_string()))),
-        Some((first, _)) if first == "--help" || first == "-h" || first == "help" => (None, help(&mut terminal)),
-        Some((first, rest)) => match COMMANDS.iter().find(|command| command.name == first) {
-            None => (None, Err(Failure::Usage(format!("no command `{first}`")))),
-            Some(command) if rest.iter().any(|argument| argument == "--help" || argument == "-h") => {
-                (Some(command.name), help_of(command, &mut terminal))
-            }
-            Some(command) => (Some(command.name), (command.perform)(Arguments::new(rest), &mut terminal)),
+pub fn run(arguments: &[String], terminal: &mut Terminal, errors: &mut dyn Write) -> u8 {
+    let arguments: Vec<&str> = arguments.iter().map(String::as_str).collect();
+    let command_named = |name: &str| COMMANDS.iter().find(|command| command.name == name);
+    let (name, outcome) = match arguments[..] {
+        [] => (None, Err(Failure::Usage("no command".to_string()))),
+        ["--help" | "-h" | "help"] => (None, help(terminal)),
+        ["--version"] => (None, writeln!(terminal.output, "rikzord {}", env!("CARGO_PKG_VERSION")).map_err(Failure::Output)),
+        ["help", name] => match command_named(name) {
+            None => (None, Err(Failure::Usage(format!("no command `{name}`")))),
+            Some(command) => (Some(command.name), help_of(command, terminal)),
+        },
+        [name, ref rest @ ..] => match command_named(name) {
+            None => (None, Err(Failure::Usage(format!("no command `{name}`")))),
+            Some(command) if rest.contains(&"--help") || rest.contains(&"-h") => (Some(name), help_of(command, terminal)),
+            Some(command) => (Some(name), (command.perform)(Arguments::new(rest), terminal)),
         },
     };
     let outcome = terminal.output.flush().map_err(Failure::Output).and(outcome);

@@ -1,5 +1,6 @@
 //! The command `rikzord`; `rikzord --help` says what it does.
 
+use std::io::IsTerminal;
 use std::process::ExitCode;
 
 fn main() -> ExitCode {
@@ -9,5 +10,7 @@ fn main() -> ExitCode {
         return ExitCode::from(command::WRONG_USAGE);
     };
     let (input, output) = (std::io::stdin(), std::io::stdout());
-    ExitCode::from(command::run(&arguments, &mut input.lock(), &mut output.lock(), &mut std::io::stderr()))
+    let interactive = input.is_terminal() && output.is_terminal();
+    let mut terminal = command::Terminal { interactive, input: &mut input.lock(), output: &mut std::io::BufWriter::new(output.lock()) };
+    ExitCode::from(command::run(&arguments, &mut terminal, &mut std::io::stderr()))
 }

@@ -3,13 +3,13 @@
 use crate::arguments::Arguments;
 use crate::{files, report};
 use crate::{Command, Failure, Outcome, Terminal};
-use rikzord::{State, Trace};
+use rikzord::{Refusal, State, Taking, TaskSet, Trace};
 
 pub const RUN: Command = Command {
     name: "run",
-    usage: "FILE TRACE ORDER",
+    usage: "FILE TRACE|--trace-none ORDER",
     summary: "for the bench: listing, order of takings, registers and memory after the steps of an order",
-    details: "The order has one byte a step, the core's number; the run starts fresh. With --trace-none in place of TRACE every core has one record of time 0 and\n\
+    details: "The order has one byte a step, the core's number; the run starts fresh. With --trace-none every core has one record of time 0 and\n\
         inputs 0, for fitters at a cold plant; an empty TRACE means the same. The first lines are those that the program `cores` prints. A memory is shown up\n\
         to its last line with a byte other than 0.",
     perform: run,
@@ -17,7 +17,7 @@ pub const RUN: Command = Command {
 
 pub const RERUN: Command = Command {
     name: "rerun",
-    usage: "FILE TRACE LIST",
+    usage: "FILE TRACE|--trace-none LIST",
     summary: "for service: where the plant's cores stood, from the order list and the trace that the plant sends",
     details: "The list has one byte a taking, the core's number, plus 16 for a writing. What is shown is how every run with those takings ends once each core is\n\
         between cycles, stopped or waiting to write. A list that no order of steps produces is refused (33). --trace-none as for `run`.",
@@ -26,7 +26,7 @@ pub const RERUN: Command = Command {
 
 /// Task set, trace and a last file of a command line.
 struct Read {
-    set: rikzord::TaskSet,
+    set: TaskSet,
     trace: Trace,
     last_path: String,
     last: Vec<u8>,
@@ -49,12 +49,29 @@ fn read(mut arguments: Arguments, last: &str, kind: &files::Kind) -> Result<Read
 fn run(arguments: Arguments, terminal: &mut Terminal) -> Outcome {
     let Read { set, trace, last_path, last } = read(arguments, "ORDER", &files::ORDER)?;
     let mut state = State::fresh(&set);
-    let takings = state.run(&set, &trace, &last).map_err(|refusal| Failure::refused(&last_path, refusal))?;
+    let takings = state.run(&set, &trace, &last).map_err(|refusal| match refusal {
+        Refusal::NoSuchCore => Failure::Refused(format!("{last_path}: {refusal}; {}", report::cores(&set))),
+        refusal => Failure::refused(&last_path, refusal),
+    })?;
     Ok(report::state(terminal.output, &state, Some(&takings))?)
 }
 
 fn rerun(arguments: Arguments, terminal: &mut Terminal) -> Outcome {
     let Read { set, trace, last_path, last } = read(arguments, "LIST", &files::ORDER_LIST)?;
-    let state = State::rerun(&set, &trace, &last).map_err(|refusal| Failure::refused(&last_path, refusal))?;
+    let state = State::rerun(&set, &trace, &last).map_err(|refusal| match refusal {
+        Refusal::ListNotProduced => Failure::Refused(format!("{last_path}: {refusal}; {}", first_unproduced(&set, &trace, &last))),
+        refusal => Failure::refused(&last_path, refusal),
+    })?;
     Ok(report::state(terminal.output, &state, None)?)
+}
+
+/// The first taking of a refused list that cannot come after those before it. What an order of steps produces, it produces from the front on, so that the
+/// refused lists are those from some length on.
+fn first_unproduced(set: &TaskSet, trace: &Trace, list: &[u8]) -> String {
+    let lengths: Vec<usize> = (1..=list.len()).collect();
+    let at = lengths.partition_point(|&length| State::rerun(set, trace, &list[..length]).is_ok());
+    match Taking::from_byte(list[at]).filter(|taking| taking.core < set.cores()) {
+        Some(taking) => format!("taking {at}, {taking}, cannot come there, counted from 0"),
+        None => format!("byte {at} of the list, {}, names no core, counted from 0", list[at]),
+    }
 }

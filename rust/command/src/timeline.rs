@@ -36,3 +36,30 @@ pub fn moments(set: &TaskSet, trace: &Trace, order: &[u8]) -> Result<(Vec<Moment
     }
     Ok((list, state))
 }
+
+#[cfg(test)]
+mod tests {
+    use super::*;
+    use rikzord::Exchange;
+
+    /// Document 01's listing: reading, RETURN, writing.
+    #[test]
+    fn the_moments_of_the_listing() {
+        let set = TaskSet::load(&[0x4D, 0x43, 0x53, 0x31, 1, 1, 0, 0, 0, 1, 0, 0, 1, 0, 0]).expect("an accepted file");
+        let (moments, state) = moments(&set, &Trace::none(&set), &[0; 6]).expect("core 0");
+        let modes: Vec<u8> = moments.iter().map(|moment| moment.after.number()).collect();
+        assert_eq!(modes, [1, 2, 3, 4, 0, 0]);
+        let exchanges: Vec<_> = moments.iter().map(|moment| moment.taking.map(|taking| taking.exchange)).collect();
+        assert_eq!(exchanges, [Some(Exchange::Reading), None, None, Some(Exchange::Writing), None, None]);
+        assert_eq!(moments.iter().map(|moment| moment.released).collect::<Vec<_>>(), [false, true, false, false, true, false]);
+        assert_eq!(moments.iter().map(|moment| moment.cycles).collect::<Vec<_>>(), [0, 0, 0, 0, 1, 1]);
+        assert_eq!(moments[3].semaphore.held_by(), Some(0));
+        assert_eq!(state.table()[0].cycles, 1);
+    }
+
+    #[test]
+    fn an_order_is_judged_whole() {
+        let set = TaskSet::load(&[0x4D, 0x43, 0x53, 0x31, 1, 1, 0, 0, 0, 1, 0, 0, 1, 0, 0]).expect("an accepted file");
+        assert_eq!(moments(&set, &Trace::none(&set), &[0, 1]), Err(Refusal::NoSuchCore));
+    }
+}

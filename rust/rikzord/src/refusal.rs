@@ -82,7 +82,7 @@ impl Refusal {
     pub fn words(self) -> &'static str {
         match self {
             Refusal::FileCut => "the file is cut: it ends before its last section does",
-            Refusal::Mark => "the mark is not that of a task set file of the form that is read",
+            Refusal::Mark => "the mark is not that of a task set file: 4D 43 53 31 hex, or 4D 43 53 32 hex in the new form",
             Refusal::CoreRecord => "the core count or a core's data size, input size or instruction limit is outside its range",
             Refusal::VariableRecord => "the variable count or a variable's record breaks a rule",
             Refusal::Overlap => "two variables share a byte, in shared memory or in the data of a core that both name",
