@@ -15,15 +15,16 @@ pub const COMMAND: Command = Command {
 };
 
 fn perform(mut arguments: Arguments, terminal: &mut Terminal) -> Outcome {
-    let (convert, form): (fn(&[u8]) -> Result<Vec<u8>, Refusal>, &str) = match (arguments.has("--new"), arguments.has("--old")) {
-        (true, false) => (rikzord::to_new, "new"),
-        (false, true) => (rikzord::to_old, "old"),
+    let form = match (arguments.has("--new"), arguments.has("--old")) {
+        (true, false) => "new",
+        (false, true) => "old",
         (true, true) => return Err(Failure::Usage("--new and --old are both given".to_string())),
         (false, false) => return Err(Failure::Usage("--new or --old is missing".to_string())),
     };
     let [path, out] = arguments.names(["IN", "OUT"])?;
     let file = files::read(&path, &files::TASK_SET)?;
-    let made = convert(&file).map_err(|refusal| match refusal {
+    let made = if form == "new" { rikzord::to_new(&file) } else { rikzord::to_old(&file) };
+    let made = made.map_err(|refusal| match refusal {
         // Of a task set the mark can only be that of the form that is made.
         Refusal::Mark if TaskSet::load(&file).is_ok() => {
             Failure::Refused(format!("{path}: refused, {}: the file is in the {form} form already", refusal.number()))

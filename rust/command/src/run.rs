@@ -71,7 +71,7 @@ fn first_unproduced(set: &TaskSet, trace: &Trace, list: &[u8]) -> String {
     let lengths: Vec<usize> = (1..=list.len()).collect();
     let at = lengths.partition_point(|&length| State::rerun(set, trace, &list[..length]).is_ok());
     match Taking::from_byte(list[at]).filter(|taking| taking.core < set.cores()) {
-        Some(taking) => format!("taking {at}, {taking}, cannot come there, counted from 0"),
-        None => format!("byte {at} of the list, {}, names no core, counted from 0", list[at]),
+        Some(taking) => format!("it fails at taking {at}, counted from 0: {taking}"),
+        None => format!("it fails at taking {at}, counted from 0: byte {}, which names no core of the task set", list[at]),
     }
 }

@@ -23,7 +23,8 @@ fn perform(arguments: Arguments, terminal: &mut Terminal) -> Outcome {
     writeln!(out, "memory in bytes")?;
     writeln!(out, "  data buffer    {:>6}", takes.data_buffer)?;
     writeln!(out, "  shared memory  {:>6}", takes.shared_memory)?;
-    writeln!(out, "  core table     {:>6}  ({} records of {})", takes.core_table * size_of::<Core>(), takes.core_table, size_of::<Core>())?;
+    let (records, size) = (takes.core_table, size_of::<Core>());
+    writeln!(out, "  core table     {:>6}  ({size} for each core)", records * size)?;
     writeln!(out)?;
     writeln!(out, "core   data  inputs  longest cycle   limit  limit hit  call depth  call fault")?;
     for (core, (task, longest)) in set.tasks().iter().zip(&takes.cores).enumerate() {

@@ -13,6 +13,7 @@ const ANSWER: usize = 2;
 pub struct Record {
     /// In milliseconds, as TIME.
     pub time: i32,
+    /// As INT: a temperature in tenths of a degree, say.
     pub reading: i16,
 }
 

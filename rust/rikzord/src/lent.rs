@@ -20,6 +20,7 @@ pub struct Core {
     pub count: u16,
     /// The exchange number: bytes copied since the taking.
     pub exchange: u16,
+    /// Complete cycles.
     pub cycles: u16,
     /// See [`crate::Mode`].
     pub mode: u8,

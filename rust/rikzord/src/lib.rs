@@ -24,20 +24,21 @@
 //! Every answer is that of the proved library. What this crate adds: memories of the right size, names for numbers, and a reading of the sections of
 //! a file or trace that the library accepted. Module [`lent`] has the calls as they are, on memory that the caller lends.
 
+#![warn(missing_docs)]
+
+mod holding;
 pub mod lent;
 mod refusal;
 mod state;
 mod task_set;
 mod trace;
 
+pub use holding::{lowest, records, Record};
 pub use lent::{Core, Semaphore};
 pub use refusal::Refusal;
 pub use state::{flag_words, Exchange, Mode, State, Taking};
 pub use task_set::{check, to_new, to_old, Form, Lines, Local, Longest, Profile, Takes, Task, TaskSet, Variable};
 pub use trace::{InputRecord, Trace};
-
-mod holding;
-pub use holding::{lowest, records, Record};
 
 /// The bytes of shared memory.
 pub const SHARED_SIZE: usize = 1_024;

@@ -11,11 +11,17 @@ use std::fmt;
 #[derive(Clone, Copy, PartialEq, Eq, Debug)]
 #[repr(u8)]
 pub enum Mode {
+    /// Its next step takes the semaphore to read, where it is its turn and there is a record left.
     BetweenCycles = 0,
+    /// Copies the variables that it reads, byte by byte; it holds the semaphore.
     Reading = 1,
+    /// One instruction a step.
     Executing = 2,
+    /// Its next step takes the semaphore to write, where it is its turn.
     WaitingToWrite = 3,
+    /// Copies the variables that it writes, byte by byte; it holds the semaphore.
     Writing = 4,
+    /// A fault stopped it, for good.
     Stopped = 5,
 }
 
@@ -25,6 +31,7 @@ impl Mode {
         self as u8
     }
 
+    /// The mode in words.
     pub fn words(self) -> &'static str {
         match self {
             Mode::BetweenCycles => "between cycles",
@@ -74,14 +81,18 @@ pub fn flag_words(flags: u8) -> Vec<&'static str> {
 /// The two kinds of exchange.
 #[derive(Clone, Copy, PartialEq, Eq, Debug)]
 pub enum Exchange {
+    /// From shared memory to a core's data, before its cycle.
     Reading,
+    /// From a core's data to shared memory, after its cycle.
     Writing,
 }
 
 /// A taking of the semaphore: a core and whether it reads or writes. It prints as `0r` or `0w`.
 #[derive(Clone, Copy, PartialEq, Eq, Debug)]
 pub struct Taking {
+    /// Who took it.
     pub core: u8,
+    /// What for.
     pub exchange: Exchange,
 }
 
@@ -97,6 +108,7 @@ impl Taking {
         }
     }
 
+    /// Its byte in an order list.
     pub fn to_byte(self) -> u8 {
         match self.exchange {
             Exchange::Reading => self.core,

@@ -33,10 +33,13 @@ pub enum Form {
 /// What a file says of one core.
 #[derive(Clone, PartialEq, Eq, Debug)]
 pub struct Task {
+    /// Bytes of its data.
     pub data_size: u16,
+    /// Bytes of its inputs, the first of its data.
     pub input_size: u16,
     /// The instruction limit of a cycle.
     pub limit: u16,
+    /// Its instructions, end to end.
     pub code: Vec<u8>,
     /// Data places and the bytes that the fresh state holds there, places rising.
     pub start_values: Vec<(u16, u8)>,
@@ -45,7 +48,9 @@ pub struct Task {
 /// A core that a variable names, and the variable's place in its data.
 #[derive(Clone, Copy, PartialEq, Eq, Debug)]
 pub struct Local {
+    /// The core.
     pub core: u8,
+    /// Where the variable begins in its data.
     pub place: u16,
 }
 
@@ -54,8 +59,11 @@ pub struct Local {
 pub struct Variable {
     /// Its place in shared memory.
     pub shared: u16,
+    /// Its bytes: 1, 2, 4 or 8.
     pub width: u8,
+    /// The one core that writes it.
     pub writer: Local,
+    /// The cores that read it, by number.
     pub readers: Vec<Local>,
 }
 
@@ -136,6 +144,7 @@ impl TaskSet {
         &self.file
     }
 
+    /// Its form, by its mark.
     pub fn form(&self) -> Form {
         self.form
     }
@@ -201,7 +210,9 @@ pub struct Takes {
 /// instruction limit at or above the count is never hit, and a depth of at most 16 never raises flag bit 5.
 #[derive(Clone, Copy, PartialEq, Eq, Debug)]
 pub struct Longest {
+    /// Instructions of the longest cycle.
     pub count: u32,
+    /// Calls that are open at once.
     pub depth: u32,
 }
 

@@ -17,6 +17,7 @@ pub struct Trace {
 pub struct InputRecord {
     /// In milliseconds, as TIME.
     pub time: i32,
+    /// What goes to the core's first data bytes.
     pub inputs: Vec<u8>,
 }
 
@@ -34,6 +35,7 @@ impl Trace {
         Trace::new(set, &[]).expect("a trace of no bytes is one record for every core")
     }
 
+    /// The trace itself.
     pub fn bytes(&self) -> &[u8] {
         &self.bytes
     }

@@ -18,13 +18,13 @@ const PAIR: &[u8] = &[
 #[test]
 fn refusals_have_the_documents_numbers() {
     let numbers: Vec<u8> = (1..=7).chain(20..=34).collect();
-    assert_eq!(Refusal::ALL.map(Refusal::number)[..], numbers);
+    assert_eq!(Refusal::ALL.iter().map(|refusal| refusal.number()).collect::<Vec<_>>(), numbers);
     for number in 0..=255 {
         let refusal = Refusal::from_number(number);
         assert_eq!(refusal.is_some(), numbers.contains(&number));
         assert!(refusal.is_none_or(|refusal| refusal.number() == number && !refusal.words().is_empty()));
     }
-    assert_eq!(Refusal::ALL.into_iter().filter(|refusal| refusal.is_cut_in_transit()).collect::<Vec<_>>(), [Refusal::FileCut]);
+    assert_eq!(Refusal::ALL.iter().filter(|refusal| refusal.is_cut_in_transit()).collect::<Vec<_>>(), [&Refusal::FileCut]);
     assert_eq!(Refusal::BytesLeftOver.to_string(), "refused, 24: bytes follow the file's last section");
 }
 
