@@ -1,6 +1,7 @@
 #!/bin/sh
-# Builds the archive, compiles the examples against it and compares what they print: a program to start from; document 01's listing; the line at the semaphore, what a task takes, the
-# lowest readings, the windows, the small profile, the start values and the reruns of document 02, 2.4, 2.7, 2.11, 2.14, 2.10, 2.12 and 2.13.
+# Builds the archive, compiles the examples against it and compares what they print: a program to start from, against the archive and, where there is pkg-config, as
+# installed; document 01's listing; the line at the semaphore, what a task takes, the lowest readings, the windows, the small profile, the start values and the
+# reruns of document 02, 2.4, 2.7, 2.11, 2.14, 2.10, 2.12 and 2.13.
 set -e
 cd "$(dirname "$0")/.."
 rt staticlib rikzord
@@ -9,6 +10,14 @@ gcc -std=c99 -Wall -Wextra -Werror -Iinclude -o target/c/first c/first.c target/
 printf 'refused 0; core 0 in mode 0, cycles complete 1, takings 2\n' > target/c/expected
 target/c/first | diff - target/c/expected
 echo "c: the program to start from runs"
+if command -v pkg-config > /dev/null; then
+    rm -rf target/c/prefix
+    ./install.sh target/c/prefix --library > /dev/null
+    export PKG_CONFIG_PATH="$PWD/target/c/prefix/lib/pkgconfig"
+    (cd target/c && gcc -std=c99 -Wall -Wextra -Werror -o installed "$OLDPWD/c/first.c" $(pkg-config --cflags --libs rikzord))
+    target/c/installed | diff - target/c/expected
+    echo "c: it runs with the flags of the installed rikzord.pc"
+fi
 gcc -std=c11 -Wall -Wextra -Werror -Iinclude -o target/c/listing c/listing.c target/staticlib/librikzord.a
 printf 'core mode cycles flags count\n0 0 1 0 1\norder 0r 0w\n' > target/c/expected
 target/c/listing | diff - target/c/expected
