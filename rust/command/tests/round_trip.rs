@@ -1,10 +1,10 @@
 //! `show` and `assemble`: every file that the library accepts comes back byte for byte; the table of instructions is the independent machine's.
 
 use command::assemble::assemble;
-use command::instructions::{Operand, COMMANDS, TYPES};
+use command::instructions::{decode, Operand, COMMANDS, TYPES};
 use command::show;
 use independent::random::{self, Random};
-use independent::reference::{takes_type, LENGTHS};
+use independent::reference::{command::*, takes_type, types, LENGTHS};
 use rikzord::TaskSet;
 
 #[test]
@@ -94,4 +94,53 @@ fn the_table_has_every_command() {
         let takes_any = (0..12).any(|kind| takes_type(code, kind)) || matches!(code, 43..=45);
         assert_eq!(typed, takes_any, "types of code {code}");
     }
+}
+
+/// A round trip would not see two names that changed places; the independent machine's names do.
+#[test]
+fn names_are_the_independent_machines() {
+    macro_rules! named {
+        ($($code:ident)*) => {
+            [$((stringify!($code), $code)),*]
+        };
+    }
+    let commands = named! {
+        RETURN JMP JZ JNZ CALB CALF MCD MEMCP AURD AUWD ADD SUB MUL DIV MOD AND OR XOR NOT SHL SHR ROL ROR GT GE EQ LE LT NE CYCLE_TIME FLAG_BYTE
+        CONVERT PACK UNPACK
+    };
+    assert!(COMMANDS.iter().map(|command| (command.name, command.code)).eq(commands));
+    use types::*;
+    let kinds = named! { BOOL SINT BYTE INT WORD DINT DWORD LINT LWORD REAL LREAL TIME };
+    assert!(TYPES.into_iter().zip(0..).eq(kinds));
+}
+
+/// The pasteuriser's files have each instruction by hand: its code place, its command, its type.
+#[test]
+fn the_pasteuriser_reads_as_its_authors_wrote_it() {
+    let mut compared = 0;
+    for set in ["", "fault/", "setpoints/"] {
+        let written =
+            std::fs::read_to_string(format!("{}/../../examples/pasteuriser/{set}task.txt", env!("CARGO_MANIFEST_DIR"))).expect("a file");
+        let bytes = written.lines().flat_map(|line| line.split('#').next().unwrap_or("").split_whitespace());
+        let file: Vec<u8> = bytes.map(|byte| u8::from_str_radix(byte, 16).expect("two hex digits")).collect();
+        let set = TaskSet::load(&file).expect("an accepted file");
+        let mut shown = set.tasks().iter().flat_map(|task| decode(&task.code));
+        for line in written.lines() {
+            let Some((bytes, remark)) = line.split_once('#') else { continue };
+            let words: Vec<&str> = remark.split_whitespace().collect();
+            let (false, Some(Ok(place))) = (bytes.trim().is_empty(), words.first().map(|word| word.parse::<u16>())) else { continue };
+            let Some(&name) = words.get(1).filter(|name| name.chars().all(|letter| letter.is_ascii_uppercase())) else { continue };
+            let instruction = shown.next().expect("as many instructions as there are lines");
+            let text = instruction.text();
+            let mut of_text = text.split([' ', ',']);
+            // The file says TIME where the table has no name of its own.
+            let name = if name == "TIME" { "CYCLE_TIME" } else { name };
+            assert_eq!((instruction.place, of_text.next()), (place, Some(name)), "{line}");
+            let operand = of_text.next();
+            assert!(operand.is_none_or(|kind| !TYPES.contains(&kind) || words[2] == kind), "{line}: {text}");
+            compared += 1;
+        }
+        assert!(shown.next().is_none(), "an instruction that the file does not name");
+    }
+    assert!(compared > 40, "{compared} instructions");
 }
