@@ -1,4 +1,4 @@
-//! The arguments of a command: names of files in their order, and options that start with `--`.
+//! The arguments of a command: names of files in their order, and options, which start with `-`.
 
 use crate::Failure;
 
@@ -35,7 +35,7 @@ impl Arguments {
 
     /// The names of files that are left, each with what it should be. Options that nobody asked for, and names too few or too many, are wrong usage.
     pub fn names<const COUNT: usize>(self, wanted: [&str; COUNT]) -> Result<[String; COUNT], Failure> {
-        if let Some(option) = self.left.iter().find(|argument| argument.starts_with("--")) {
+        if let Some(option) = self.left.iter().find(|argument| argument.starts_with('-')) {
             return Err(Failure::Usage(format!("no option `{option}`")));
         }
         if let Some(missing) = wanted.get(self.left.len()) {

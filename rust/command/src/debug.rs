@@ -48,7 +48,8 @@ fn perform(mut arguments: Arguments, terminal: &mut Terminal) -> Outcome {
             write!(terminal.output, "> ")?;
             terminal.output.flush()?;
         }
-        if read_line(terminal.input, &mut line)? == 0 {
+        let unread = |error| Failure::File(format!("the input cannot be read: {error}"));
+        if read_line(terminal.input, &mut line).map_err(unread)? == 0 {
             return Ok(());
         }
         let text = String::from_utf8_lossy(&line);
@@ -151,7 +152,7 @@ impl<'s> Stepper<'s> {
                 writeln!(out, "the fresh state")?;
             }
             ["help"] => writeln!(out, "{HELP}")?,
-            _ => return Err(Trouble::Asked(format!("no such line: `{line}`; `help` lists what there is"))),
+            _ => return Err(Trouble::Asked(format!("no such line: `{}`; `help` lists what there is", line.escape_debug()))),
         }
         Ok(())
     }
@@ -194,9 +195,8 @@ impl<'s> Stepper<'s> {
         if *state_before == self.state {
             return match before.mode() {
                 Mode::Stopped => "stopped, nothing changes".to_string(),
-                Mode::BetweenCycles if self.state.semaphore().in_line().contains(&core) => "waits in line, nothing changes".to_string(),
-                Mode::BetweenCycles => "out of records, nothing changes".to_string(),
-                _ => "waits in line, nothing changes".to_string(),
+                _ if self.state.semaphore().in_line().contains(&core) => "waits in line, nothing changes".to_string(),
+                _ => "out of records, nothing changes".to_string(),
             };
         }
         match (before.mode(), after.mode()) {

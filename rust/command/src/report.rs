@@ -60,9 +60,11 @@ pub fn semaphore(out: &mut dyn Write, semaphore: &Semaphore) -> io::Result<()> {
     writeln!(out, "semaphore: {held}, {line}")
 }
 
+/// Bytes of a memory in a line.
+const IN_A_LINE: usize = 8;
+
 /// Bytes in lines of eight, each with its place.
 pub fn bytes(out: &mut dyn Write, what: &str, start: usize, bytes: &[u8]) -> io::Result<()> {
-    const IN_A_LINE: usize = 8;
     for (number, line) in bytes.chunks(IN_A_LINE).enumerate() {
         let bytes: Vec<String> = line.iter().map(|byte| format!("{byte:02x}")).collect();
         writeln!(out, "{what} at {}: {}", start + number * IN_A_LINE, bytes.join(" "))?;
@@ -72,7 +74,6 @@ pub fn bytes(out: &mut dyn Write, what: &str, start: usize, bytes: &[u8]) -> io:
 
 /// Every memory, each up to the last line of eight that has a byte other than 0.
 pub fn memories(out: &mut dyn Write, state: &State) -> io::Result<()> {
-    const IN_A_LINE: usize = 8;
     let used = |memory: &[u8]| {
         let end = memory.iter().rposition(|&byte| byte != 0).map_or(0, |last| last + 1);
         memory.len().min(end.next_multiple_of(IN_A_LINE))
