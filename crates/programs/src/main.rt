@@ -161,7 +161,12 @@ fn case(line: &[u8]) {
     let mut data = [0u8; 256];
     let d = cases::bytes(line, 2, &mut data);
     let n = cases::name_end(line);
-    run(&line[..n], &code[..c], &data[..d], cases::number(line, 3) as u16);
+    run(
+        &line[..n],
+        &code[..c],
+        &data[..d],
+        cases::number(line, 3) as u16,
+    );
 }
 
 fn lines(text: &[u8]) {
