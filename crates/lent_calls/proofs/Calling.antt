@@ -133,7 +133,7 @@ module _ (ys : List Core) (x : After) where
   thrice-length : length thrice ≡ length ys
   thrice-length = length-set twice 2 (x .c) ∙ twice-length
 
-  stored-length : length (stored ys x) ≡ length ys
+  pub stored-length : length (stored ys x) ≡ length ys
   stored-length = length-set thrice 3 (x .d) ∙ thrice-length
 
 -- a table after a call that is not refused has the state's record for each core
@@ -167,7 +167,7 @@ module _ (s : State) (ys : List Core) (n : ℕ) (few : n ≤ 4) (count : s .coun
 -- ---- one call
 
 -- the state that a table holds, by value, with the memories
-abbrev byValue : List ℕ → Lent → Left
+abbrev pub byValue : List ℕ → Lent → Left
 byValue f x = left (answerOf 0 (held (loaded (take (cores f) (x .table))) (x .semaphore))) (x .memory) (x .shared) []
 
 -- what a call left can be lent to the next
@@ -233,7 +233,7 @@ module _ (f t : List ℕ) (ok : Set f t) (x : Lent) (w : Ready f t x) (rows : �
       })
 
   -- the table's lent part has n records, so it is its first n
-  rows-all : length lentRows ≡ cores f → lentRows ≡ take (cores f) (x .table)
+  pub rows-all : length lentRows ≡ cores f → lentRows ≡ take (cores f) (x .table)
   rows-all e = go (leb rows (length (x .table))) refl
     where
       go : (q : Bool) → leb rows (length (x .table)) ≡ q → lentRows ≡ take (cores f) (x .table)
@@ -252,7 +252,7 @@ module _ (f t : List ℕ) (ok : Set f t) (x : Lent) (w : Ready f t x) (rows : �
       go true l = sym (pick-true _ _ _ l) ∙ e
       go false l = absurd (omega (arith, ok .few, sym (pick-false (ltb (length lentRows) 255) (length lentRows) 255 l) ∙ e))
 
-  rows-known : (d sh : List ℕ) (room named : Bool) → callRefusal f t state (length d) (length sh) room named ≡ 0 → length lentRows ≡ cores f
+  pub rows-known : (d sh : List ℕ) (room named : Bool) → callRefusal f t state (length d) (length sh) room named ≡ 0 → length lentRows ≡ cores f
   unfolding held heldPlaces heldOffsets
   rows-known d sh room named e =
       let known = granted f t state _ _ _ _ e in
@@ -488,12 +488,12 @@ step-number : (f t : List ℕ) (h : State) (d sh : List ℕ) (k : ℕ) → stepC
 unfolding stepCall
 step-number f t h d sh k = by-pick (λ (l : Left). l .answer .refusal ≡ stepRefusal f t h d sh k) (eqb (stepRefusal f t h d sh k) 0) _ _ (λ e. sym (eqb-true _ _ e)) (λ e. refl)
 
-run-number : (f t : List ℕ) (h : State) (d sh order list : List ℕ) → runCall f t h d sh order list .answer .refusal ≡ runRefusal f t h d sh order list
+pub run-number : (f t : List ℕ) (h : State) (d sh order list : List ℕ) → runCall f t h d sh order list .answer .refusal ≡ runRefusal f t h d sh order list
 unfolding runCall ranCall
 run-number f t h d sh order list = by-pick (λ (l : Left). l .answer .refusal ≡ runRefusal f t h d sh order list) (eqb (runRefusal f t h d sh order list) 0) _ _ (λ e. sym (eqb-true _ _ e)) (λ e. refl)
 
 -- the number of what a call left on a table
-table-number : (ys : List Core) (p : Semaphore) (l : Left) → written ys (onTable (loaded ys) p l) .refusal ≡ l .answer .refusal
+pub table-number : (ys : List Core) (p : Semaphore) (l : Left) → written ys (onTable (loaded ys) p l) .refusal ≡ l .answer .refusal
 table-number ys p l = by-pick (λ (x : After). x .refusal ≡ l .answer .refusal) (eqb (l .answer .refusal) 0) _ _ (λ e. sym (eqb-true _ _ e)) (λ e. refl)
 
 -- two that can be lent on have the same memories where they hold the same state

@@ -1,2 +1,3 @@
 pub mod Calling
 pub mod Profiles
+pub mod Rerun

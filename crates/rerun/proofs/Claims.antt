@@ -58,7 +58,7 @@ module _ (f t list d sh : List ℕ) (ok : Set f t) (fits : lentFits f (length d)
   number-is : listRefusal f t list ≡ rerunRefusal f t list (length d) (length sh)
   number-is = refused-list f t list d sh (ok .file) fits (ok .trace) refl
 
-  granted : lawful ≡ true → rerunCall f t list d sh ≡ rerunLeft f t list
+  pub granted : lawful ≡ true → rerunCall f t list d sh ≡ rerunLeft f t list
   unfolding rerunCall listRefusal
   granted e = pick-true _ _ _ (eq-eqb _ _ (sym number-is ∙ yes _ 33 e))
 
@@ -68,7 +68,7 @@ module _ (f t list d sh : List ℕ) (ok : Set f t) (fits : lentFits f (length d)
       let n : rerunRefusal f t list (length d) (length sh) ≡ 33 = sym number-is ∙ no _ 33 e in
       ap (λ (x : Left). x .answer .refusal) (pick-false _ _ _ (ne-eqb (rerunRefusal f t list (length d) (length sh)) 0 (λ z. let y : ⊥ = omega (arith, n, z) in y))) ∙ n
 
-  known : rerunCall f t list d sh .answer .refusal ≡ 0 → lawful ≡ true
+  pub known : rerunCall f t list d sh .answer .refusal ≡ 0 → lawful ≡ true
   known z = go lawful refl
     where
       go : (b : Bool) → lawful ≡ b → b ≡ true
@@ -86,7 +86,7 @@ module _ (f t list d sh : List ℕ) (ok : Set f t) (fits : lentFits f (length d)
     made : Producing (taskOf f t) (freshOf f) list (reran f t list)
     made = rerun-machine f t ok list .produced (reran f t list) (pick-true _ _ _ e)
 
-    fit-reran : Fit f t (reran f t list)
+    pub fit-reran : Fit f t (reran f t list)
     fit-reran = subst (Fit f t) (made .end) (run-fit f t ok (made .steps) (freshOf f) (fresh-fit f t ok))
 
     whole-reran : wholeOf f (rerunCall f t list d sh) ≡ reran f t list
@@ -115,7 +115,7 @@ one-taking m m′ k =
     by-pick (λ (l : List Taking). length l ≤ 1) _ _ _ (λ e. omega arith)
     (λ e. by-pick (λ (l : List Taking). length l ≤ 1) _ _ _ (λ z. omega arith) (λ z. omega arith))
 
-few-listed : (t : Task) (ks : List ℕ) (s : State) → length (orderList t ks s) ≤ length ks
+pub few-listed : (t : Task) (ks : List ℕ) (s : State) → length (orderList t ks s) ≤ length ks
 unfolding takingOf
 few-listed t [] s = omega arith
 few-listed t (k ∷ ks) s =
@@ -123,10 +123,10 @@ few-listed t (k ∷ ks) s =
     let rest = few-listed t ks (step t k s) in
     omega (arith, length-map (takingOf t k s ++ takings t ks (step t k s)) encoded, length-append (takingOf t k s) (takings t ks (step t k s)), length-map (takings t ks (step t k s)) encoded)
 
-front-of : (list ys : List ℕ) → length ys ≤ length list → take (length ys) (splice list 0 ys) ≡ ys
+pub front-of : (list ys : List ℕ) → length ys ≤ length list → take (length ys) (splice list 0 ys) ≡ ys
 front-of list ys h = ap (take (length ys)) (splice-is list 0 ys (omega arith)) ∙ take-append-seam ys _
 
-nothing-of : (n : ℕ) (l : List ℕ) → n ≡ 0 → take n l ≡ []
+pub nothing-of : (n : ℕ) (l : List ℕ) → n ≡ 0 → take n l ≡ []
 nothing-of n l e = ap (λ (m : ℕ). take m l) e
 
 module _ (f t : List ℕ) (ok : Set f t) (x : Left) (w : Lendable f t x) where
@@ -149,7 +149,7 @@ module _ (f t : List ℕ) (ok : Set f t) (x : Left) (w : Lendable f t x) where
   call-wrote (stepping a b k) = refl
   call-wrote (running a b order list) = run-wrote a b order list
 
-list-append : (t : Task) (js ks : List ℕ) (s : State) → orderList t (js ++ ks) s ≡ orderList t js s ++ orderList t ks (run t js s)
+pub list-append : (t : Task) (js ks : List ℕ) (s : State) → orderList t (js ++ ks) s ≡ orderList t js s ++ orderList t ks (run t js s)
 list-append t js ks s = ap (map encoded) (takings-append t js ks s) ∙ map-append encoded (takings t js s) (takings t ks (run t js s))
 
 calls-wrote : (f t : List ℕ) → Set f t → (cs : List Call) (x : Left) → Lendable f t x → writtenOf f t cs x ≡ orderList (taskOf f t) (stepsOf f t cs x) (wholeOf f x)
