@@ -88,6 +88,7 @@ pub const COMMANDS: &[Command] = &[
     run::RERUN,
     lowest::COMMAND,
     convert::COMMAND,
+    timeline::COMMAND,
     debug::COMMAND,
 ];
 

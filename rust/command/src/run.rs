@@ -49,11 +49,16 @@ fn read(mut arguments: Arguments, last: &str, kind: &files::Kind) -> Result<Read
 fn run(arguments: Arguments, terminal: &mut Terminal) -> Outcome {
     let Read { set, trace, last_path, last } = read(arguments, "ORDER", &files::ORDER)?;
     let mut state = State::fresh(&set);
-    let takings = state.run(&set, &trace, &last).map_err(|refusal| match refusal {
-        Refusal::NoSuchCore => Failure::Refused(format!("{last_path}: {refusal}; {}", report::cores(&set))),
-        refusal => Failure::refused(&last_path, refusal),
-    })?;
+    let takings = state.run(&set, &trace, &last).map_err(|refusal| refused_order(&last_path, &set, refusal))?;
     Ok(report::state(terminal.output, &state, Some(&takings))?)
+}
+
+/// A refused order, with the cores that there are where it names another.
+pub fn refused_order(path: &str, set: &TaskSet, refusal: Refusal) -> Failure {
+    match refusal {
+        Refusal::NoSuchCore => Failure::Refused(format!("{path}: {refusal}; {}", report::cores(set))),
+        refusal => Failure::refused(path, refusal),
+    }
 }
 
 fn rerun(arguments: Arguments, terminal: &mut Terminal) -> Outcome {

@@ -1,5 +1,5 @@
 //! Every result in a stored dialogue, computed a second time by the independent machine: refusal numbers, listings, registers, memories, what a task takes, lowest
-//! readings, converted files, and where a debugger's steps lead. What the independent machine finds is written out here, by other code than the command's.
+//! readings, converted files, what fed each reading, and where a debugger's steps lead. What the independent machine finds is written out here, by other code than the command's.
 
 mod support;
 
@@ -29,6 +29,7 @@ fn answers_are_the_independent_machines() {
                 "rerun" => reruns(&asked, &name),
                 "lowest" => lowest(&asked, &name),
                 "convert" => convert(&folder, &asked, &name),
+                "timeline" => timeline(&asked, &name),
                 "debug" => debug(&asked, &name),
                 _ => continue,
             }
@@ -280,6 +281,50 @@ fn convert(folder: &Path, asked: &Asked, name: &str) {
             asked.is(&format!("{}: {length} bytes", asked.names[1]), name);
         }
     }
+}
+
+/// What fed each reading, by looking back from it for the latest writing of each core in turn.
+fn timeline(asked: &Asked, name: &str) {
+    let (picture, files) = asked.files.split_last().expect("files");
+    let (file, trace, order): (&[u8], &[u8], &[u8]) = match files {
+        [file, order] if asked.has("--trace-none") => (file, &[], order),
+        [file, trace, order] => (file, trace, order),
+        files => panic!("{} files", files.len()),
+    };
+    let refused = |number: u8, named: usize| {
+        assert!(picture.is_empty(), "{name}: a picture of what is refused");
+        asked.refused(number, named, name)
+    };
+    let Lent { mut table, mut semaphore, mut buffer, mut shared } = match fresh(file) {
+        Ok(lent) => lent,
+        Err(number) => return refused(number, 0),
+    };
+    let (mut list, mut taken) = (vec![0; order.len()], 0);
+    match reference::run(file, trace, &mut table, &mut semaphore, &mut buffer, &mut shared, order, &mut list, &mut taken) {
+        refusal::NONE => {}
+        refusal::TRACE => return refused(refusal::TRACE, 1),
+        number => return refused(number, files.len() - 1),
+    }
+    let (list, cores) = (&list[..taken], table.len());
+    let number = |count: usize, noun: &str| format!("{count} {noun}{}", if count == 1 { "" } else { "s" });
+    let mut text = format!("{}: {}, {}\n", asked.names[files.len()], number(order.len(), "step"), number(taken, "taking"));
+    // The attribute bytes: WRITE of core k is bit k, READ is bit 4 + k.
+    let variables = &file[6 + 6 * cores..][..12 * file[5 + 6 * cores] as usize];
+    let writings = |core: usize, end: usize| list[..end].iter().filter(|&&taking| taking as usize == 16 + core).count();
+    for (at, reader) in list.iter().enumerate().filter(|(_, &taking)| taking < 16).map(|(at, &taking)| (at, taking as usize)) {
+        let reads =
+            |writer: &usize| variables.chunks(12).any(|variable| variable[3] >> writer & 1 == 1 && variable[3] >> (4 + reader) & 1 == 1);
+        let source = |writer: usize| match writings(writer, at) {
+            0 => format!("the start values of core {writer}"),
+            cycle => format!("cycle {cycle} of core {writer}"),
+        };
+        let sources: Vec<String> = (0..cores).filter(reads).map(source).collect();
+        if !sources.is_empty() {
+            text += &format!("core {reader}, cycle {}, read {}\n", writings(reader, at) + 1, sources.join(", "));
+        }
+    }
+    asked.is(&text, name);
+    assert!(picture.starts_with(b"<svg ") && picture.ends_with(b"</svg>\n"), "{name}");
 }
 
 /// Takes the steps of a dialogue again, and holds what is shown to what they leave.
