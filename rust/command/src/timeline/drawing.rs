@@ -31,7 +31,7 @@ text{font-family:Helvetica,Arial,'Liberation Sans',sans-serif;font-size:11px;fil
 .head{font-size:16px;font-weight:bold}.says{font-size:12px}.name{font-size:13px;font-weight:bold;fill:currentColor}\
 .small,.axis{font-size:10px;fill:#555}.tiny{font-size:9px}.axis{text-anchor:middle}.mid{text-anchor:middle}\
 .grid{stroke:#e4e4e4}.tick{stroke:#333;stroke-width:1;fill:none}\
-.m0{fill:#f3f3f3}.m1{fill:#a5d3f2}.m2{fill:#ffe889}.m3{fill:#d8cfe6}.m4{fill:#f6ad5c}.m5{fill:#4d4d4d}\
+.m0{fill:#f3f3f3}.m1{fill:#a5d3f2}.m2{fill:#ffe889}.m3{fill:#c6c6c6}.m4{fill:#f6ad5c}.m5{fill:#4d4d4d}\
 .m0,.m1,.m2,.m3,.m4,.m5{stroke:#fff;stroke-width:.6}\
 .light{fill:#fff}.over{fill:#222;stroke:#fff;stroke-width:3px;paint-order:stroke;stroke-linejoin:round}\
 .k0{color:#005f9e}.k1{color:#b34700}.k2{color:#00714f}.k3{color:#8f2f78}\
@@ -331,7 +331,10 @@ impl Picture<'_> {
         );
         page.put(format!("<rect width=\"{wide}\" height=\"{high}\" fill=\"#fff\"/>"));
         page.write("head", EDGE, 26.0, &format!("Timeline: {caption}"));
-        let sentence = "Every reading hangs on one writing of each core that it reads from, or on the start values.";
+        let sentence = match self.reads.iter().all(|from| from.is_empty()) {
+            true => "No core reads from another.",
+            false => "Every reading hangs on one writing of each core that it reads from, or on the start values.",
+        };
         page.write("says", EDGE, 46.0, &format!("{counts}. {sentence}"));
         for (number, row) in rows.iter().enumerate() {
             page.put(format!("<g transform=\"translate({} {})\">", px(NAMES), px(TOP + pitch * number as f64)));
@@ -421,13 +424,16 @@ impl Picture<'_> {
             // The words of a fault stand in front of the band that follows it.
             let begin = self.fault_at(span.steps.start).map_or(left, |words| left + callout(&words) + 8.0);
             let (left, right) = row.widest((if standing.mode == Mode::Stopped { begin.min(right) } else { left }, right), &crossing);
-            if let Some(text) = fitting(&standing.texts(), PLAIN, right - left - 4.0) {
-                let class = match standing.mode {
-                    _ if standing.in_line => "mid over",
-                    Mode::Stopped => "mid light",
-                    _ => "mid",
-                };
-                page.write(class, (left + right) / 2.0, top + 17.0, text);
+            let class = match standing.mode {
+                _ if standing.in_line => "mid over",
+                Mode::Stopped => "mid light",
+                _ => "mid",
+            };
+            let (texts, middle) = (standing.texts(), (left + right) / 2.0);
+            if let Some(text) = fitting(&texts, PLAIN, right - left - 4.0) {
+                page.write(class, middle, top + 17.0, text);
+            } else if let Some(text) = fitting(&texts, TINY, right - left - 1.0) {
+                page.write(&format!("tiny {class}"), middle, top + 16.5, text);
             }
         }
         let own = |step: &usize| self.moments[*step].core as usize == core;
@@ -618,11 +624,11 @@ impl Picture<'_> {
                 page.put(format!("<rect x=\"{}\" y=\"{}\" width=\"22\" height=\"14\" fill=\"none\" stroke=\"#ccc\"/>", px(x), px(top)));
             }
             page.write("", x + 28.0, top + 11.0, mode.words());
-            x += 46.0 + 0.9 * width(mode.words(), PLAIN);
+            x += 46.0 + 0.84 * width(mode.words(), PLAIN);
         }
         page.put(format!("<rect x=\"{}\" y=\"{}\" width=\"22\" height=\"14\" fill=\"url(#hatch)\" opacity=\".45\"/>", px(x), px(top)));
         page.write("", x + 28.0, top + 11.0, "in line for the semaphore");
-        x += 48.0 + 0.9 * width("in line for the semaphore", PLAIN);
+        x += 48.0 + 0.84 * width("in line for the semaphore", PLAIN);
         page.path("tick", &format!("M{} {}v5m4 -5v5m4 -5v5", px(x), px(top + 5.0)));
         page.write("", x + 15.0, top + 11.0, "a step of the core");
         let (mut x, top) = (EDGE, top + 24.0);
@@ -632,17 +638,17 @@ impl Picture<'_> {
         page.put("</g>");
         let words = "from the end of a writing to each reading that it fed, with the writing core's cycle";
         page.write("", x + 38.0, top + 10.0, words);
-        x += 58.0 + 0.9 * width(words, PLAIN);
+        x += 58.0 + 0.84 * width(words, PLAIN);
         page.put("<g class=\"k0\">");
         page.path("line start", &format!("M{} {}h26v10", px(x), px(top)));
         page.path("tip", &tip(x + 26.0, top + 14.0, true));
         page.put("</g>");
         page.write("", x + 38.0, top + 10.0, "from the start values");
-        x += 58.0 + 0.9 * width("from the start values", PLAIN);
+        x += 58.0 + 0.84 * width("from the start values", PLAIN);
         page.put(format!("<rect class=\"fault\" x=\"{}\" y=\"{}\" width=\"16\" height=\"15\" rx=\"3\"/>", px(x), px(top - 1.0)));
         page.write("why", x + 5.0, top + 10.0, "\u{d7}");
         page.write("", x + 22.0, top + 10.0, "a fault");
-        x += 40.0 + 0.9 * width("a fault", PLAIN);
+        x += 40.0 + 0.84 * width("a fault", PLAIN);
         page.path("zig", &format!("M{} {}l3 4l-3 4l3 4l-3 4m9 -16l3 4l-3 4l3 4l-3 4", px(x), px(top - 1.0)));
         page.write("", x + 20.0, top + 10.0, "+n: so many steps that change nothing, folded");
     }
