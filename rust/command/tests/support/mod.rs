@@ -61,6 +61,7 @@ pub fn folder(test: &str) -> PathBuf {
 }
 
 /// Every stored dialogue: its path and its exchanges.
+#[allow(dead_code, reason = "not every test reads them")]
 pub fn dialogues() -> Vec<(PathBuf, Vec<Exchange>)> {
     let mut paths: Vec<PathBuf> =
         fs::read_dir(here().join("dialogues")).expect("the dialogues").map(|file| file.expect("a dialogue").path()).collect();
