@@ -1,7 +1,7 @@
 #!/bin/sh
 # Builds the archive, compiles the examples against it and compares what they print: a program to start from, against the archive and, where there is pkg-config, as
-# installed; document 01's listing; the line at the semaphore, what a task takes, the lowest readings, the windows, the small profile, the start values and the
-# reruns of document 02, 2.4, 2.7, 2.11, 2.14, 2.10, 2.12 and 2.13.
+# installed; the call that README.md shows; document 01's listing; the line at the semaphore, what a task takes, the lowest readings, the windows, the small profile,
+# the start values and the reruns of document 02, 2.4, 2.7, 2.11, 2.14, 2.10, 2.12 and 2.13.
 set -e
 cd "$(dirname "$0")/.."
 rt staticlib rikzord
@@ -18,6 +18,11 @@ if command -v pkg-config > /dev/null; then
     target/c/installed | diff - target/c/expected
     echo "c: it runs with the flags of the installed rikzord.pc"
 fi
+awk '/^```c$/ { inside = 1; next } /^```$/ { inside = 0 } inside' README.md > target/c/readme.c
+gcc -std=c99 -Wall -Wextra -Werror -Iinclude -o target/c/readme target/c/readme.c target/staticlib/librikzord.a
+printf 'refused 0, cycles complete 1\n' > target/c/expected
+target/c/readme | diff - target/c/expected
+echo "c: the call of README.md runs"
 gcc -std=c11 -Wall -Wextra -Werror -Iinclude -o target/c/listing c/listing.c target/staticlib/librikzord.a
 printf 'core mode cycles flags count\n0 0 1 0 1\norder 0r 0w\n' > target/c/expected
 target/c/listing | diff - target/c/expected
