@@ -5,6 +5,7 @@
 
 mod drawing;
 mod layout;
+mod page;
 pub mod sources;
 
 use crate::arguments::Arguments;

@@ -4,11 +4,11 @@
 //! next writing comes after that, so one track on each side is enough. An arrow leaves the line at a dot for each reading that it feeds.
 
 use super::layout::{layout, Layout, Row, MOST, ROW};
+use super::page::{escaped, fitting, px, tip, width, Page};
 use super::sources::{read_from, Reading, Source};
 use super::{counted, Moment};
 use rikzord::{flag_words, Exchange, Mode, Taking, TaskSet, Trace, MOST_CORES};
 use std::collections::BTreeMap;
-use std::fmt::Display;
 use std::ops::Range;
 
 // Pixels.
@@ -42,26 +42,6 @@ text{font-family:Helvetica,Arial,'Liberation Sans',sans-serif;font-size:11px;fil
 .fault{fill:#fff;stroke:#b00020;stroke-width:1.5}.why{fill:#b00020;font-size:10px;font-weight:bold}\
 .fold{fill:#fff;opacity:.86}.zig{fill:none;stroke:#999}";
 
-/// A number of pixels, to a tenth.
-fn px(pixels: f64) -> String {
-    let text = format!("{pixels:.1}");
-    text.strip_suffix(".0").unwrap_or(&text).to_string()
-}
-
-/// About the width of a text.
-fn width(text: &str, size: f64) -> f64 {
-    0.56 * size * text.chars().count() as f64
-}
-
-/// The first of some texts that has room.
-fn fitting(texts: &[String], size: f64, room: f64) -> Option<&String> {
-    texts.iter().find(|text| width(text, size) <= room)
-}
-
-fn escaped(text: &str) -> String {
-    text.replace('&', "&amp;").replace('<', "&lt;").replace('>', "&gt;").replace('"', "&quot;")
-}
-
 /// What a core is about during a step, as its lane shows it. A taking belongs to its exchange.
 #[derive(Clone, Copy, PartialEq)]
 struct Standing {
@@ -77,7 +57,7 @@ impl Standing {
     /// What is written in a band, the longest first.
     fn texts(&self) -> Vec<String> {
         let cycle = self.cycle;
-        let texts = match self.mode {
+        match self.mode {
             _ if self.in_line => vec!["in line".to_string()],
             Mode::BetweenCycles if self.spent => vec!["inputs spent".to_string(), "spent".to_string()],
             Mode::BetweenCycles => vec!["between cycles".to_string(), "between".to_string()],
@@ -86,8 +66,7 @@ impl Standing {
             Mode::WaitingToWrite => vec!["waiting to write".to_string(), "waiting".to_string()],
             Mode::Writing => vec![format!("writing {cycle}"), format!("w{cycle}")],
             Mode::Stopped => vec!["stopped".to_string()],
-        };
-        texts
+        }
     }
 
     fn words(&self) -> String {
@@ -190,6 +169,7 @@ impl Heights {
 }
 
 /// What a writing left, or a core's start values, on the way to the readings that it fed on one side.
+#[derive(Clone, Copy)]
 struct Published {
     source: Source,
     below: bool,
@@ -277,37 +257,12 @@ fn published(moments: &[Moment], arrows: &[Arrow]) -> Vec<Published> {
     list.into_values().collect()
 }
 
-/// SVG under construction.
-struct Page {
+/// A cycle's number, in the colour of the core that wrote.
+struct Label {
+    core: u8,
+    x: f64,
+    y: f64,
     text: String,
-}
-
-impl Page {
-    fn put(&mut self, text: impl Display) {
-        self.text += &text.to_string();
-        self.text.push('\n');
-    }
-
-    fn write(&mut self, class: &str, x: f64, y: f64, text: &str) {
-        self.put(format!("<text class=\"{class}\" x=\"{}\" y=\"{}\">{}</text>", px(x), px(y), escaped(text)));
-    }
-
-    /// A rectangle that says what it is where the pointer rests on it.
-    fn band(&mut self, class: &str, (left, right): (f64, f64), (top, height): (f64, f64), title: &str) {
-        let title = if title.is_empty() { String::new() } else { format!("<title>{}</title>", escaped(title)) };
-        let (x, y, width, height) = (px(left), px(top), px(right - left), px(height));
-        self.put(format!("<rect class=\"{class}\" x=\"{x}\" y=\"{y}\" width=\"{width}\" height=\"{height}\">{title}</rect>"));
-    }
-
-    fn path(&mut self, class: &str, path: &str) {
-        self.put(format!("<path class=\"{class}\" d=\"{path}\"/>"));
-    }
-}
-
-/// The point of an arrow, down or up.
-fn tip(x: f64, y: f64, down: bool) -> String {
-    let back = if down { -8.0 } else { 8.0 };
-    format!("M{} {}l-4 {}h8z", px(x), px(y), px(back))
 }
 
 impl Picture<'_> {
@@ -318,7 +273,7 @@ impl Picture<'_> {
         let (wide, high) = (NAMES + ROW + MOST + EDGE, legend + 50.0);
         let takings = self.moments.iter().filter(|moment| moment.taking.is_some()).count();
         let counts = [counted(self.moments.len(), "step"), counted(takings, "taking"), counted(self.lanes.len(), "core")].join(", ");
-        let mut page = Page { text: String::new() };
+        let mut page = Page::default();
         let (wide, high) = (px(wide), px(high));
         page.put(format!(
             "<svg xmlns=\"http://www.w3.org/2000/svg\" width=\"{wide}\" height=\"{high}\" viewBox=\"0 0 {wide} {high}\" role=\"img\" style=\"max-width:100%;height:auto\">"
@@ -366,10 +321,8 @@ impl Picture<'_> {
 
     fn names(&self, page: &mut Page) {
         for (core, lane) in self.heights.lanes.iter().enumerate() {
-            page.put(format!("<g class=\"k{core}\">"));
-            page.band("hold", (EDGE - NAMES, EDGE - NAMES + 5.0), (lane.band, BAND), "");
-            page.write("name", EDGE - NAMES + 11.0, lane.band + 12.0, &format!("core {core}"));
-            page.put("</g>");
+            page.band(&format!("hold k{core}"), (EDGE - NAMES, EDGE - NAMES + 5.0), (lane.band, BAND), "");
+            page.write(&format!("name k{core}"), EDGE - NAMES + 11.0, lane.band + 12.0, &format!("core {core}"));
             let from: Vec<String> = self.reads[core].iter().map(u8::to_string).collect();
             let reads = if from.is_empty() { "reads none".to_string() } else { format!("reads {}", from.join(", ")) };
             page.write("small", EDGE - NAMES + 11.0, lane.band + 24.0, &reads);
@@ -421,9 +374,11 @@ impl Picture<'_> {
                     px(BAND)
                 ));
             }
-            // The words of a fault stand in front of the band that follows it.
-            let begin = self.fault_at(span.steps.start).map_or(left, |words| left + callout(&words) + 8.0);
-            let (left, right) = row.widest((if standing.mode == Mode::Stopped { begin.min(right) } else { left }, right), &crossing);
+            // The words of a fault stand at the front of the band that follows it.
+            let fault =
+                self.fault_at(span.steps.start).filter(|_| standing.mode == Mode::Stopped && row.steps().contains(&span.steps.start));
+            let left = fault.map_or(left, |words| right.min(left + callout(&words) + 8.0));
+            let (left, right) = row.widest((left, right), &crossing);
             let class = match standing.mode {
                 _ if standing.in_line => "mid over",
                 Mode::Stopped => "mid light",
@@ -451,14 +406,8 @@ impl Picture<'_> {
             let (Some((left, right)), Some(taking)) = (row.stretch(&span.steps), span.what) else { continue };
             let Taking { core, exchange } = taking;
             let verb = if exchange == Exchange::Reading { "reads" } else { "writes" };
-            page.put(format!("<g class=\"k{core}\">"));
-            page.band(
-                "hold",
-                (left, right),
-                (top, 20.0),
-                &format!("core {core} holds the semaphore and {verb}, {}", steps_of(&span.steps)),
-            );
-            page.put("</g>");
+            let title = format!("core {core} holds the semaphore and {verb}, {}", steps_of(&span.steps));
+            page.band(&format!("hold k{core}"), (left, right), (top, 20.0), &title);
             let (left, right) = row.widest((left, right), &[]);
             if let Some(text) = fitting(&[format!("core {core} {verb}"), format!("{core} {verb}")], PLAIN, right - left - 4.0) {
                 page.write("mid light", (left + right) / 2.0, top + 14.0, text);
@@ -471,9 +420,8 @@ impl Picture<'_> {
             for span in spans {
                 let (Some((left, right)), Some(core)) = (row.stretch(&span.steps), span.what) else { continue };
                 let place = if at == 0 { "first".to_string() } else { format!("place {}", at + 1) };
-                page.put(format!("<g class=\"k{core}\">"));
-                page.band("wait", (left, right), (top, BAR - 1.5), &format!("core {core} in line, {place}, {}", steps_of(&span.steps)));
-                page.put("</g>");
+                let title = format!("core {core} in line, {place}, {}", steps_of(&span.steps));
+                page.band(&format!("wait k{core}"), (left, right), (top, BAR - 1.5), &title);
                 let (left, right) = row.widest((left, right), &[]);
                 let texts = [format!("core {core} in line"), core.to_string()];
                 if let Some(text) = fitting(&texts, TINY, right - left - 2.0) {
@@ -487,12 +435,8 @@ impl Picture<'_> {
         let (top, end) = (AXIS - 2.0, self.heights.end + 2.0);
         for cell in row.cells.iter().filter(|cell| cell.is_folded()) {
             let count = cell.steps.len();
-            page.band(
-                "fold",
-                (cell.left, cell.right),
-                (top, end - top),
-                &format!("{count} steps that change nothing, {}", steps_of(&cell.steps)),
-            );
+            let title = format!("{count} steps that change nothing, {}", steps_of(&cell.steps));
+            page.band("fold", (cell.left, cell.right), (top, end - top), &title);
             let teeth = ((end - top) / 8.0).floor() as usize;
             for x in [cell.left + 1.0, cell.right - 4.0] {
                 page.path("zig", &format!("M{} {}{}", px(x), px(top), "l3 4l-3 4".repeat(teeth)));
@@ -502,63 +446,69 @@ impl Picture<'_> {
 
     /// What was published and the arrows, labels last.
     fn lines(&self, page: &mut Page, row: &Row, carried: bool) {
-        let own = row.steps();
+        let arrows: Vec<&Arrow> = self.arrows.iter().filter(|arrow| row.steps().contains(&arrow.step)).collect();
         let mut labels = Vec::new();
-        let track = |source: &Source, below: bool| {
-            let lane = &self.heights.lanes[source.core as usize];
-            (if below { lane.down } else { lane.up }).expect("a track where there is a reader")
-        };
-        let arrows: Vec<&Arrow> = self.arrows.iter().filter(|arrow| own.contains(&arrow.step)).collect();
-        let x_of = |arrow: &Arrow| self.arrow_place(row, arrow);
-        for (number, line) in self.published.iter().enumerate() {
-            let begins = line.from.map_or(0, |step| step + 1);
-            if line.until < own.start || begins.max(1) > own.end {
-                continue;
-            }
-            let y = track(&line.source, line.below);
-            let begins_here = line.from.and_then(|step| row.stretch(&(step..step + 1))).map(|(_, right)| right - 1.5);
-            let left = begins_here.unwrap_or(if carried { -8.0 } else { 0.0 });
-            let of_line = arrows.iter().filter(|arrow| arrow.source == line.source && arrow.is_below() == line.below);
-            let right = if line.until >= own.end { row.right() + 8.0 } else { of_line.map(|arrow| x_of(arrow)).fold(left, f64::max) };
-            let lane = &self.heights.lanes[line.source.core as usize];
-            let edge = if line.below { lane.band + BAND } else { lane.band };
-            let stub = begins_here.map_or(String::new(), |x| format!("M{} {}V{}", px(x), px(edge), px(y)));
-            let class = if line.source.cycle.is_none() { "line start" } else { "line" };
-            page.put(format!("<g class=\"k{}\"><title>what is published: {}</title>", line.source.core, line.source));
-            page.path("under", &format!("M{} {}H{}", px(left), px(y), px(right)));
-            page.path(class, &format!("{stub}M{} {}H{}", px(left), px(y), px(right)));
-            page.put("</g>");
-            let next = self.published[number + 1..].iter().find(|next| next.source.core == line.source.core && next.below == line.below);
-            let next = next
-                .and_then(|next| next.from)
-                .and_then(|step| row.stretch(&(step..step + 1)))
-                .map_or(row.right() + EDGE, |(left, _)| left);
-            let texts = match line.source.cycle {
-                Some(cycle) => [format!("cycle {cycle}"), cycle.to_string()],
-                None => ["start values".to_string(), "start".to_string()],
-            };
-            if let Some(text) = fitting(&texts, SMALL, next - left - 8.0) {
-                let baseline = if line.below { y - 4.0 } else { y + 11.0 };
-                labels.push((line.source.core, left.max(0.0) + 4.0, baseline, text.clone()));
-            }
+        for number in 0..self.published.len() {
+            labels.extend(self.published_line(page, row, carried, number, &arrows));
         }
         for arrow in &arrows {
-            let below = arrow.is_below();
-            let (x, y) = (x_of(arrow), track(&arrow.source, below));
-            let lane = &self.heights.lanes[arrow.reader as usize];
-            let end = if below { lane.band } else { lane.band + BAND + TICKS - 1.0 };
-            let Arrow { source, reader, cycle, .. } = arrow;
-            let shaft = format!("M{} {}V{}", px(x), px(y), px(if below { end - 6.0 } else { end + 6.0 }));
-            page.put(format!("<g class=\"k{} arrow\"><title>core {reader}, cycle {cycle}, read {source}</title>", source.core));
-            page.path("under", &shaft);
-            page.path(if source.cycle.is_none() { "line start" } else { "line" }, &shaft);
-            page.path("tip", &tip(x, end, below));
-            page.put(format!("<circle class=\"tip\" cx=\"{}\" cy=\"{}\" r=\"2.8\"/></g>", px(x), px(y)));
+            self.arrow(page, row, arrow);
         }
         self.arrow_labels(row, &arrows, &mut labels);
-        for (core, x, y, text) in labels {
-            page.put(format!("<g class=\"k{core}\"><text class=\"cycle\" x=\"{}\" y=\"{}\">{}</text></g>", px(x), px(y), escaped(&text)));
+        for Label { core, x, y, text } in labels {
+            page.write(&format!("cycle k{core}"), x, y, &text);
         }
+    }
+
+    /// The height of a core's track for readers below or above.
+    fn track(&self, core: u8, below: bool) -> f64 {
+        let lane = &self.heights.lanes[core as usize];
+        (if below { lane.down } else { lane.up }).expect("a track where there is a reader")
+    }
+
+    /// What a writing left, as far as this row shows it, and its label.
+    fn published_line(&self, page: &mut Page, row: &Row, carried: bool, number: usize, arrows: &[&Arrow]) -> Option<Label> {
+        let Published { source, below, from, until } = self.published[number];
+        let (own, core) = (row.steps(), source.core);
+        if until < own.start || from.is_some_and(|step| step >= own.end) {
+            return None;
+        }
+        let y = self.track(core, below);
+        let writing_end = |from: Option<usize>| from.and_then(|step| row.stretch(&(step..step + 1))).map(|(_, right)| right - 1.5);
+        let begins_here = writing_end(from);
+        let left = begins_here.unwrap_or(if carried { -8.0 } else { 0.0 });
+        let fed = arrows.iter().filter(|arrow| arrow.source == source && arrow.is_below() == below);
+        let last = fed.map(|arrow| self.arrow_place(row, arrow)).fold(left, f64::max);
+        let right = if until >= own.end { row.right() + 8.0 } else { last };
+        let lane = &self.heights.lanes[core as usize];
+        let edge = if below { lane.band + BAND } else { lane.band };
+        let stub = begins_here.map_or(String::new(), |x| format!("M{} {}V{}", px(x), px(edge), px(y)));
+        page.put(format!("<g class=\"k{core}\"><title>what is published: {source}</title>"));
+        page.path("under", &format!("M{} {}H{}", px(left), px(y), px(right)));
+        page.path(stroke(&source), &format!("{stub}M{} {}H{}", px(left), px(y), px(right)));
+        page.put("</g>");
+        let next = self.published[number + 1..].iter().find(|next| next.source.core == core && next.below == below);
+        let room = next.and_then(|next| writing_end(next.from)).unwrap_or(row.right() + EDGE) - left - 8.0;
+        let texts = match source.cycle {
+            Some(cycle) => [format!("cycle {cycle}"), cycle.to_string()],
+            None => ["start values".to_string(), "start".to_string()],
+        };
+        let baseline = if below { y - 4.0 } else { y + 11.0 };
+        fitting(&texts, SMALL, room).map(|text| Label { core, x: left.max(0.0) + 4.0, y: baseline, text: text.clone() })
+    }
+
+    fn arrow(&self, page: &mut Page, row: &Row, arrow: &Arrow) {
+        let Arrow { source, reader, cycle, .. } = arrow;
+        let below = arrow.is_below();
+        let (x, y) = (self.arrow_place(row, arrow), self.track(source.core, below));
+        let lane = &self.heights.lanes[*reader as usize];
+        let end = if below { lane.band } else { lane.band + BAND + TICKS - 1.0 };
+        let shaft = format!("M{} {}V{}", px(x), px(y), px(if below { end - 6.0 } else { end + 6.0 }));
+        page.put(format!("<g class=\"k{} arrow\"><title>core {reader}, cycle {cycle}, read {source}</title>", source.core));
+        page.path("under", &shaft);
+        page.path(stroke(source), &shaft);
+        page.path("tip", &tip(x, end, below));
+        page.put(format!("<circle class=\"tip\" cx=\"{}\" cy=\"{}\" r=\"2.8\"/></g>", px(x), px(y)));
     }
 
     /// The arrows of a reading stand side by side over its band, which has a step for each byte that it reads.
@@ -571,18 +521,39 @@ impl Picture<'_> {
         left + 4.0 + apart * at as f64
     }
 
-    /// The cycle beside each arrow's point, or all of a reading behind its last one where they stand close. Left out where the next arrow leaves no room; the line
-    /// says it too.
-    fn arrow_labels(&self, row: &Row, arrows: &[&Arrow], labels: &mut Vec<(u8, f64, f64, String)>) {
-        for (number, arrow) in arrows.iter().enumerate() {
-            let lane = &self.heights.lanes[arrow.reader as usize];
-            let y = if arrow.is_below() { lane.band - 4.0 } else { lane.band + BAND + TICKS + 9.0 };
-            let x = self.arrow_place(row, arrow) + 6.0;
-            let next = arrows[number + 1..].iter().find(|next| next.reader == arrow.reader && next.is_below() == arrow.is_below());
-            let room = next.map_or(row.right() + EDGE, |next| self.arrow_place(row, next) - 4.0) - x;
-            let texts = [arrow.source.cycle.map_or("start".to_string(), |cycle| cycle.to_string())];
-            if let Some(text) = fitting(&texts, SMALL, room) {
-                labels.push((arrow.source.core, x, y, text.clone()));
+    /// The cycle beside each arrow's point, or those of a reading one after another behind the last arrow where these stand close. Left out where the next reading's
+    /// arrow leaves no room; the line says it too.
+    fn arrow_labels(&self, row: &Row, arrows: &[&Arrow], labels: &mut Vec<Label>) {
+        const BESIDE: f64 = 6.0;
+        let side = |arrow: &Arrow| (arrow.reader, arrow.is_below());
+        let mut rest = arrows;
+        for group in arrows.chunk_by(|a, b| a.step == b.step && side(a) == side(b)) {
+            rest = &rest[group.len()..];
+            let lane = &self.heights.lanes[group[0].reader as usize];
+            let y = if group[0].is_below() { lane.band - 4.0 } else { lane.band + BAND + TICKS + 9.0 };
+            let label = |arrow: &Arrow, x: f64| {
+                let text = arrow.source.cycle.map_or("start".to_string(), |cycle| cycle.to_string());
+                Label { core: arrow.source.core, x, y, text }
+            };
+            let end = |label: &Label| label.x + width(&label.text, SMALL) + 3.0;
+            let next = rest.iter().find(|next| side(next) == side(group[0])).map(|next| self.arrow_place(row, next));
+            let limit = next.unwrap_or(row.right() + EDGE);
+            let beside: Vec<Label> = group.iter().map(|arrow| label(arrow, self.arrow_place(row, arrow) + BESIDE)).collect();
+            let ends = group[1..].iter().map(|arrow| self.arrow_place(row, arrow)).chain([limit]);
+            if beside.iter().zip(ends).all(|(label, limit)| end(label) <= limit) {
+                labels.extend(beside);
+                continue;
+            }
+            // Start values are told once.
+            let told = if group.iter().all(|arrow| arrow.source.cycle.is_none()) { &group[group.len() - 1..] } else { group };
+            let mut x = beside[beside.len() - 1].x;
+            let mut behind = Vec::new();
+            for arrow in told {
+                behind.push(label(arrow, x));
+                x = end(&behind[behind.len() - 1]) + 1.0;
+            }
+            if x <= limit {
+                labels.extend(behind);
             }
         }
     }
@@ -600,8 +571,8 @@ impl Picture<'_> {
             let Moment { core, cycles, .. } = self.moments[step];
             let top = self.heights.lanes[core as usize].band;
             let wide = callout(&words);
-            // To the left where the row ends before the words do.
-            let left = if x + wide > row.right().max(x + 40.0) + EDGE { x - wide } else { x };
+            // To the left where the page ends before the words do.
+            let left = if x + wide > ROW + MOST { x - wide } else { x };
             page.put(format!("<g><title>core {core}, cycle {}: fault at step {}: {words}</title>", cycles + 1, step + 1));
             page.put(format!(
                 "<rect class=\"fault\" x=\"{}\" y=\"{}\" width=\"{}\" height=\"{}\" rx=\"3\"/>",
@@ -631,6 +602,8 @@ impl Picture<'_> {
         x += 48.0 + 0.84 * width("in line for the semaphore", PLAIN);
         page.path("tick", &format!("M{} {}v5m4 -5v5m4 -5v5", px(x), px(top + 5.0)));
         page.write("", x + 15.0, top + 11.0, "a step of the core");
+        x += 34.0 + 0.84 * width("a step of the core", PLAIN);
+        page.write("", x, top + 11.0, "r1, x1, w1: reading, executing, writing of cycle 1");
         let (mut x, top) = (EDGE, top + 24.0);
         page.put("<g class=\"k0\">");
         page.path("line", &format!("M{} {}h26v10", px(x), px(top)));
@@ -651,6 +624,15 @@ impl Picture<'_> {
         x += 40.0 + 0.84 * width("a fault", PLAIN);
         page.path("zig", &format!("M{} {}l3 4l-3 4l3 4l-3 4m9 -16l3 4l-3 4l3 4l-3 4", px(x), px(top - 1.0)));
         page.write("", x + 20.0, top + 10.0, "+n: so many steps that change nothing, folded");
+    }
+}
+
+/// Start values are dashed.
+fn stroke(source: &Source) -> &'static str {
+    if source.cycle.is_none() {
+        "line start"
+    } else {
+        "line"
     }
 }
 
