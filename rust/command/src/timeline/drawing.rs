@@ -34,7 +34,7 @@ text{font-family:Helvetica,Arial,'Liberation Sans',sans-serif;font-size:11px;fil
 .m0{fill:#f3f3f3}.m1{fill:#a5d3f2}.m2{fill:#ffe889}.m3{fill:#c6c6c6}.m4{fill:#f6ad5c}.m5{fill:#4d4d4d}\
 .m0,.m1,.m2,.m3,.m4,.m5{stroke:#fff;stroke-width:.6}\
 .light{fill:#fff}.over{fill:#222;stroke:#fff;stroke-width:3px;paint-order:stroke;stroke-linejoin:round}\
-.k0{color:#005f9e}.k1{color:#b34700}.k2{color:#00714f}.k3{color:#8f2f78}\
+.k0{color:#004b87}.k1{color:#b34700}.k2{color:#128a5f}.k3{color:#8f2f78}\
 .hold{fill:currentColor;stroke:#fff;stroke-width:.6}.wait{fill:currentColor;opacity:.85}\
 .under{fill:none;stroke:#fff;stroke-width:4.5}.line{fill:none;stroke:currentColor;stroke-width:1.7}.start{stroke-dasharray:5 3}\
 .tip{fill:currentColor;stroke:#fff;stroke-width:.8;paint-order:stroke}\
