@@ -48,6 +48,10 @@ stored ys x = set (set (set (set ys 0 (x .a)) 1 (x .b)) 2 (x .c)) 3 (x .d)
 abbrev pub saved : List Core → After → List Core
 saved ys x = pick (eqb (x .refusal) 0) (stored ys x) ys
 
+-- so is the answer's semaphore; of a refused call the one on entry stays
+abbrev pub savedSemaphore : Semaphore → After → Semaphore
+savedSemaphore p x = pick (eqb (x .refusal) 0) (x .semaphore) p
+
 abbrev pub written : List Core → TableLeft → Lent
 written ys l = lent (l .after .refusal) (saved ys (l .after)) (l .after .semaphore) (l .memory) (l .shared) (l .order)
 

@@ -25,7 +25,7 @@ ghost use Rattle.bounds.specs.Outputs.{outputs, takesLent};
 ghost use Rattle.forms.specs.Forms.{convertedLent, toNewLent, toOldLent};
 ghost use Rattle.holding.specs.Holding.{lowestRefusal, answersAfter};
 ghost use Rattle.snapshot.specs.Snapshot.{answered, registersAfter, stepRegisters};
-ghost use Rattle.rikzord.specs.Lent.{loaded, saved, lent, stepLent, runLent, takenLent, freshLent, freshLentFor, rerunLent, scanned, nextLent};
+ghost use Rattle.rikzord.specs.Lent.{loaded, saved, savedSemaphore, lent, stepLent, runLent, takenLent, freshLent, freshLentFor, rerunLent, scanned, nextLent};
 
 // ---- the lent table
 
@@ -79,17 +79,20 @@ pub fn scan(t: &[Core], r: Ring) -> u8
     255
 }
 
-// What a call leaves is written to the table: its first four records, as far as it has them. A refused call stores nothing.
-pub fn save(t: &mut [Core], x: After)
-    ensures { λ _. ⌜ now (t .exit) ≡ saved (now (t .entry)) x ⌝ }
+// What a call leaves is written back: the table's first four records, as far as it has them, and the semaphore. A refused call returns before
+// anything is stored. The answer is the refusal number.
+pub fn save(t: &mut [Core], semaphore: &mut Semaphore, x: After) -> u8
+    ensures { λ r. ⌜ (now (t .exit) ≡ saved (now (t .entry)) x) × ((now (semaphore .exit) ≡ savedSemaphore (now (semaphore .entry)) x) × (r ≡ x .refusal)) ⌝ }
 {
     if x.refusal != 0 {
-        return;
+        return x.refusal;
     }
     put_or(t, 0, x.a);
     put_or(t, 1, x.b);
     put_or(t, 2, x.c);
     put_or(t, 3, x.d);
+    *semaphore = x.semaphore;
+    0
 }
 
 // ---- the calls on a lent table
@@ -109,9 +112,7 @@ pub extern "C" fn rikzord_step(
 {
     let t = load(table);
     let x = snapshot::step_table(file, trace, t, *semaphore, buffer, shared, core);
-    save(table, x);
-    *semaphore = x.semaphore;
-    x.refusal
+    save(table, semaphore, x)
 }
 
 // The steps of an order, one after another. The takings go to the front of `list`, and `taken` becomes how many there are.
@@ -141,9 +142,7 @@ pub extern "C" fn rikzord_run(
         list,
         taken,
     );
-    save(table, x);
-    *semaphore = x.semaphore;
-    x.refusal
+    save(table, semaphore, x)
 }
 
 // The fresh state. The table needs at least n records, and the first n are written.
@@ -159,9 +158,7 @@ pub extern "C" fn rikzord_fresh(
 {
     let t = load(table);
     let x = snapshot::fresh_table(file, t, *semaphore, buffer, shared);
-    save(table, x);
-    *semaphore = x.semaphore;
-    x.refusal
+    save(table, semaphore, x)
 }
 
 // The same under the small profile (document 02, 2.10).
@@ -177,9 +174,7 @@ pub extern "C" fn rikzord_fresh_small(
 {
     let t = load(table);
     let x = snapshot::fresh_small_table(file, t, *semaphore, buffer, shared);
-    save(table, x);
-    *semaphore = x.semaphore;
-    x.refusal
+    save(table, semaphore, x)
 }
 
 // An order list, rerun from the fresh state (document 02, 2.13). The table needs at least n records, and the first n are written.
@@ -197,9 +192,7 @@ pub extern "C" fn rikzord_rerun(
 {
     let t = load(table);
     let x = snapshot::rerun_table(file, trace, list, t, *semaphore, buffer, shared);
-    save(table, x);
-    *semaphore = x.semaphore;
-    x.refusal
+    save(table, semaphore, x)
 }
 
 // The first core after `given`, round the ring and that one last, whose step would change something, goes to `found`; 255 for none.
