@@ -5,7 +5,7 @@ use independent::interface::{Machine, Next, Reference};
 use independent::random::{typed_commands, Random};
 use independent::reference::command::*;
 use independent::reference::types::*;
-use independent::reference::{mode, refusal, takes_type, Core, Semaphore, MOST_CODE, SHARED_SIZE};
+use independent::reference::{mode, refusal, takes_type, Core, Semaphore, SHARED_SIZE};
 use independent::rerun::Lent;
 use std::hint::black_box;
 use std::time::{Duration, Instant};
@@ -393,18 +393,23 @@ fn four_tasks() -> Draft {
 
 /// The bytes from the start of a turn of the code below to the place after its conditional jump.
 pub const JUMPED: u16 = 8 + 8 + 5;
+/// The bytes of a turn.
+pub const TURN: usize = 52;
 
-/// As large as a file of the old form can be where the code has `MOST_CODE` bytes: four cores, 64 variables, code of every layout up to its last byte. The
-/// conditional jumps go `jump` bytes on from the start of their turn.
+/// Instructions of every layout. The conditional jump goes `jump` bytes on from the start of the turn.
+fn turn(program: Program, jump: u16) -> Program {
+    let here = program.here();
+    let program = program.typed(ADD, DINT, 8, 12, 16).typed(LT, REAL, 8, 12, 16).jump_if(JZ, 8, here + jump).constant(8, &[1, 2, 3, 4]);
+    program.element(AURD, 8, 12, 16, 4, 100).typed(NOT, BOOL, 8, 9, 0).copy(8, 2000, 1000)
+}
+
+/// As large as a file of the old form can be where the code has `MOST_CODE` bytes: four cores, 64 variables, code up to its last byte.
 pub fn largest(jump: u16, length: usize) -> Draft {
-    assert!((64..=MOST_CODE).contains(&length));
     let core = CoreRecord { data_size: 4096, input_size: 8, limit: 65_535 };
     let code = || -> Code {
         let mut program = Program::new();
         while (program.here() as usize) < length - 64 {
-            let here = program.here();
-            program = program.typed(ADD, DINT, 8, 12, 16).typed(LT, REAL, 8, 12, 16).jump_if(JZ, 8, here + jump).constant(8, &[1, 2, 3, 4]);
-            program = program.element(AURD, 8, 12, 16, 4, 100).typed(NOT, BOOL, 8, 9, 0).copy(8, 2000, 1000);
+            program = turn(program, jump);
         }
         while (program.here() as usize) < length {
             program = program.returns();
@@ -412,4 +417,11 @@ pub fn largest(jump: u16, length: usize) -> Draft {
         program.code()
     };
     Draft::new(vec![core; 4], exchanged(8), (0..4).map(|_| code()).collect())
+}
+
+/// Four cores without variables, so many turns of code in each.
+pub fn unshared(jump: u16, turns: usize) -> Draft {
+    let core = CoreRecord { data_size: 4096, input_size: 8, limit: 65_535 };
+    let code = || (0..turns).fold(Program::new(), |program, _| turn(program, jump)).returns().code();
+    Draft::new(vec![core; 4], Vec::new(), (0..4).map(|_| code()).collect())
 }
