@@ -278,15 +278,12 @@ fn value(random: &mut Random, kind: u8) -> Vec<u8> {
     }
 }
 
-/// 900 typed commands one after another, each command with each of its types as likely as the others, on random values of the type. One MEMCP ahead of them sets
-/// the values back, so that each cycle is like the first.
+/// 900 typed commands one after another, each command as likely as the others, then each of its types, on random values of the type. One MEMCP ahead of them
+/// sets the values back, so that each cycle is like the first.
 fn mixed() -> Draft {
     const COMMANDS: usize = 900;
     let random = &mut Random::new(1);
-    let all: Vec<(u8, u8)> = typed_commands()
-        .flat_map(|code| (BOOL..=TIME).map(move |kind| (code, kind)))
-        .filter(|&(code, kind)| takes_type(code, kind))
-        .collect();
+    let codes: Vec<u8> = typed_commands().collect();
     let stretch = |kind: u8| (VALUES + STRETCH * kind as usize) as u16;
     let place = |random: &mut Random, kind: u8| {
         let width = WIDTHS[kind as usize] as usize;
@@ -294,7 +291,8 @@ fn mixed() -> Draft {
     };
     let mut program = Program::new().copy(VALUES as u16, FIRST_VALUES as u16, 12 * STRETCH as u16);
     for _ in 0..COMMANDS {
-        let (code, kind) = random.pick(&all);
+        let code = random.pick(&codes);
+        let kind = random.pick(&(BOOL..=TIME).filter(|&kind| takes_type(code, kind)).collect::<Vec<u8>>());
         let result = if matches!(code, GT..=NE) { BOOL } else { kind };
         let b = match code {
             DIV => (DIVISORS + 8 * kind as usize) as u16,
