@@ -1,6 +1,6 @@
 #!/bin/sh
 # Counts the instructions of a unit of each workload, a step, a byte, a call, on both machines: a run of three times the units less one of one time, by
-# `valgrind --tool=callgrind`. The same program on the same processor gives the same counts.
+# `valgrind --tool=callgrind`. The same program gives the same counts again. An instruction that repeats (`rep stosb`) counts once a turn.
 #
 #   counts.sh                         all workloads of `counted names`, as lines of a table
 #   counts.sh 'DINT loop, a step'     one of them
@@ -30,7 +30,10 @@ names() {
 echo "| instructions | Rust | Rikzord | ratio |"
 echo "|---|---|---|---|"
 names "$@" | while IFS= read -r name; do
-    reference=$(unit reference "$name")
     rikzord=$(unit rikzord "$name")
-    echo "$reference $rikzord" | awk -v name="$name" '{ printf "| %s | %.1f | %.1f | %.2f |\n", name, $1, $2, $2 / $1 }'
+    # The reference reruns by single steps that judge all each time: no yardstick.
+    case $name in rerun*) reference=0 ;; *) reference=$(unit reference "$name") ;; esac
+    echo "$reference $rikzord" | awk -v name="$name" '
+        $1 > 0 { printf "| %s | %.1f | %.1f | %.2f |\n", name, $1, $2, $2 / $1 }
+        $1 == 0 { printf "| %s | | %.1f | |\n", name, $2 }'
 done

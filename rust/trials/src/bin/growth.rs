@@ -134,7 +134,8 @@ fn runs() -> Panel {
                 plant.semaphore = fresh.semaphore;
                 plant.follow(&work, &Linked, &work.order(0)[..length])
             };
-            least(5, call)
+            // A long call is seldom left alone.
+            least(if length < 1_000_000 { 5 } else { 20 }, call)
         };
         let alone = time(0);
         let point = |length| Point { size: length, units: length, call: time(length), alone };
