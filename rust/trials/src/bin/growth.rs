@@ -294,7 +294,8 @@ const COLUMNS: usize = 2;
 const PANEL: [f64; 2] = [430.0, 310.0];
 /// Around the field of a panel: left, right, above, below.
 const MARGINS: [f64; 4] = [62.0, 26.0, 76.0, 50.0];
-const COLOURS: [&str; 3] = ["#1f5fa8", "#c2571a", "#3c8a3c"];
+/// Of each series the colour, and the dashes, so that one under another is seen.
+const LINES: [(&str, &str); 3] = [("#1f5fa8", "none"), ("#c2571a", "8 6"), ("#3c8a3c", "2 6")];
 
 fn drawn(panels: &[Panel]) -> String {
     let rows = panels.len().div_ceil(COLUMNS);
@@ -330,7 +331,11 @@ impl Panel {
         for number in 0..=marks as usize {
             let (time, y) = (mark * number as f64, up(mark * number as f64));
             line(format!("<path d=\"M{left} {y:.1}H{:.1}\" stroke=\"#dddddd\"/>", left + field_width));
-            let label = if mark < 1.0 { format!("{time:.1}") } else { grouped(time as usize) };
+            let label = match mark {
+                ..0.1 => format!("{time:.2}"),
+                ..1.0 => format!("{time:.1}"),
+                _ => grouped(time as usize),
+            };
             line(format!("<text x=\"{:.1}\" y=\"{:.1}\" text-anchor=\"end\" fill=\"#444444\">{label}</text>", left - 6.0, y + 4.0));
         }
         let mut labelled = f64::MIN;
@@ -350,10 +355,12 @@ impl Panel {
             above + field_height,
             left + field_width
         ));
-        for (number, (series, colour)) in self.series.iter().zip(COLOURS).enumerate() {
+        for (number, (series, (colour, dashes))) in self.series.iter().zip(LINES).enumerate() {
             let places: Vec<(f64, f64)> = series.points.iter().map(|point| (across(point.size as f64), up(point.time()))).collect();
             let path: Vec<String> = places.iter().map(|(x, y)| format!("{x:.1},{y:.1}")).collect();
-            line(format!("<polyline points=\"{}\" fill=\"none\" stroke=\"{colour}\" stroke-width=\"2\"/>", path.join(" ")));
+            let path = path.join(" ");
+            let stroke = format!("stroke=\"{colour}\" stroke-width=\"2\" stroke-dasharray=\"{dashes}\"");
+            line(format!("<polyline points=\"{path}\" fill=\"none\" {stroke}/>"));
             for (x, y) in places {
                 line(format!("<circle cx=\"{x:.1}\" cy=\"{y:.1}\" r=\"3\" fill=\"{colour}\"/>"));
             }
