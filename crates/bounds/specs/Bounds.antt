@@ -6,6 +6,7 @@ use mathlib.Core.Bool.{Bool, true}
 use mathlib.Core.List.{List, [], _∷_}
 use lib.Dec.{ltb, leb, eqb}
 use lib.ListN.{length}
+use Rattle.verdict.specs.Numbers.{notAbove, tooLong}
 use Rattle.verdict.specs.Verdict.{pick, next, unless, first}
 use Rattle.code.specs.Flow.{Kind, Returns, Jumps, Branches, Calls, Passes, kind, goesTo, after, target}
 use Rattle.code.specs.Code.{allFrom}
@@ -53,7 +54,7 @@ allRise c = allFrom (rises c) (length c) c 0
 
 -- "25, a target not above its own instruction; 26, a count above 65,535"
 unfoldable pub boundsRefusal : List ℕ → ℕ
-boundsRefusal c = next (unless (allRise c) 25) (unless (leb (longest c) 65535) 26)
+boundsRefusal c = next (unless (allRise c) notAbove) (unless (leb (longest c) 65535) tooLong)
 
 -- "for each core in turn"
 unfoldable pub coresRefusal : List ℕ → ℕ

@@ -5,6 +5,7 @@ use Prim.Native.Nat.{ℕ}
 use mathlib.Core.List.{List, [], _∷_}
 use lib.Dec.{leb, eqb}
 use lib.ListN.{length}
+use Rattle.verdict.specs.Numbers.{badLengths}
 use Rattle.verdict.specs.Verdict.{pick, both, next, unless}
 use Rattle.memory.specs.Memory.{splice, part}
 use Rattle.bounds.specs.declared.Taken.{Taken}
@@ -13,7 +14,7 @@ use Rattle.bounds.specs.Bounds.{takesOf}
 -- ---- the refusal, with so many places lent for lengths, counts and depths
 
 unfoldable pub outputRefusal : Taken → ℕ → ℕ → ℕ → ℕ
-outputRefusal x lengths counts depths = next (x .refusal) (unless (both (leb 3 lengths) (both (leb (x .table) counts) (leb (x .table) depths))) 21)
+outputRefusal x lengths counts depths = next (x .refusal) (unless (both (leb 3 lengths) (both (leb (x .table) counts) (leb (x .table) depths))) badLengths)
 
 -- ---- what the call leaves
 

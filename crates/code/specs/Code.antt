@@ -8,6 +8,7 @@ use mathlib.Core.List.{List}
 use mathlib.Core.Bool.{Bool, true, false}
 use lib.ListN.{length, getD}
 use lib.Dec.{ltb, leb, eqb}
+use Rattle.verdict.specs.Numbers.{badInstruction, badTarget, wideType}
 use Rattle.verdict.specs.Verdict.{pick, both, either, within, next, unless}
 use Rattle.memory.specs.Memory.{byte}
 use Rattle.values.specs.Types.{takes}
@@ -65,7 +66,7 @@ instructionOk c p =
 
 -- 6, and right after it what the profile does not carry
 unfoldable pub instructionRefusal : Profile → List ℕ → ℕ → ℕ
-instructionRefusal profile c p = next (unless (instructionOk c p) 6) (unless (carries profile (instructionAt c p)) 27)
+instructionRefusal profile c p = next (unless (instructionOk c p) badInstruction) (unless (carries profile (instructionAt c p)) wideType)
 
 -- the length of an accepted instruction, 0 where it is refused
 unfoldable pub acceptedLength : List ℕ → ℕ → ℕ
@@ -116,7 +117,7 @@ ends code = ltb code 2
 unfoldable pub judgeCodeFor : Profile → List ℕ → ℕ
 judgeCodeFor profile c =
     next (laid profile (length c) c 0)
-    (next (unless (allFrom (targetOk c) (length c) c 0) 7) (unless (ends (lastFrom (length c) c 0 0)) 7))
+    (next (unless (allFrom (targetOk c) (length c) c 0) badTarget) (unless (ends (lastFrom (length c) c 0 0)) badTarget))
 
 -- under the full profile
 abbrev pub judgeCode : List ℕ → ℕ

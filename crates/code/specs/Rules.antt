@@ -7,6 +7,7 @@ use mathlib.Core.List.{List, [], _∷_, _++_}
 use mathlib.Core.Bool.{true}
 use lib.Dec.{ltb}
 use lib.ListN.{length}
+use Rattle.verdict.specs.Numbers.{badInstruction, badTarget, wideType}
 use Rattle.verdict.specs.Verdict.{pick}
 use Rattle.verdict.specs.Items.{From, OneOf, Item, item, forEach}
 use Rattle.memory.specs.Memory.{byte, word}
@@ -101,12 +102,12 @@ WellFormedCode c = WellFormedCodeFor Full c
 
 abbrev pub typeItems : Profile → List ℕ → ℕ → List Item
 typeItems Full c p = []
-typeItems Small c p = item 27 (NoWide c p) ∷ []
+typeItems Small c p = item wideType (NoWide c p) ∷ []
 
 unfoldable pub codeItemsFor : Profile → List ℕ → List Item
 codeItemsFor profile c =
-    forEach (startsFrom (length c) c 0) (λ p. item 6 (InstructionRules c p) ∷ typeItems profile c p)
-    ++ (item 7 (Targets c) ∷ item 7 (Last c) ∷ [])
+    forEach (startsFrom (length c) c 0) (λ p. item badInstruction (InstructionRules c p) ∷ typeItems profile c p)
+    ++ (item badTarget (Targets c) ∷ item badTarget (Last c) ∷ [])
 
 abbrev pub codeItems : List ℕ → List Item
 codeItems c = codeItemsFor Full c

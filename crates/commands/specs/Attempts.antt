@@ -5,6 +5,7 @@ use mathlib.Core.List.{List}
 use mathlib.Core.Option.{Option, none, some}
 use mathlib.Core.Path.{_≡_}
 use lib.ListN.{length}
+use Rattle.verdict.specs.Numbers.{divisorBit, addressBit}
 use Rattle.verdict.specs.Verdict.{pick}
 use Rattle.memory.specs.Memory.{readLE}
 use Rattle.values.specs.Types.{takes}
@@ -18,8 +19,8 @@ use Rattle.commands.specs.declared.Performed.the-variants.{Done, Beyond,
 -- "Bits: .. 3 zero divisor, 4 address beyond the data": the flag bit of the fault that an answer is; a command that is done has none
 abbrev pub flagBit : Performed → Option ℕ
 flagBit Done = none
-flagBit Beyond = some 4
-flagBit ByZero = some 3
+flagBit Beyond = some addressBit
+flagBit ByZero = some divisorBit
 
 pub record Attempt : Type 0 where
   pub fault : Option ℕ

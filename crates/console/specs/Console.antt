@@ -6,6 +6,7 @@ use mathlib.Core.Bool.{Bool}
 use mathlib.Core.List.{List}
 use lib.ListN.{length}
 use lib.Dec.{ltb, eqb}
+use Rattle.verdict.specs.Numbers.{noSuchCore}
 use Rattle.verdict.specs.Verdict.{pick, either, next, unless}
 use Rattle.protocol.specs.Step.{run, orderList}
 use Rattle.records.specs.File.{cores}
@@ -28,7 +29,7 @@ tooLong file trace order = either (ltb 82800 file) (either (ltb 4096 trace) (ltb
 -- ---- the refusal of the task set, of the trace (22) and of the order (20)
 
 unfoldable pub refusalOf : List ℕ → List ℕ → List ℕ → ℕ
-refusalOf f t order = next (judge f) (next (traceRefusal f t) (unless (allBelow (cores f) order) 20))
+refusalOf f t order = next (judge f) (next (traceRefusal f t) (unless (allBelow (cores f) order) noSuchCore))
 
 -- ---- the run from the fresh state
 

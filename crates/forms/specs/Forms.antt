@@ -7,6 +7,7 @@ use mathlib.Core.Bool.{Bool}
 use mathlib.Core.List.{List, _++_}
 use lib.Dec.{leb, eqb}
 use lib.ListN.{length}
+use Rattle.verdict.specs.Numbers.{noMark, badLengths, hasStarts}
 use Rattle.verdict.specs.Verdict.{pick, upto, next, unless}
 use Rattle.memory.specs.Memory.{splice, part}
 use Rattle.protocol.specs.Fresh.{zeros}
@@ -36,12 +37,12 @@ noStarts f = upto (λ k. eqb (startCount f k) 0) (cores f)
 -- ---- refusals, with an output of this many bytes
 
 unfoldable pub toNewRefusal : List ℕ → ℕ → ℕ
-toNewRefusal f room = next (present f 4) (next (unless (isOld f) 2) (next (judge f) (unless (leb (length (toNew f)) room) 21)))
+toNewRefusal f room = next (present f 4) (next (unless (isOld f) noMark) (next (judge f) (unless (leb (length (toNew f)) room) badLengths)))
 
 unfoldable pub toOldRefusal : List ℕ → ℕ → ℕ
 toOldRefusal f room =
     next (present f 4)
-    (next (unless (isNew f) 2) (next (judge f) (next (unless (noStarts f) 32) (unless (leb (length (toOld f)) room) 21))))
+    (next (unless (isNew f) noMark) (next (judge f) (next (unless (noStarts f) hasStarts) (unless (leb (length (toOld f)) room) badLengths))))
 
 -- ---- the calls
 

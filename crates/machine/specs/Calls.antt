@@ -5,6 +5,7 @@ use mathlib.Core.Bool.{Bool, true}
 use mathlib.Core.List.{List, [], _∷_}
 use lib.ListN.{length, replicate}
 use lib.Dec.{ltb, leb, eqb}
+use Rattle.verdict.specs.Numbers.{noSuchCore, badLengths}
 use Rattle.verdict.specs.Verdict.{pick, both, next, unless}
 use Rattle.memory.specs.Memory.{total}
 use Rattle.protocol.specs.State.{cleared}
@@ -44,7 +45,7 @@ setRefusal f t h = next (judge f) (heldRefusal f t h)
 -- of a call that lends memory of these sizes, and an order list with room or not; `named` says that it names no core from n on
 unfoldable pub callRefusal : List ℕ → List ℕ → State → ℕ → ℕ → Bool → Bool → ℕ
 callRefusal f t h buffer shared room named =
-    next (judge f) (next (unless (both (lentFits f buffer shared) room) 21) (next (heldRefusal f t h) (unless named 20)))
+    next (judge f) (next (unless (both (lentFits f buffer shared) room) badLengths) (next (heldRefusal f t h) (unless named noSuchCore)))
 
 -- what a call answers that steps no core: the refusal number, no takings, a state
 abbrev pub answerOf : ℕ → State → Ran
@@ -64,7 +65,7 @@ tableOf n flags = record {
 
 -- "The caller names the full or the small profile when loading." (document 02, 2.10)
 abbrev pub freshRefusalFor : Profile → List ℕ → ℕ → ℕ → ℕ
-freshRefusalFor profile f buffer shared = next (judgeFor profile f) (unless (lentFits f buffer shared) 21)
+freshRefusalFor profile f buffer shared = next (judgeFor profile f) (unless (lentFits f buffer shared) badLengths)
 
 -- what a call with this refusal number leaves. Memories zero but for the start values (document 02, 2.12), mode 0, all registers 0, flags 4, semaphore free; a refused call gives a table of no cores
 abbrev pub freshLeft : ℕ → List ℕ → List ℕ → List ℕ → Left
@@ -116,7 +117,7 @@ stepCall f t h d sh k =
 -- ---- the next core to move after a given one; no memory is lent
 
 unfoldable pub nextRefusal : List ℕ → List ℕ → State → ℕ → ℕ
-nextRefusal f t h given = next (judge f) (next (heldRefusal f t h) (unless (ltb given (cores f)) 20))
+nextRefusal f t h given = next (judge f) (next (heldRefusal f t h) (unless (ltb given (cores f)) noSuchCore))
 
 unfoldable pub nextCall : List ℕ → List ℕ → State → ℕ → Next
 nextCall f t h given =

@@ -11,6 +11,7 @@ use Rattle.values.specs.Values.{typed, stored, readValue}
 use Rattle.values.specs.Commands.{command}
 use Rattle.values.specs.declared.Value.{Value}
 use Rattle.values.specs.declared.Value.the-variants.{Bool as Truth, Signed, Unsigned, Real}
+use Rattle.protocol.specs.Modes.{waitingToWrite}
 use Rattle.protocol.specs.State.{State, Task, core, mode}
 use Rattle.protocol.specs.Step.{inLine, step}
 
@@ -69,7 +70,7 @@ SR s r q = orB s (andB (notB r) q)
 
 -- core k waits to write, some core holds the semaphore, and core k is not in line yet
 pub record WaitsToWrite (k : ℕ) (s : State) : Type 0 where
-  pub mode-3 : mode (core (s .plant) k) ≡ 3
+  pub mode-3 : mode (core (s .plant) k) ≡ waitingToWrite
   pub held : 0 < s .semaphore .holder
   pub out : inLine k (s .semaphore .line) ≡ false
 

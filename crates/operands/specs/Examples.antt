@@ -3,6 +3,7 @@ use Prim.Native.Nat.{ℕ}
 use mathlib.Core.Path.{_≡_}
 use mathlib.Core.List.{List, [], _∷_}
 use lib.ListN.{replicate}
+use Rattle.protocol.specs.Modes.{executing}
 use Rattle.protocol.specs.State.{Core, cleared}
 use Rattle.operands.specs.Operands.{touching, dataFootprint}
 
@@ -12,7 +13,7 @@ executing d = record { registers = cleared 2 0; stack = record { places = replic
 
 abbrev pub calledAt10 : List ℕ → Core
 calledAt10 d = record {
-  registers = record { mode = 2; counter = 0; offset = 10; depth = 1; count = 0; exchange = 0; cycles = 0; flags = 0; time = 0 };
+  registers = record { mode = executing; counter = 0; offset = 10; depth = 1; count = 0; exchange = 0; cycles = 0; flags = 0; time = 0 };
   stack = record { places = replicate 16 0; offsets = replicate 16 0 };
   memory = d;
 }

@@ -6,6 +6,7 @@ use mathlib.Core.Bool.{Bool, true, false, not}
 use mathlib.Core.List.{List}
 use lib.ListN.{length}
 use lib.Dec.{ltb, leb, eqb}
+use Rattle.verdict.specs.Numbers.{indexBit, divisorBit, addressBit, callBit, conversionBit}
 use Rattle.verdict.specs.Verdict.{pick}
 use Rattle.memory.specs.Memory.{byte, splice, part, bytesLE, readLE, word}
 use Rattle.conversions.specs.declared.Conversion.{Conversion}
@@ -57,15 +58,15 @@ elementAt r d array index size = at r array + indexOf r d index * size
 
 unfoldable pub ofElement : Registers → List ℕ → ℕ → ℕ → ℕ → ℕ → ℕ → Decided → Decided
 ofElement r d variable array index size count x =
-    faultIf (anyBeyond (length d) (at r variable) size (at r index) 2) 4
-    (faultIf (leb count (indexOf r d index)) 0
-    (faultIf (beyond (length d) (elementAt r d array index size) size) 4 x))
+    faultIf (anyBeyond (length d) (at r variable) size (at r index) 2) addressBit
+    (faultIf (leb count (indexOf r d index)) indexBit
+    (faultIf (beyond (length d) (elementAt r d array index size) size) addressBit x))
 
 -- how a conversion ended: the data afterwards; bit 4, an address beyond the data; bit 6, a result that the destination can't hold
 abbrev pub endedBy : Registers → Conversion → List ℕ → Decided
 endedBy r Done m = changed r m
-endedBy r Beyond m = refused 4
-endedBy r NotHeld m = refused 6
+endedBy r Beyond m = refused addressBit
+endedBy r NotHeld m = refused conversionBit
 
 abbrev pub ofConversion : Registers → Ended → Decided
 ofConversion r x = endedBy r (x .conversion) (x .memory)
@@ -76,23 +77,23 @@ ofConversion r x = endedBy r (x .conversion) (x .memory)
 unfoldable pub dataPart : Instruction → List ℕ → Registers → List ℕ → Decided
 dataPart Return c r d = changed r d
 dataPart (Jump t) c r d = changed r d
-dataPart (JumpZero a t) c r d = faultIf (beyond (length d) (at r a) 1) 4 (decided (eqb (byte d (at r a)) 0) (r .offset) d)
-dataPart (JumpNotZero a t) c r d = faultIf (beyond (length d) (at r a) 1) 4 (decided (not (eqb (byte d (at r a)) 0)) (r .offset) d)
-dataPart (CallInstance i t) c r d = faultIf (leb (length d) (at r i)) 4 (decided false (at r i) d)
+dataPart (JumpZero a t) c r d = faultIf (beyond (length d) (at r a) 1) addressBit (decided (eqb (byte d (at r a)) 0) (r .offset) d)
+dataPart (JumpNotZero a t) c r d = faultIf (beyond (length d) (at r a) 1) addressBit (decided (not (eqb (byte d (at r a)) 0)) (r .offset) d)
+dataPart (CallInstance i t) c r d = faultIf (leb (length d) (at r i)) addressBit (decided false (at r i) d)
 dataPart (CallFunction t) c r d = changed r d
-dataPart (MoveConstant to n) c r d = faultIf (beyond (length d) (at r to) n) 4 (changed r (splice d (at r to) (part c (r .counter + 4) n)))
+dataPart (MoveConstant to n) c r d = faultIf (beyond (length d) (at r to) n) addressBit (changed r (splice d (at r to) (part c (r .counter + 4) n)))
 dataPart (CopyMemory to from n) c r d =
-    faultIf (anyBeyond (length d) (at r to) n (at r from) n) 4 (changed r (splice d (at r to) (part d (at r from) n)))
+    faultIf (anyBeyond (length d) (at r to) n (at r from) n) addressBit (changed r (splice d (at r to) (part d (at r from) n)))
 dataPart (ReadElement v a i size count) c r d =
     ofElement r d v a i size count (changed r (splice d (at r v) (part d (elementAt r d a i size) size)))
 dataPart (WriteElement v a i size count) c r d =
     ofElement r d v a i size count (changed r (splice d (elementAt r d a i size) (part d (at r v) size)))
 dataPart (Typed code t to a b) c r d =
-    faultIf (typedBeyond code t (length d) (at r to) (at r a) (at r b)) 4
-    (faultIf (zeroDivisor code t (readLE d (at r b) (secondWidth code t))) 3
+    faultIf (typedBeyond code t (length d) (at r to) (at r a) (at r b)) addressBit
+    (faultIf (zeroDivisor code t (readLE d (at r b) (secondWidth code t))) divisorBit
     (changed r (performed code t d (at r to) (at r a) (at r b))))
-dataPart (CycleTime to) c r d = faultIf (beyond (length d) (at r to) 4) 4 (changed r (splice d (at r to) (bytesLE 4 (r .time))))
-dataPart (FlagByte to) c r d = faultIf (beyond (length d) (at r to) 1) 4 (changed r (splice d (at r to) (bytesLE 1 (r .flags))))
+dataPart (CycleTime to) c r d = faultIf (beyond (length d) (at r to) 4) addressBit (changed r (splice d (at r to) (bytesLE 4 (r .time))))
+dataPart (FlagByte to) c r d = faultIf (beyond (length d) (at r to) 1) addressBit (changed r (splice d (at r to) (bytesLE 1 (r .flags))))
 dataPart (Convert from to destination source) c r d = ofConversion r (converting from to d (at r destination) (at r source))
 dataPart (Pack type destination source) c r d = ofConversion r (packing type d (at r destination) (at r source))
 dataPart (Unpack type destination source) c r d = ofConversion r (unpacking type d (at r destination) (at r source))
@@ -122,7 +123,7 @@ abbrev pub controlled : Kind → ℕ → ℕ → ℕ → List ℕ → Decided �
 controlled Returns next target depth d x = answer Returned d
 controlled Jumps next target depth d x = answer (Next target) d
 controlled Branches next target depth d x = branched next target d x
-controlled Calls next target depth d x = pick (eqb depth 16) (halted 5 d) (called next target d x)
+controlled Calls next target depth d x = pick (eqb depth 16) (halted callBit d) (called next target d x)
 controlled Passes next target depth d x = passed next d x
 
 -- ---- one instruction

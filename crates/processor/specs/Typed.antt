@@ -2,6 +2,7 @@
 use Prim.Native.Nat.{ℕ, _+_, _<_}
 use mathlib.Core.List.{List}
 use mathlib.Core.Option.{Option, none, some}
+use Rattle.verdict.specs.Numbers.{addressBit, conversionBit}
 use Rattle.memory.specs.Memory.{byte, word}
 use Rattle.commands.specs.declared.Operands.{Operands}
 use Rattle.commands.specs.declared.Performed.{Performed}
@@ -39,5 +40,5 @@ outcomeOf next p = outcomeBy next (flagBit p)
 -- the same of a conversion
 abbrev pub conversionOutcome : ℕ → Conversion → Outcome
 conversionOutcome next Converted = Next next
-conversionOutcome next Outside = Fault 4
-conversionOutcome next NotHeld = Fault 6
+conversionOutcome next Outside = Fault addressBit
+conversionOutcome next NotHeld = Fault conversionBit

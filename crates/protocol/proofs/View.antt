@@ -3,13 +3,15 @@ use mathlib.Core.Path.{_≡_, refl, sym, _∙_}
 use mathlib.Core.Logic.{_≢_, _⊎_, inl, inr}
 use mathlib.Core.Bool.{Bool, true, false}
 use mathlib.Core.List.{List, [], _∷_}
-use Prim.Native.Nat.{ℕ, zero, suc, _<_, suc-le-suc}
+use Prim.Native.Nat.{ℕ, zero, suc, _≤_, _<_, suc-le-suc}
 use native.Mathlib.Nat.{zero-lt-suc}
 use native.Mathlib.Omega.{arith}
-use lib.Dec.{eqb·suc-zero, eqb·suc-suc}
+use borrow.Author.Tests.{ne-eqb}
+use lib.Dec.{eqb}
 use lib.ListN.{length, getD, set, take, drop}
 use lib.Seq.{getD-set-same}
 use Rattle.verdict.specs.Verdict.{pick}
+use Rattle.protocol.specs.Modes.{stopped}
 use Rattle.protocol.specs.Registers.{readAcquired, writeAcquired}
 use Rattle.protocol.specs.State.{Core, Semaphore, State, Move, Sample, Task, absent, core, mode}
 use Rattle.protocol.specs.Step.{turnIn, turn, acquiredBy, released, wait, copy, left, readTaken, readNext, readDone, writeTaken, writeNext, writeDone, takeRead, readOn, takeWrite, writeOn, stepIn, step, Taking, reading, writing, taken, takingOf}
@@ -20,6 +22,19 @@ pub inside : (l : List Core) (k m : ℕ) → mode (getD l k absent) ≡ m → m 
 inside [] k m e h = omega arith
 inside (x ∷ xs) zero m e h = zero-lt-suc (length xs)
 inside (x ∷ xs) (suc k) m e h = suc-le-suc (inside xs k m e h)
+
+-- from mode 5 on no test of a mode below it holds, and a step changes nothing
+pub past-modes : (m n : ℕ) → stopped ≤ m → n < stopped → eqb m n ≡ false
+past-modes m n a b = ne-eqb m n (λ e. omega arith)
+
+pub stopped-step : (m : ℕ) (t : Task) (k : ℕ) (c : Core) (s : State) → stopped ≤ m → stepIn m t k c s ≡ s
+unfolding pick
+stopped-step m t k c s h =
+    rw (past-modes m 0 h (omega arith), past-modes m 1 h (omega arith), past-modes m 2 h (omega arith), past-modes m 3 h (omega arith), past-modes m 4 h (omega arith))
+
+stopped-takes : (m m′ k : ℕ) → stopped ≤ m → taken m m′ k ≡ []
+unfolding pick
+stopped-takes m m′ k h = rw (past-modes m 0 h (omega arith), past-modes m 3 h (omega arith))
 
 -- whose turn it is, for him the semaphore is free
 pub turn-free : (h : ℕ) (xs : List ℕ) (k : ℕ) → turnIn h xs k ≡ true → h ≡ 0
@@ -118,7 +133,8 @@ module _ (t : Task) (k : ℕ) (s : State) where
   seen (suc (suc (suc zero))) e = seen3 e _ refl
   seen (suc (suc (suc (suc zero)))) e = seen4 e _ refl
   seen (suc (suc (suc (suc (suc m))))) e =
-      rw (eqb·suc-zero, eqb·suc-suc, eqb·suc-suc, eqb·suc-suc, eqb·suc-zero) (rests record { still = omega arith; no-write = omega arith; no-read = λ w. absurd (omega arith) })
+      let h : stopped ≤ suc (suc (suc (suc (suc m)))) = omega arith in
+      rw (stopped-step _ t k (at s k) s h, stopped-takes _ (mode (at s k)) k h) (rests record { still = omega arith; no-write = omega arith; no-read = λ w. absurd (omega arith) })
 
   pub view : Moves t k s (step t k s) (takingOf t k s)
   unfolding step takingOf

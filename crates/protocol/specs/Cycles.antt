@@ -9,6 +9,7 @@ use mathlib.Core.List.{List, [], _∷_}
 use Prim.Native.Nat.{ℕ, suc}
 use lib.Dec.{T, eqb}
 use lib.ListN.{drop}
+use Rattle.protocol.specs.Modes.{betweenCycles}
 use Rattle.protocol.specs.State.{Plant, State, Task, core}
 use Rattle.protocol.specs.Step.{Taking, reading, writing, run, takings}
 use Rattle.protocol.specs.Whole.{wholeOne}
@@ -97,7 +98,7 @@ cycles t (k ∷ ks) p = cycles t ks (cycle t k p)
 -- each of these cycles finds its core between cycles, with a record left
 abbrev pub EachRuns : Task → List ℕ → Plant → Type 0
 EachRuns t [] p = Unit {0}
-EachRuns t (k ∷ ks) p = (core p k .registers .mode ≡ 0) × (drop (core p k .registers .cycles) (t .samples k) ≢ []) × EachRuns t ks (cycle t k p)
+EachRuns t (k ∷ ks) p = (core p k .registers .mode ≡ betweenCycles) × (drop (core p k .registers .cycles) (t .samples k) ≢ []) × EachRuns t ks (cycle t k p)
 
 -- the cores whose cycles begin, in order
 abbrev pub begun : List Taking → List ℕ

@@ -10,6 +10,7 @@ use mathlib.Core.List.{List, [], _∷_, _++_}
 use Prim.Native.Nat.{ℕ, zero, suc, _+_, _-_, _<_, _≤_}
 use lib.Dec.{T, eqb}
 use lib.ListN.{length, drop}
+use Rattle.protocol.specs.Modes.{betweenCycles, waitingToWrite, readingExchange, executing, writingExchange}
 use Rattle.protocol.specs.State.{State, Task, core}
 use Rattle.protocol.specs.Step.{inLine, run, step}
 use Rattle.protocol.specs.Laws.{Laws, Fresh}
@@ -26,7 +27,7 @@ Once (x ∷ xs) = (inLine x xs ≡ false) × Once xs
 pub record FitLine (t : Task) (s : State) : Type 0 where
   pub once : Once (s .semaphore .line)
   pub below : (j : ℕ) → T (inLine j (s .semaphore .line)) → j < length (s .plant .cores)
-  pub modes : (j : ℕ) → T (inLine j (s .semaphore .line)) → (core (s .plant) j .registers .mode ≡ 0) ⊎ (core (s .plant) j .registers .mode ≡ 3)
+  pub modes : (j : ℕ) → T (inLine j (s .semaphore .line)) → (core (s .plant) j .registers .mode ≡ betweenCycles) ⊎ (core (s .plant) j .registers .mode ≡ waitingToWrite)
   pub records : (j : ℕ) → T (inLine j (s .semaphore .line)) → drop (core (s .plant) j .registers .cycles) (t .samples j) ≢ []
 
 -- ---- fair
@@ -42,7 +43,7 @@ first k s = firstIn k (s .semaphore .holder) (s .semaphore .line)
 
 -- a step from mode m to m′ that ends an exchange: its release, 1 to 2 or 4 to 0
 abbrev pub releases : ℕ → ℕ → Bool
-releases m m′ = pick (both (eqb m 1) (eqb m′ 2)) true (both (eqb m 4) (eqb m′ 0))
+releases m m′ = pick (both (eqb m readingExchange) (eqb m′ executing)) true (both (eqb m writingExchange) (eqb m′ betweenCycles))
 
 -- 1 where the step of core j from s to s′ ends an exchange, and j is not k
 abbrev pub endOf : ℕ → ℕ → State → State → ℕ

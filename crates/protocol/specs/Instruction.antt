@@ -4,6 +4,7 @@ use mathlib.Core.List.{List}
 use Prim.Native.Nat.{ℕ, zero, suc}
 use lib.Dec.{eqb}
 use lib.ListN.{getD}
+use Rattle.verdict.specs.Numbers.{limitBit}
 use Rattle.verdict.specs.Verdict.{pick}
 use Rattle.protocol.specs.declared.Outcome.{Outcome}
 use Rattle.protocol.specs.declared.Outcome.the-variants.{Fault, Next, Call, Return}
@@ -44,7 +45,7 @@ halted b m = record { outcome = Fault b; memory = m }
 
 -- flag bit 1 where the count has reached the limit, else what the instruction answers
 unfoldable pub limited : ℕ → Executed → Core → Executed
-limited limit x c = pick (eqb (c .registers .count) limit) (halted 1 (c .memory)) x
+limited limit x c = pick (eqb (c .registers .count) limit) (halted limitBit (c .memory)) x
 
 -- the instruction of a task, from each core's limit and from what an instruction of it answers
 unfoldable pub instructionBy : (ℕ → ℕ) → (ℕ → Core → Executed) → ℕ → Core → Core

@@ -1,3 +1,4 @@
+pub mod Modes
 pub mod Registers
 pub mod State
 pub mod Step

@@ -1,13 +1,12 @@
 -- Document 01, "One step of a core": what each part of a step does to a core's registers and to its call stack.
--- Modes: 0 between two cycles, 1 reading exchange, 2 execution, 3 waiting to write, 4 writing exchange, 5 stopped.
 -- In order: flags; exchanges; instructions; the call stack. Every field is written, so what a change leaves alone can be read off.
 use Prim.Native.Nat.{ℕ, _+_, _-_, _*_, _/_, _%_, _^_}
 use lib.ListN.{set}
+use Rattle.protocol.specs.Modes.{betweenCycles, readingExchange, executing, waitingToWrite, writingExchange, stopped}
 use Rattle.protocol.specs.declared.Registers.{Registers}
 use Rattle.protocol.specs.declared.Stack.{Stack}
 
--- ---- the flag byte: bit 0 array index, 1 instruction limit, 2 cold start, 3 zero divisor, 4 address beyond the data, 5 seventeenth call,
--- 6 a conversion whose result the destination can't hold (document 02, 2.3)
+-- ---- the flag byte
 
 -- a lawful flag byte is below this: bit 7 alone is none
 abbrev pub flagBound : ℕ
@@ -26,7 +25,7 @@ warm f = f - 4 * (f / 4 % 2)
 -- mode 0 to 1, with the time of the input record; a taking sets the exchange number to 0
 unfoldable pub readAcquired : ℕ → Registers → Registers
 readAcquired time r = record {
-  mode = 1;
+  mode = readingExchange;
   counter = r .counter;
   offset = r .offset;
   depth = r .depth;
@@ -53,12 +52,12 @@ byteCopied r = record {
 
 -- mode 1 to 2
 unfoldable pub readReleased : Registers → Registers
-readReleased r = record { mode = 2; counter = 0; offset = 0; depth = 0; count = 0; exchange = 0; cycles = r .cycles; flags = r .flags; time = r .time }
+readReleased r = record { mode = executing; counter = 0; offset = 0; depth = 0; count = 0; exchange = 0; cycles = r .cycles; flags = r .flags; time = r .time }
 
 -- mode 3 to 4
 unfoldable pub writeAcquired : Registers → Registers
 writeAcquired r = record {
-  mode = 4;
+  mode = writingExchange;
   counter = r .counter;
   offset = r .offset;
   depth = r .depth;
@@ -72,7 +71,7 @@ writeAcquired r = record {
 -- mode 4 to 0
 unfoldable pub writeReleased : Registers → Registers
 writeReleased r = record {
-  mode = 0;
+  mode = betweenCycles;
   counter = r .counter;
   offset = r .offset;
   depth = r .depth;
@@ -130,7 +129,7 @@ returned place offset r = record {
 -- RETURN at depth 0: mode 2 to 3, the program counter unmoved
 unfoldable pub cycleEnded : Registers → Registers
 cycleEnded r = record {
-  mode = 3;
+  mode = waitingToWrite;
   counter = r .counter;
   offset = r .offset;
   depth = r .depth;
@@ -144,7 +143,7 @@ cycleEnded r = record {
 -- a fault sets flag bit b, goes to mode 5, and changes nothing else
 unfoldable pub faulted : ℕ → Registers → Registers
 faulted b r = record {
-  mode = 5;
+  mode = stopped;
   counter = r .counter;
   offset = r .offset;
   depth = r .depth;

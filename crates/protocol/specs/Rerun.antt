@@ -12,6 +12,7 @@ use mathlib.Core.Option.{Option, none, some}
 use Prim.Native.Nat.{ℕ, _-_, _<_}
 use lib.Dec.{eqb, ltb}
 use lib.ListN.{length, drop}
+use Rattle.protocol.specs.Modes.{betweenCycles, waitingToWrite, stopped}
 use Rattle.protocol.specs.State.{Plant, State, Task, Sample, core, mode, untaken}
 use Rattle.protocol.specs.Step.{Taking, reading, writing, run, orderList}
 use Rattle.protocol.specs.Whole.{wholeOne, whole}
@@ -26,8 +27,8 @@ anyLeft (r ∷ rs) = true
 -- the whole-exchange machine has the taking x to do: a reading of a core in mode 0 with records left, a writing of a core in mode 3.
 -- A core number from n on finds a stopped core, so that there is none.
 unfoldable pub accepts : Task → Taking → Plant → Bool
-accepts t (reading k) p = both (eqb (mode (core p k)) 0) (anyLeft (drop (core p k .registers .cycles) (t .samples k)))
-accepts t (writing k) p = eqb (mode (core p k)) 3
+accepts t (reading k) p = both (eqb (mode (core p k)) betweenCycles) (anyLeft (drop (core p k .registers .cycles) (t .samples k)))
+accepts t (writing k) p = eqb (mode (core p k)) waitingToWrite
 
 -- it has each of them to do in its turn
 abbrev pub legal : Task → List Taking → Plant → Bool
@@ -56,7 +57,7 @@ rerunBytes t bs s = rerun t (map decoded bs) s
 
 -- Each core is between cycles, waiting to write, or stopped
 abbrev pub Settled : State → Type 0
-Settled s = (k : ℕ) → (mode (core (s .plant) k) ≡ 0) ⊎ ((mode (core (s .plant) k) ≡ 3) ⊎ (mode (core (s .plant) k) ≡ 5))
+Settled s = (k : ℕ) → (mode (core (s .plant) k) ≡ betweenCycles) ⊎ ((mode (core (s .plant) k) ≡ waitingToWrite) ⊎ (mode (core (s .plant) k) ≡ stopped))
 
 -- each of the steps is one of a core below n
 abbrev pub Below : ℕ → List ℕ → Type 0

@@ -2,6 +2,7 @@
 use mathlib.Core.List.{List, []}
 use Prim.Native.Nat.{ℕ}
 use lib.ListN.{getD, set}
+use Rattle.protocol.specs.Modes.{stopped}
 use Rattle.protocol.specs.declared.Registers.{Registers}
 use Rattle.protocol.specs.declared.Stack.{Stack}
 
@@ -37,7 +38,7 @@ cleared mode flags = record { mode = mode; counter = 0; offset = 0; depth = 0; c
 
 -- what a core number from n on finds: a stopped core, so that its step changes nothing
 abbrev pub absent : Core
-absent = record { registers = cleared 5 0; stack = record { places = []; offsets = [] }; memory = [] }
+absent = record { registers = cleared stopped 0; stack = record { places = []; offsets = [] }; memory = [] }
 
 abbrev pub core : Plant → ℕ → Core
 core p k = getD (p .cores) k absent

@@ -7,6 +7,7 @@ use lib.Dec.{eqb}
 use lib.ListN.{getD, set, take, drop}
 use Rattle.verdict.specs.Verdict.{pick, both}
 use Rattle.memory.specs.Memory.{splice}
+use Rattle.protocol.specs.Modes.{betweenCycles, readingExchange, executing, waitingToWrite, writingExchange}
 use Rattle.protocol.specs.Registers.{readAcquired, byteCopied, readReleased, writeAcquired, writeReleased}
 use Rattle.protocol.specs.State.{Core, Semaphore, State, Move, Sample, Task, core, mode, put}
 
@@ -104,12 +105,13 @@ writeOn (m ∷ ms) sh k c s = record { plant = record { cores = set (s .plant .c
 
 -- by the mode
 abbrev pub stepIn : ℕ → Task → ℕ → Core → State → State
-stepIn zero t k c s = takeRead (drop (c .registers .cycles) (t .samples k)) (turn (s .semaphore) k) k c s
-stepIn (suc zero) t k c s = readOn (drop 1 (left c (t .reads k))) (copy (take 1 (left c (t .reads k))) (s .plant .shared) (c .memory)) k c s
-stepIn (suc (suc zero)) t k c s = record { plant = put (s .plant) k (t .instruction k c); semaphore = s .semaphore }
-stepIn (suc (suc (suc zero))) t k c s = takeWrite (turn (s .semaphore) k) k c s
-stepIn (suc (suc (suc (suc zero)))) t k c s = writeOn (drop 1 (left c (t .writes k))) (copy (take 1 (left c (t .writes k))) (c .memory) (s .plant .shared)) k c s
-stepIn (suc (suc (suc (suc (suc m))))) t k c s = s
+stepIn m t k c s =
+    pick (eqb m betweenCycles) (takeRead (drop (c .registers .cycles) (t .samples k)) (turn (s .semaphore) k) k c s)
+    (pick (eqb m readingExchange) (readOn (drop 1 (left c (t .reads k))) (copy (take 1 (left c (t .reads k))) (s .plant .shared) (c .memory)) k c s)
+    (pick (eqb m executing) (record { plant = put (s .plant) k (t .instruction k c); semaphore = s .semaphore })
+    (pick (eqb m waitingToWrite) (takeWrite (turn (s .semaphore) k) k c s)
+    (pick (eqb m writingExchange) (writeOn (drop 1 (left c (t .writes k))) (copy (take 1 (left c (t .writes k))) (c .memory) (s .plant .shared)) k c s)
+    s))))
 
 unfoldable pub step : Task → ℕ → State → State
 step t k s = stepIn (mode (core (s .plant) k)) t k (core (s .plant) k) s
@@ -127,7 +129,8 @@ pub data Taking : Type 0 where
 
 -- core k's mode was m and is m′: 0 to 1 is a reading, 3 to 4 a writing, all else no taking
 abbrev pub taken : ℕ → ℕ → ℕ → List Taking
-taken m m′ k = pick (both (eqb m 0) (eqb m′ 1)) (reading k ∷ []) (pick (both (eqb m 3) (eqb m′ 4)) (writing k ∷ []) [])
+taken m m′ k =
+    pick (both (eqb m betweenCycles) (eqb m′ readingExchange)) (reading k ∷ []) (pick (both (eqb m waitingToWrite) (eqb m′ writingExchange)) (writing k ∷ []) [])
 
 unfoldable pub takingOf : Task → ℕ → State → List Taking
 takingOf t k s = taken (mode (core (s .plant) k)) (mode (core (step t k s .plant) k)) k

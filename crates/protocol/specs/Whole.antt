@@ -4,13 +4,14 @@ use mathlib.Core.List.{List, [], _∷_}
 use Prim.Native.Nat.{ℕ, zero, suc}
 use lib.Dec.{eqb}
 use lib.ListN.{set, drop}
+use Rattle.protocol.specs.Modes.{executing, waitingToWrite}
 use Rattle.protocol.specs.State.{Core, Plant, Sample, Task, core, mode, put}
 use Rattle.protocol.specs.Step.{copy, readTaken, readDone, writeDone, Taking, reading, writing}
 
 -- instructions until the mode is not 2, at most f of them; limit + 1 are always enough (`execution-ends`)
 abbrev pub execute : Task → ℕ → ℕ → Core → Core
 execute t zero k c = c
-execute t (suc f) k c = elim (eqb (mode c) 2) [ true ↦ execute t f k (t .instruction k c) | false ↦ c ]
+execute t (suc f) k c = elim (eqb (mode c) executing) [ true ↦ execute t f k (t .instruction k c) | false ↦ c ]
 
 -- a reading of core k, which is c, in mode m, with the records that are left
 abbrev pub wholeRead : ℕ → List Sample → Task → ℕ → Core → Plant → Plant
@@ -25,7 +26,7 @@ wholeWrite false t k c p = p
 
 unfoldable pub wholeOne : Task → Taking → Plant → Plant
 wholeOne t (reading k) p = wholeRead (mode (core p k)) (drop (core p k .registers .cycles) (t .samples k)) t k (core p k) p
-wholeOne t (writing k) p = wholeWrite (eqb (mode (core p k)) 3) t k (core p k) p
+wholeOne t (writing k) p = wholeWrite (eqb (mode (core p k)) waitingToWrite) t k (core p k) p
 
 abbrev pub whole : Task → List Taking → Plant → Plant
 whole t [] p = p

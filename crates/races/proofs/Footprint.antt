@@ -4,21 +4,23 @@ use mathlib.Core.Path.{_≡_, refl, sym, ap, _∙_, subst}
 use mathlib.Core.Logic.{_≢_, _⊎_, inl, inr}
 use mathlib.Core.Bool.{Bool, true, false}
 use mathlib.Core.List.{List, [], _∷_, _++_}
-use Prim.Native.Nat.{ℕ, zero, suc, _<_}
+use Prim.Native.Nat.{ℕ, zero, suc, _≤_, _<_}
 use native.Mathlib.Decide.{map-dec, ℕ-discrete}
 use native.Mathlib.Omega.{arith}
+use lib.Dec.{eqb}
 use lib.ListN.{length, getD, set, take, drop}
 use lib.Seq.{getD-set-other, ext-getD}
 use Rattle.verdict.specs.Verdict.{pick}
 use Rattle.memory.specs.Memory.{splice}
 use Rattle.protocol.specs.Registers.{readAcquired}
+use Rattle.protocol.specs.Modes.{stopped}
 use Rattle.protocol.specs.State.{Core, Semaphore, State, Move, Sample, Task, absent, mode}
 use Rattle.protocol.specs.Step.{acquiredBy, released, joinedBy, copy, left, turn, readTaken, readNext, readDone, writeTaken, writeNext, writeDone, takeRead, readOn, takeWrite, writeOn, stepIn, step, run, Taking, taken, takingOf, takings}
 use Rattle.protocol.specs.Laws.{Laws, Fresh, Holding, Held}
 use Rattle.protocol.specs.Variables.{In}
 use Rattle.races.specs.Footprint.{Place, control, local, byte, semaphore, Control, controlOf, Same, stretch, DataFootprints, SameSources, DataFootprintsRight, Footprint, locals, inputs, unspent, inTurn, sources, targets, release, footprintIn, footprint, Writes, Touches, SameRead, FootprintRight, RaceFree, Independent, Alike, Swaps, none, swap, later, more}
 use Rattle.protocol.proofs.Runs.{task, start, samples, variables}
-use Rattle.protocol.proofs.View.{inside, there, Wants, after, at, Moves, rests, waits, takesRead, readsOn, readsLast, runs, takesWrite, writesOn, writesLast, view}
+use Rattle.protocol.proofs.View.{inside, there, Wants, after, at, Moves, rests, waits, takesRead, readsOn, readsLast, runs, takesWrite, writesOn, writesLast, view, past-modes}
 use Rattle.protocol.proofs.Bytes.{in-append, in-left, in-right}
 use Rattle.protocol.proofs.Steps.{others-stay, lengths, only, held-step, held-fresh, held-run}
 use Rattle.races.proofs.Stretch.{store-same, splice-outside, splice-inside}
@@ -123,7 +125,7 @@ copy-kept place (m ∷ ms) from to p n i e = sym (getD-set-other to (m .target) 
 module _ (t : Task) (o : DataFootprints) (right : DataFootprintsRight t o) (k : ℕ) (s : State) where
   -- a core that waits writes the line
   wants-semaphore : Wants t k s → Writes t o k s semaphore
-  unfolding footprint
+  unfolding footprint pick
   wants-semaphore (inr e) = rw e (go (turn (s .semaphore) k))
     where
       go : (b : Bool) → In semaphore (inTurn b k [])
@@ -137,7 +139,7 @@ module _ (t : Task) (o : DataFootprints) (right : DataFootprintsRight t o) (k : 
       go (r ∷ rs) n false = inl refl
 
   changes-of : (s′ : State) (ts : List Taking) → Moves t k s s′ ts → (p : Place) → (Writes t o k s p → ⊥) → Same p s s′
-  unfolding footprint readTaken readNext readDone writeTaken writeNext writeDone
+  unfolding footprint readTaken readNext readDone writeTaken writeNext writeDone pick
   changes-of s′ ts (rests z) p n = refl
   changes-of s′ ts (waits i w b) (control j) n = refl
   changes-of s′ ts (waits i w b) (local j a) n = refl
@@ -173,14 +175,22 @@ module _ (t : Task) (o : DataFootprints) (right : DataFootprintsRight t o) (k : 
 
 -- ---- on what a step depends
 
+-- a stopped core reads its registers, and writes nothing
+stopped-places : (n : ℕ) (t : Task) (o : DataFootprints) (k : ℕ) (c : Core) (b : Bool) → footprintIn (suc (suc (suc (suc (suc n))))) t o k c b ≡ record { reads = control k ∷ []; writes = [] }
+unfolding pick
+stopped-places n t o k c b =
+    let past : (i : ℕ) → i < stopped → eqb (suc (suc (suc (suc (suc n))))) i ≡ false = λ i l. past-modes (suc (suc (suc (suc (suc n))))) i (omega arith) l in
+    rw (past 0 (omega arith), past 1 (omega arith), past 2 (omega arith), past 3 (omega arith), past 4 (omega arith))
+
 -- every step reads its core's registers
 control-read : (n : ℕ) (t : Task) (o : DataFootprints) (k : ℕ) (c : Core) (b : Bool) → In (control k) (footprintIn n t o k c b .reads)
+unfolding pick
 control-read zero t o k c b = inl refl
 control-read (suc zero) t o k c b = inl refl
 control-read (suc (suc zero)) t o k c b = inl refl
 control-read (suc (suc (suc zero))) t o k c b = inl refl
 control-read (suc (suc (suc (suc zero)))) t o k c b = inl refl
-control-read (suc (suc (suc (suc (suc n))))) t o k c b = inl refl
+control-read (suc (suc (suc (suc (suc n))))) t o k c b = rw (stopped-places n t o k c b) (inl refl)
 
 -- what a step of an exchange copies, where the byte that it copies is the same
 copied-same : (place to-place : ℕ → Place) (ms : List Move) (from from′ to to′ : List ℕ) → length to ≡ length to′
@@ -245,6 +255,7 @@ module _ (t : Task) (o : DataFootprints) (right : DataFootprintsRight t o) (k : 
       (λ i z. local-same e (omega arith) _ _ i z) p h
 
   same2 : mode (at s k) ≡ 2 → SameSources o k (at s k) other → (p : Place) → In p (control k ∷ locals k (o k (at s k) .writes)) → Same p (stepIn 2 t k (at s k) s) (stepIn 2 t k other s′)
+  unfolding pick
   same2 e a p (inl y) = control-same e (omega arith) _ _ _ _ _ _ (right .control-after k (at s k) other a) p y
   same2 e a p (inr h) =
       by-local (λ (p : Place). Same p (stepIn 2 t k (at s k) s) (stepIn 2 t k other s′)) k (o k (at s k) .writes)
@@ -286,6 +297,7 @@ module _ (t : Task) (o : DataFootprints) (right : DataFootprintsRight t o) (k : 
   -- the places
   places-in : (n : ℕ) → ((p : Place) → In p (footprintIn n t o k (at s k) (turn (s .semaphore) k) .reads) → Same p s s′)
       → footprintIn n t o k (at s k) (turn (s .semaphore) k) ≡ footprintIn n t o k there-too (turn (s′ .semaphore) k)
+  unfolding pick
   places-in zero a = go (drop (at s k .registers .cycles) (t .samples k)) a
     where
       go : (rs : List Sample) → ((p : Place) → In p (control k ∷ unspent rs (semaphore ∷ [])) → Same p s s′)
@@ -298,11 +310,12 @@ module _ (t : Task) (o : DataFootprints) (right : DataFootprintsRight t o) (k : 
       let e = right .bytes k (at s k) there-too (same-sources a) in λ x. record { reads = control k ∷ locals k (e x .reads); writes = control k ∷ locals k (e x .writes) }
   places-in (suc (suc (suc zero))) a = ap (λ (m : Semaphore). record { reads = control k ∷ semaphore ∷ []; writes = inTurn (turn m k) k [] }) (a semaphore (inr (inl refl)))
   places-in (suc (suc (suc (suc zero)))) a = refl
-  places-in (suc (suc (suc (suc (suc n))))) a = refl
+  places-in (suc (suc (suc (suc (suc n))))) a = stopped-places n t o k (at s k) (turn (s .semaphore) k) ∙ sym (stopped-places n t o k there-too (turn (s′ .semaphore) k))
 
   -- what is written there
   same-in : (n : ℕ) → mode (at s k) ≡ n → ((p : Place) → In p (footprintIn n t o k (at s k) (turn (s .semaphore) k) .reads) → Same p s s′)
       → (p : Place) → In p (footprintIn n t o k (at s k) (turn (s .semaphore) k) .writes) → Same p (stepIn n t k (at s k) s) (stepIn n t k there-too s′)
+  unfolding pick
   same-in zero e a p h = go (drop (at s k .registers .cycles) (t .samples k)) a h
     where
       go : (rs : List Sample) → ((p : Place) → In p (control k ∷ unspent rs (semaphore ∷ [])) → Same p s s′)
@@ -328,7 +341,7 @@ module _ (t : Task) (o : DataFootprints) (right : DataFootprintsRight t o) (k : 
       same4 t o right k s s′ size same (at s′ k .memory) data-size e ms (drop 1 ms)
       (λ p h. a p (inr (in-left p (release (drop 1 ms)) (sources (local k) ms) h)))
       (λ i h. a (local k i) (inr (in-right (local k i) (release (drop 1 ms)) (sources (local k) ms) h))) p h
-  same-in (suc (suc (suc (suc (suc n))))) e a p h = absurd h
+  same-in (suc (suc (suc (suc (suc n))))) e a p h = absurd (rw (stopped-places n t o k (at s k) (turn (s .semaphore) k)) at h)
 
 module _ (t : Task) (o : DataFootprints) (right : DataFootprintsRight t o) (k : ℕ) (s s′ : State) (a : SameRead t o k s s′) where
   control-too : controlOf (at s k) ≡ controlOf (at s′ k)
@@ -430,6 +443,7 @@ module _ (t : Task) (o : DataFootprints) (k : ℕ) (c : Core) where
   kinds-inputs (r ∷ rs) = kinds-locals (stretch 0 (length (r .input)))
 
   reads-kinds : (n : ℕ) (b : Bool) → mode c ≡ n → Kinds k c (footprintIn n t o k c b .reads)
+  unfolding pick
   reads-kinds zero b e = with-control (kinds-unspent (drop (c .registers .cycles) (t .samples k)) (semaphore ∷ []) (with-semaphore none-at-all))
   reads-kinds (suc zero) b e =
       let ms = left c (t .reads k) in with-control (with-release (drop 1 ms) (sources byte ms) (kinds-sources byte ms (λ i. copied i refl (inl e))))
@@ -437,9 +451,10 @@ module _ (t : Task) (o : DataFootprints) (k : ℕ) (c : Core) where
   reads-kinds (suc (suc (suc zero))) b e = with-control (with-semaphore none-at-all)
   reads-kinds (suc (suc (suc (suc zero)))) b e =
       let ms = left c (t .writes k) in with-control (with-release (drop 1 ms) (sources (local k) ms) (kinds-sources (local k) ms (λ i. its-data i refl)))
-  reads-kinds (suc (suc (suc (suc (suc n))))) b e = with-control none-at-all
+  reads-kinds (suc (suc (suc (suc (suc n))))) b e = rw (stopped-places n t o k c b) (with-control none-at-all)
 
   writes-kinds : (n : ℕ) (b : Bool) → mode c ≡ n → Kinds k c (footprintIn n t o k c b .writes)
+  unfolding pick
   writes-kinds zero b e =
       let rs = drop (c .registers .cycles) (t .samples k) in kinds-unspent rs (inTurn b k (inputs k rs)) (kinds-turn b (inputs k rs) (kinds-inputs rs))
   writes-kinds (suc zero) b e =
@@ -448,7 +463,7 @@ module _ (t : Task) (o : DataFootprints) (k : ℕ) (c : Core) where
   writes-kinds (suc (suc (suc zero))) b e = kinds-turn b [] none-at-all
   writes-kinds (suc (suc (suc (suc zero)))) b e =
       let ms = left c (t .writes k) in with-control (with-release (drop 1 ms) (targets byte ms) (kinds-targets byte ms (λ i. copied i refl (inr e))))
-  writes-kinds (suc (suc (suc (suc (suc n))))) b e = none-at-all
+  writes-kinds (suc (suc (suc (suc (suc n))))) b e = rw (stopped-places n t o k c b) none-at-all
 
 kind : (t : Task) (o : DataFootprints) (k : ℕ) (s : State) (p : Place) → Touches t o k s p → Kind k (at s k) p
 unfolding footprint
@@ -543,7 +558,7 @@ module _ (t : Task) (l : Laws t) (o : DataFootprints) (right : DataFootprintsRig
 
 -- a taking touches the semaphore
 taking-asks : (t : Task) (o : DataFootprints) (k : ℕ) (s s′ : State) (ts : List Taking) → Moves t k s s′ ts → (ts ≡ []) ⊎ Touches t o k s semaphore
-unfolding footprint
+unfolding footprint pick
 taking-asks t o k s s′ ts (rests z) = inl refl
 taking-asks t o k s s′ ts (waits i w b) = inl refl
 taking-asks t o k s s′ ts (takesRead r rs i f b e d) = inr (inl (rw (e, d) (inr (inl refl))))
@@ -613,7 +628,7 @@ not-target place n (m ∷ ms) (inr h) = h
 
 -- An instruction does not touch the semaphore
 pub instruction-alone : (t : Task) (o : DataFootprints) (k : ℕ) (s : State) → mode (at s k) ≡ 2 → Touches t o k s semaphore → ⊥
-unfolding footprint
+unfolding footprint pick
 instruction-alone t o k s e h = go (rw e at h)
   where
     go : In semaphore (control k ∷ locals k (o k (at s k) .reads)) ⊎ In semaphore (control k ∷ locals k (o k (at s k) .writes)) → ⊥
@@ -634,6 +649,7 @@ module _ (t : Task) (o : DataFootprints) (k : ℕ) (c : Core) (b b′ : Bool) wh
       go (inr r) = absurd (not-target place n ms r)
 
   asks-in : (n : ℕ) → In semaphore (footprintIn n t o k c b .reads) ⊎ In semaphore (footprintIn n t o k c b .writes) → In semaphore (footprintIn n t o k c b′ .reads)
+  unfolding pick
   asks-in zero (inl h) = h
   asks-in zero (inr h) = go (drop (c .registers .cycles) (t .samples k)) h
     where
@@ -648,8 +664,8 @@ module _ (t : Task) (o : DataFootprints) (k : ℕ) (c : Core) (b b′ : Bool) wh
   asks-in (suc (suc (suc zero))) h = inr (inl refl)
   asks-in (suc (suc (suc (suc zero)))) (inl h) = h
   asks-in (suc (suc (suc (suc zero)))) (inr h) = let ms = left c (t .writes k) in released-read byte (local k) (λ i e. never (cc)) (drop 1 ms) ms h
-  asks-in (suc (suc (suc (suc (suc n))))) (inl h) = h
-  asks-in (suc (suc (suc (suc (suc n))))) (inr h) = absurd h
+  asks-in (suc (suc (suc (suc (suc n))))) (inl h) = rw (stopped-places n t o k c b′) (rw (stopped-places n t o k c b) at h)
+  asks-in (suc (suc (suc (suc (suc n))))) (inr h) = absurd (rw (stopped-places n t o k c b) at h)
 
 -- the step of another core leaves it so that a step does not touch the semaphore
 still-alone : (t : Task) (o : DataFootprints) (j k : ℕ) (s : State) → k ≢ j → (Touches t o k s semaphore → ⊥) → Touches t o k (step t j s) semaphore → ⊥

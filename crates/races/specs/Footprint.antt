@@ -9,6 +9,9 @@ use mathlib.Core.Bool.{Bool, true, false}
 use mathlib.Core.List.{List, [], _∷_, _++_, map}
 use Prim.Native.Nat.{ℕ, zero, suc}
 use lib.ListN.{length, getD, take, drop}
+use lib.Dec.{eqb}
+use Rattle.verdict.specs.Verdict.{pick}
+use Rattle.protocol.specs.Modes.{betweenCycles, readingExchange, executing, waitingToWrite, writingExchange}
 use Rattle.protocol.specs.declared.Registers.{Registers}
 use Rattle.protocol.specs.declared.Stack.{Stack}
 use Rattle.protocol.specs.State.{Core, Semaphore, State, Move, Sample, Task, core, mode}
@@ -117,21 +120,27 @@ release (m ∷ ms) = []
 
 -- a step of core k, which is c, by its mode; b says whether it is its turn to take the semaphore. A stopped core reads its mode only
 abbrev pub footprintIn : ℕ → Task → DataFootprints → ℕ → Core → Bool → Footprint
-footprintIn zero t o k c b = record {
-  reads = control k ∷ unspent (drop (c .registers .cycles) (t .samples k)) (semaphore ∷ []);
-  writes = unspent (drop (c .registers .cycles) (t .samples k)) (inTurn b k (inputs k (drop (c .registers .cycles) (t .samples k))));
-}
-footprintIn (suc zero) t o k c b = record {
-  reads = control k ∷ release (drop 1 (left c (t .reads k))) ++ sources byte (left c (t .reads k));
-  writes = control k ∷ release (drop 1 (left c (t .reads k))) ++ targets (local k) (left c (t .reads k));
-}
-footprintIn (suc (suc zero)) t o k c b = record { reads = control k ∷ locals k (o k c .reads); writes = control k ∷ locals k (o k c .writes) }
-footprintIn (suc (suc (suc zero))) t o k c b = record { reads = control k ∷ semaphore ∷ []; writes = inTurn b k [] }
-footprintIn (suc (suc (suc (suc zero)))) t o k c b = record {
-  reads = control k ∷ release (drop 1 (left c (t .writes k))) ++ sources (local k) (left c (t .writes k));
-  writes = control k ∷ release (drop 1 (left c (t .writes k))) ++ targets byte (left c (t .writes k));
-}
-footprintIn (suc (suc (suc (suc (suc m))))) t o k c b = record { reads = control k ∷ []; writes = [] }
+footprintIn m t o k c b =
+    pick (eqb m betweenCycles)
+    (record {
+      reads = control k ∷ unspent (drop (c .registers .cycles) (t .samples k)) (semaphore ∷ []);
+      writes = unspent (drop (c .registers .cycles) (t .samples k)) (inTurn b k (inputs k (drop (c .registers .cycles) (t .samples k))));
+    })
+    (pick (eqb m readingExchange)
+    (record {
+      reads = control k ∷ release (drop 1 (left c (t .reads k))) ++ sources byte (left c (t .reads k));
+      writes = control k ∷ release (drop 1 (left c (t .reads k))) ++ targets (local k) (left c (t .reads k));
+    })
+    (pick (eqb m executing)
+    (record { reads = control k ∷ locals k (o k c .reads); writes = control k ∷ locals k (o k c .writes) })
+    (pick (eqb m waitingToWrite)
+    (record { reads = control k ∷ semaphore ∷ []; writes = inTurn b k [] })
+    (pick (eqb m writingExchange)
+    (record {
+      reads = control k ∷ release (drop 1 (left c (t .writes k))) ++ sources (local k) (left c (t .writes k));
+      writes = control k ∷ release (drop 1 (left c (t .writes k))) ++ targets byte (left c (t .writes k));
+    })
+    (record { reads = control k ∷ []; writes = [] })))))
 
 -- of core k's step in state s
 unfoldable pub footprint : Task → DataFootprints → ℕ → State → Footprint

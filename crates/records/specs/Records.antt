@@ -4,6 +4,7 @@ use mathlib.Core.List.{List}
 use mathlib.Core.Bool.{Bool, false}
 use lib.Dec.{ltb, leb, eqb}
 use lib.ListN.{length}
+use Rattle.verdict.specs.Numbers.{cutFile, badCore, badVariable, overlapping}
 use Rattle.verdict.specs.Verdict.{pick, both, either, within, next, unless, first}
 use Rattle.protocol.specs.Variables.{Variable, local, readsIt, writesIt}
 use Rattle.code.specs.declared.Profile.{Profile}
@@ -13,7 +14,7 @@ use Rattle.records.specs.File.{cores, corePlace, dataSize, inputSize, li
 
 -- presence of an item: the file has n bytes at least
 abbrev pub present : List ℕ → ℕ → ℕ
-present f n = unless (leb n (length f)) 1
+present f n = unless (leb n (length f)) cutFile
 
 -- ---- cores
 
@@ -22,7 +23,7 @@ unfoldable pub coreOk : Profile → List ℕ → ℕ → Bool
 coreOk profile f k = both (within 1 (mostData profile) (dataSize f k)) (both (leb (inputSize f k) (dataSize f k)) (leb 1 (limit f k)))
 
 unfoldable pub coreRefusal : Profile → List ℕ → ℕ → ℕ
-coreRefusal profile f k = next (present f (corePlace k + 6)) (unless (coreOk profile f k) 3)
+coreRefusal profile f k = next (present f (corePlace k + 6)) (unless (coreOk profile f k) badCore)
 
 -- ---- one variable
 
@@ -53,7 +54,7 @@ variableOk f v =
     both (isWidth (v .width)) (both (oneWriter (v .attribute)) (both (leb (v .place + v .width) 1024) (partsOk f v)))
 
 unfoldable pub variableRefusal : List ℕ → ℕ → ℕ
-variableRefusal f i = next (present f (recordPlace f i + 12)) (unless (variableOk f (variableAt f i)) 4)
+variableRefusal f i = next (present f (recordPlace f i + 12)) (unless (variableOk f (variableAt f i)) badVariable)
 
 -- ---- two variables
 
@@ -74,7 +75,7 @@ overlap v u =
     either (meetsShared v u) (either (meetsIn 0 v u) (either (meetsIn 1 v u) (either (meetsIn 2 v u) (meetsIn 3 v u))))
 
 unfoldable pub pairRefusal : List ℕ → ℕ → ℕ → ℕ
-pairRefusal f i j = pick (overlap (variableAt f i) (variableAt f j)) 5 0
+pairRefusal f i j = pick (overlap (variableAt f i) (variableAt f j)) overlapping 0
 
 -- variable i against each after it
 unfoldable pub overlapRefusal : List ℕ → ℕ → ℕ

@@ -3,6 +3,7 @@ use mathlib.Core.List.{List, [], map}
 use Prim.Native.Nat.{ℕ}
 use lib.Dec.{eqb}
 use lib.ListN.{length}
+use Rattle.verdict.specs.Numbers.{badLengths, notProduced}
 use Rattle.verdict.specs.Verdict.{pick, next, unless}
 use Rattle.protocol.specs.State.{State}
 use Rattle.protocol.specs.Rerun.{legal, rerunEnd, decoded}
@@ -19,11 +20,11 @@ use Rattle.machine.specs.Calls.{lentFits, answerOf, tableOf}
 
 -- the order list is one that the whole-exchange machine has to do; `rerun-machine` says that it is exactly if some order of steps produces it
 unfoldable pub listRefusal : List ℕ → List ℕ → List ℕ → ℕ
-listRefusal f t list = unless (legal (taskOf f t) (map decoded list) (freshOf f .plant)) 33
+listRefusal f t list = unless (legal (taskOf f t) (map decoded list) (freshOf f .plant)) notProduced
 
 -- data buffer and shared memory of these sizes are lent
 unfoldable pub rerunRefusal : List ℕ → List ℕ → List ℕ → ℕ → ℕ → ℕ
-rerunRefusal f t list buffer shared = next (judge f) (next (unless (lentFits f buffer shared) 21) (next (traceRefusal f t) (listRefusal f t list)))
+rerunRefusal f t list buffer shared = next (judge f) (next (unless (lentFits f buffer shared) badLengths) (next (traceRefusal f t) (listRefusal f t list)))
 
 -- ---- what is left
 

@@ -8,6 +8,7 @@ use lib.Dec.{eqb, ltb}
 use lib.ListN.{length, getD, set, take}
 use Rattle.verdict.specs.Verdict.{pick, both}
 use Rattle.memory.specs.Memory.{splice, total, split}
+use Rattle.protocol.specs.Modes.{betweenCycles, waitingToWrite}
 use Rattle.protocol.specs.declared.Registers.{Registers}
 use Rattle.protocol.specs.State.{core, untaken}
 use Rattle.protocol.specs.Step.{copy, reading}
@@ -39,7 +40,7 @@ namedCore b = pick (ltb b 16) b (b - 16)
 
 -- a core with these registers and so many records has it to do: a reading in mode 0 with records left, a writing in mode 3
 abbrev pub dueBy : ℕ → Registers → ℕ → Bool
-dueBy b r count = pick (ltb b 16) (both (eqb (r .mode) 0) (ltb (r .cycles) count)) (eqb (r .mode) 3)
+dueBy b r count = pick (ltb b 16) (both (eqb (r .mode) betweenCycles) (ltb (r .cycles) count)) (eqb (r .mode) waitingToWrite)
 
 -- ---- a state at rest: no exchange, no execution
 
@@ -60,7 +61,7 @@ pub record Reading (f t : List ℕ) (k : ℕ) (c : CoreTask) (first end : ℕ) (
   pub task : c ≡ coreTask f t k
   pub from : first ≡ recordPlace f 0
   pub upto : end ≡ recordPlace f (variables f)
-  pub idle : r .mode ≡ 0
+  pub idle : r .mode ≡ betweenCycles
   pub due : r .cycles < recordCount f t k
   pub cs : List Registers
   pub here : getD cs k none ≡ r

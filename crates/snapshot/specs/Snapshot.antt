@@ -9,6 +9,7 @@ use lib.ListN.{getD, set, replicate}
 use lib.Dec.{ltb, leb, eqb}
 use Rattle.verdict.specs.Verdict.{pick, next}
 use Rattle.memory.specs.Memory.{splice, part}
+use Rattle.protocol.specs.Modes.{betweenCycles}
 use Rattle.protocol.specs.declared.Registers.{Registers}
 use Rattle.records.specs.File.{cores}
 use Rattle.code.specs.declared.Profile.{Profile}
@@ -74,7 +75,7 @@ recordOf t k = getD (t .cores) k record {
   count = 0;
   exchange = 0;
   cycles = 0;
-  mode = 0;
+  mode = betweenCycles;
   depth = 0;
   flags = 0;
   spare = [];

@@ -7,8 +7,10 @@ use mathlib.Core.Bool.{Bool, true, false, not}
 use mathlib.Core.List.{List, [], _∷_}
 use lib.ListN.{getD, length}
 use lib.Dec.{ltb, leb, eqb}
+use Rattle.verdict.specs.Numbers.{unfitState}
 use Rattle.verdict.specs.Verdict.{pick, both, either, within, upto, unless}
 use Rattle.code.specs.Code.{isStart}
+use Rattle.protocol.specs.Modes.{betweenCycles, readingExchange, executing, waitingToWrite, writingExchange, stopped}
 use Rattle.protocol.specs.Registers.{flagBound}
 use Rattle.protocol.specs.declared.Registers.{Registers}
 use Rattle.protocol.specs.State.{Core, State as Whole, core, mode}
@@ -46,12 +48,12 @@ offsetsFit size r offset = both (ltb (r .offset) size) (upto (λ i. ltb (offset 
 
 -- the depth is at most 16, and 0 outside modes 2 and 5
 unfoldable pub depthFit : Registers → Bool
-depthFit r = pick (either (eqb (r .mode) 2) (eqb (r .mode) 5)) (leb (r .depth) 16) (eqb (r .depth) 0)
+depthFit r = pick (either (eqb (r .mode) executing) (eqb (r .mode) stopped)) (leb (r .depth) 16) (eqb (r .depth) 0)
 
 -- the exchange number doesn't pass its exchange's bytes, and is 0 outside modes 1 and 4
 unfoldable pub exchangeFit : ℕ → ℕ → Registers → Bool
 exchangeFit reads writes r =
-    pick (eqb (r .mode) 1) (leb (r .exchange) reads) (pick (eqb (r .mode) 4) (leb (r .exchange) writes) (eqb (r .exchange) 0))
+    pick (eqb (r .mode) readingExchange) (leb (r .exchange) reads) (pick (eqb (r .mode) writingExchange) (leb (r .exchange) writes) (eqb (r .exchange) 0))
 
 -- cycles don't exceed the trace's count, nor equal it in modes 1 to 4
 unfoldable pub cyclesFit : ℕ → Registers → Bool
@@ -59,7 +61,7 @@ cyclesFit count r = pick (within 1 4 (r .mode)) (ltb (r .cycles) count) (leb (r 
 
 -- a core is in mode 1 or 4 exactly if it is the semaphore's holder: so no two cores are, and the semaphore is free exactly if none is
 unfoldable pub holderFit : ℕ → ℕ → Registers → Bool
-holderFit holder k r = agree (either (eqb (r .mode) 1) (eqb (r .mode) 4)) (eqb holder (k + 1))
+holderFit holder k r = agree (either (eqb (r .mode) readingExchange) (eqb (r .mode) writingExchange)) (eqb holder (k + 1))
 
 -- a stack entry above the depth is 0
 abbrev pub freedAt : ℕ → ℕ → ℕ → ℕ → Bool
@@ -71,7 +73,7 @@ freedFit r place offset = upto (λ i. freedAt (r .depth) i (place i) (offset i))
 -- the rules of execution: mode, places, offsets, depth, count
 unfoldable pub executionFit : List ℕ → ℕ → ℕ → Registers → (ℕ → ℕ) → (ℕ → ℕ) → Bool
 executionFit c size most r place offset =
-    both (leb (r .mode) 5) (both (placesFit c r place) (both (offsetsFit size r offset) (both (depthFit r) (leb (r .count) most))))
+    both (leb (r .mode) stopped) (both (placesFit c r place) (both (offsetsFit size r offset) (both (depthFit r) (leb (r .count) most))))
 
 -- the rules of exchanges: exchange number, cycles, semaphore
 unfoldable pub exchangesFit : ℕ → ℕ → ℕ → ℕ → ℕ → Registers → Bool
@@ -90,7 +92,7 @@ fitAt f t s k = coreFit f t (s .semaphore .holder) k (getD (s .cores) k none) (e
 
 -- a core with these registers and so many input records is in mode 0 or 3, and has records left
 unfoldable pub mayWait : ℕ → Registers → Bool
-mayWait count r = both (either (eqb (r .mode) 0) (eqb (r .mode) 3)) (ltb (r .cycles) count)
+mayWait count r = both (either (eqb (r .mode) betweenCycles) (eqb (r .mode) waitingToWrite)) (ltb (r .cycles) count)
 
 -- document 02, 2.4: the line names no core twice, none from n on, none that is not in mode 0 or 3, and none that is out of records
 abbrev pub lineFitIn : List ℕ → List ℕ → State → List ℕ → Bool
@@ -107,21 +109,21 @@ unfoldable pub stateFit : List ℕ → List ℕ → State → Bool
 stateFit f t s = both (eqb (s .count) (cores f)) (both (leb (s .semaphore .holder) (cores f)) (both (upto (fitAt f t s) (cores f)) (lineFit f t s)))
 
 unfoldable pub stateRefusal : List ℕ → List ℕ → State → ℕ
-stateRefusal f t s = unless (stateFit f t s) 23
+stateRefusal f t s = unless (stateFit f t s) unfitState
 
 -- ---- the same as properties
 
 -- Core k of the file f on the trace t
 pub record FitCore (f t : List ℕ) (k : ℕ) (c : Core) : Type 0 where
-  pub modes : mode c ≤ 5
+  pub modes : mode c ≤ stopped
   pub placed : Placed (codeOf f k) (dataSize f k) (c .registers) (c .stack)
-  pub shallow : mode c ≢ 2 → mode c ≢ 5 → c .registers .depth ≡ 0
+  pub shallow : mode c ≢ executing → mode c ≢ stopped → c .registers .depth ≡ 0
   pub counts : c .registers .count ≤ limit f k
-  pub reading : mode c ≡ 1 → c .registers .exchange ≤ length (readsOf (variablesOf f) k)
-  pub writing : mode c ≡ 4 → c .registers .exchange ≤ length (writesOf (variablesOf f) k)
-  pub outside : mode c ≢ 1 → mode c ≢ 4 → c .registers .exchange ≡ 0
+  pub reading : mode c ≡ readingExchange → c .registers .exchange ≤ length (readsOf (variablesOf f) k)
+  pub writing : mode c ≡ writingExchange → c .registers .exchange ≤ length (writesOf (variablesOf f) k)
+  pub outside : mode c ≢ readingExchange → mode c ≢ writingExchange → c .registers .exchange ≡ 0
   pub cycles : c .registers .cycles ≤ recordCount f t k
-  pub under-way : 1 ≤ mode c → mode c ≤ 4 → c .registers .cycles < recordCount f t k
+  pub under-way : readingExchange ≤ mode c → mode c ≤ writingExchange → c .registers .cycles < recordCount f t k
   pub flags : c .registers .flags < flagBound
   pub size : length (c .memory) ≡ dataSize f k
 

@@ -6,6 +6,7 @@ use mathlib.Core.List.{List, [], _∷_}
 use mathlib.Core.Bool.{Bool, true, false}
 use Prim.Native.Nat.{ℕ, zero, suc, _+_, _<_}
 use lib.ListN.{length, set, getD}
+use Rattle.protocol.specs.Modes.{readingExchange, writingExchange}
 use Rattle.protocol.specs.declared.Registers.{Registers}
 use Rattle.protocol.specs.declared.Stack.{Stack}
 use Rattle.protocol.specs.declared.Outcome.{Outcome}
@@ -176,10 +177,10 @@ abbrev pub More : List ℕ → ℕ → Registers → Bool → Exchange → Type 
 More f k r turns Rests = Unit {0}
 More f k r turns Joins = turns ≡ false
 More f k r turns (ReadBegun time) = turns ≡ true
-More f k r turns (ReadOn cursor) = (r .mode ≡ 1) × At f (4 + k) (r .exchange + 1) cursor
+More f k r turns (ReadOn cursor) = (r .mode ≡ readingExchange) × At f (4 + k) (r .exchange + 1) cursor
 More f k r turns ReadEnded = Unit {0}
 More f k r turns WriteBegun = turns ≡ true
-More f k r turns (WriteOn cursor) = (r .mode ≡ 4) × At f k (r .exchange + 1) cursor
+More f k r turns (WriteOn cursor) = (r .mode ≡ writingExchange) × At f k (r .exchange + 1) cursor
 More f k r turns WriteEnded = Unit {0}
 
 -- an instruction that answers o, whatever the semaphore

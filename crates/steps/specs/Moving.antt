@@ -4,6 +4,7 @@ use mathlib.Core.List.{List, []}
 use Prim.Native.Nat.{ℕ, _+_, _<_}
 use lib.ListN.{length, getD}
 use Rattle.memory.specs.Memory.{total, split}
+use Rattle.protocol.specs.Modes.{readingExchange, writingExchange}
 use Rattle.protocol.specs.declared.Registers.{Registers}
 use Rattle.protocol.specs.declared.Stack.{Stack}
 use Rattle.exchange.specs.declared.Cursor.{Cursor}
@@ -27,8 +28,8 @@ pub record Ready (f t : List ℕ) (k : ℕ) (c : CoreTask) (r : Registers) (d : 
 
 -- where the exchange of core k with the registers r stands
 pub record Aimed (f : List ℕ) (k : ℕ) (r : Registers) (cursor : Cursor) : Type 0 where
-  pub reading : r .mode ≡ 1 → At f (4 + k) (r .exchange) cursor
-  pub writing : r .mode ≡ 4 → At f k (r .exchange) cursor
+  pub reading : r .mode ≡ readingExchange → At f (4 + k) (r .exchange) cursor
+  pub writing : r .mode ≡ writingExchange → At f k (r .exchange) cursor
 
 -- the same with the data buffer d of all cores
 pub record Moving (f t : List ℕ) (k : ℕ) (c : CoreTask) (r : Registers) (d sh : List ℕ) (end : ℕ) (cursor : Cursor) : Type 0 where

@@ -5,6 +5,7 @@ use mathlib.Core.Logic.{_≢_, _⊎_, _↔_}
 use mathlib.Core.Bool.{true}
 use mathlib.Core.List.{List}
 use Prim.Native.Nat.{ℕ, _≤_, _<_}
+use Rattle.protocol.specs.Modes.{betweenCycles, stopped}
 use Rattle.protocol.specs.State.{State, Task, core, mode}
 use Rattle.protocol.specs.Step.{step}
 use Rattle.records.specs.File.{cores}
@@ -33,7 +34,7 @@ AtRest t n s = (k : ℕ) → k < n → step t k s ≡ s
 
 -- Core k is stopped or out of records
 abbrev pub DoneAt : List ℕ → List ℕ → State → ℕ → Type 0
-DoneAt f t s k = (mode (core (s .plant) k) ≡ 5) ⊎ ((mode (core (s .plant) k) ≡ 0) × (core (s .plant) k .registers .cycles ≡ recordCount f t k))
+DoneAt f t s k = (mode (core (s .plant) k) ≡ stopped) ⊎ ((mode (core (s .plant) k) ≡ betweenCycles) × (core (s .plant) k .registers .cycles ≡ recordCount f t k))
 
 -- Every core is
 abbrev pub Done : List ℕ → List ℕ → State → Type 0

@@ -3,8 +3,9 @@
 use Prim.Native.Nat.{ℕ, zero, suc, _+_, _%_}
 use mathlib.Core.Bool.{Bool, true, false, not}
 use mathlib.Core.List.{List, [], _∷_}
-use lib.Dec.{ltb}
+use lib.Dec.{ltb, eqb}
 use lib.ListN.{getD}
+use Rattle.protocol.specs.Modes.{betweenCycles, waitingToWrite, stopped}
 use Rattle.verdict.specs.Verdict.{pick, both, either}
 use Rattle.protocol.specs.declared.Registers.{Registers}
 use Rattle.protocol.specs.State.{Semaphore}
@@ -24,14 +25,10 @@ use Rattle.table.specs.declared.Moving.the-variants.{Core, Nothing}
 abbrev pub goesOn : Semaphore → ℕ → Bool
 goesOn m k = either (turn m k) (not (inLine k (m .line)))
 
--- by the mode: in 0 where that is so and records are left, in 1, 2 and 4 always, in 3 where that is so, in 5 never
+-- by the mode: between cycles where that is so and records are left, waiting to write where that is so, in every other mode until it is stopped
 abbrev pub canMoveIn : ℕ → Bool → ℕ → ℕ → Bool
-canMoveIn zero goes count cycles = both goes (ltb cycles count)
-canMoveIn (suc zero) goes count cycles = true
-canMoveIn (suc (suc zero)) goes count cycles = true
-canMoveIn (suc (suc (suc zero))) goes count cycles = goes
-canMoveIn (suc (suc (suc (suc zero)))) goes count cycles = true
-canMoveIn (suc (suc (suc (suc (suc m))))) goes count cycles = false
+canMoveIn m goes count cycles =
+    pick (eqb m betweenCycles) (both goes (ltb cycles count)) (pick (eqb m waitingToWrite) goes (ltb m stopped))
 
 -- core k with these registers and so many input records, at a semaphore
 unfoldable pub canMove : Semaphore → ℕ → ℕ → Registers → Bool

@@ -7,6 +7,7 @@ use Prim.Native.Nat.{ℕ, _+_, _≤_}
 use mathlib.Core.Path.{_≡_}
 use mathlib.Core.List.{List, [], _∷_}
 use lib.ListN.{length}
+use Rattle.verdict.specs.Numbers.{cutFile, noMark, badCore, badVariable, overlapping, badInstruction, leftOver, badStart}
 use Rattle.verdict.specs.Items.{From, numbers, Item, item, forEach, inTurn}
 use Rattle.memory.specs.Memory.{word}
 use Rattle.code.specs.declared.Profile.{Profile}
@@ -23,33 +24,33 @@ Present f n = n ≤ length f
 
 -- a core's three numbers; a variable's record; the length of a core's code, and the code
 abbrev pub coreItems : Profile → List ℕ → ℕ → List Item
-coreItems profile f k = item 1 (Present f (corePlace k + 6)) ∷ item 3 (CoreRulesFor profile f k) ∷ []
+coreItems profile f k = item cutFile (Present f (corePlace k + 6)) ∷ item badCore (CoreRulesFor profile f k) ∷ []
 
 abbrev pub variableItems : List ℕ → ℕ → List Item
-variableItems f i = item 1 (Present f (recordPlace f i + 12)) ∷ item 4 (VariableRules f (variableAt f i)) ∷ []
+variableItems f i = item cutFile (Present f (recordPlace f i + 12)) ∷ item badVariable (VariableRules f (variableAt f i)) ∷ []
 
 abbrev pub lengthItems : List ℕ → ℕ → List Item
-lengthItems f p = item 1 (Present f (p + 2)) ∷ item 6 (From 1 8192 (word f p)) ∷ item 1 (Present f (p + 2 + word f p)) ∷ []
+lengthItems f p = item cutFile (Present f (p + 2)) ∷ item badInstruction (From 1 8192 (word f p)) ∷ item cutFile (Present f (p + 2 + word f p)) ∷ []
 
 -- the count of a core's start values; each of them
 abbrev pub pairItems : List ℕ → ℕ → ℕ → ℕ → List Item
-pairItems f size p i = item 1 (Present f (pairPlace p i + 3)) ∷ item 31 (PairRules f size p i) ∷ []
+pairItems f size p i = item cutFile (Present f (pairPlace p i + 3)) ∷ item badStart (PairRules f size p i) ∷ []
 
 abbrev pub startItems : List ℕ → ℕ → ℕ → List Item
-startItems f size p = inTurn ((item 1 (Present f (p + 2)) ∷ []) ∷ forEach (numbers (word f p) 0) (pairItems f size p) ∷ [])
+startItems f size p = inTurn ((item cutFile (Present f (p + 2)) ∷ []) ∷ forEach (numbers (word f p) 0) (pairItems f size p) ∷ [])
 
 unfoldable pub fileItemsFor : Profile → List ℕ → List Item
 fileItemsFor profile f =
     inTurn
-    ((item 1 (Present f 4) ∷ item 2 (Mark f) ∷ [])  -- the mark
-    ∷ (item 1 (Present f 5) ∷ item 3 (From 1 4 (cores f)) ∷ [])  -- the number of cores
+    ((item cutFile (Present f 4) ∷ item noMark (Mark f) ∷ [])  -- the mark
+    ∷ (item cutFile (Present f 5) ∷ item badCore (From 1 4 (cores f)) ∷ [])  -- the number of cores
     ∷ forEach (numbers (cores f) 0) (coreItems profile f)
-    ∷ (item 1 (Present f (countPlace f + 1)) ∷ item 4 (variables f ≤ 64) ∷ [])  -- the number of variables
+    ∷ (item cutFile (Present f (countPlace f + 1)) ∷ item badVariable (variables f ≤ 64) ∷ [])  -- the number of variables
     ∷ forEach (numbers (variables f) 0) (variableItems f)
-    ∷ (item 5 (NoOverlap f) ∷ [])  -- overlap follows the last variable
+    ∷ (item overlapping (NoOverlap f) ∷ [])  -- overlap follows the last variable
     ∷ forEach (numbers (cores f) 0) (λ k. inTurn (lengthItems f (codePlace f k) ∷ codeItemsFor profile (codeOf f k) ∷ []))
     ∷ forEach (numbers (startSections f) 0) (λ k. startItems f (dataSize f k) (startPlace f k))  -- in a file of the new form
-    ∷ (item 24 (fileEnd f ≡ length f) ∷ [])  -- leftover bytes come last
+    ∷ (item leftOver (fileEnd f ≡ length f) ∷ [])  -- leftover bytes come last
     ∷ [])
 
 abbrev pub fileItems : List ℕ → List Item

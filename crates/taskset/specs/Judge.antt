@@ -5,6 +5,7 @@ use mathlib.Core.List.{List, [], _∷_}
 use mathlib.Core.Bool.{Bool}
 use lib.ListN.{length}
 use lib.Dec.{ltb, leb, eqb}
+use Rattle.verdict.specs.Numbers.{noMark, badCore, badVariable, badInstruction, leftOver, badStart}
 use Rattle.verdict.specs.Verdict.{pick, both, either, within, next, unless, first}
 use Rattle.memory.specs.Memory.{byte, word, part}
 use Rattle.code.specs.declared.Profile.{Profile}
@@ -39,16 +40,16 @@ isMark f = either (isOld f) (isNew f)
 unfoldable pub headRefusal : Profile → List ℕ → ℕ
 headRefusal profile f =
     next (present f 4)
-    (next (unless (isMark f) 2)
+    (next (unless (isMark f) noMark)
     (next (present f 5)
-    (next (unless (within 1 4 (cores f)) 3) (first (coreRefusal profile f) (cores f - 0) 0))))
+    (next (unless (within 1 4 (cores f)) badCore) (first (coreRefusal profile f) (cores f - 0) 0))))
 
 -- ---- variables: all records, then all pairs
 
 unfoldable pub variablesRefusal : List ℕ → ℕ
 variablesRefusal f =
     next (present f (countPlace f + 1))
-    (next (unless (leb (variables f) 64) 4)
+    (next (unless (leb (variables f) 64) badVariable)
     (next (first (variableRefusal f) (variables f - 0) 0) (first (overlapRefusal f) (variables f - 0) 0)))
 
 -- ---- code
@@ -70,7 +71,7 @@ codeOf f k = codeIn f (codePlace f k)
 unfoldable pub sectionRefusal : Profile → List ℕ → ℕ → ℕ
 sectionRefusal profile f p =
     next (present f (p + 2))
-    (next (unless (within 1 8192 (word f p)) 6) (next (present f (p + 2 + word f p)) (judgeCodeFor profile (codeIn f p))))
+    (next (unless (within 1 8192 (word f p)) badInstruction) (next (present f (p + 2 + word f p)) (judgeCodeFor profile (codeIn f p))))
 
 abbrev pub codeRefusal : Profile → List ℕ → ℕ → ℕ
 codeRefusal profile f k = sectionRefusal profile f (codePlace f k)
@@ -106,7 +107,7 @@ unfoldable pub pairOk : List ℕ → ℕ → ℕ → ℕ → Bool
 pairOk f size p i = both (ltb (startIn f p i) size) (leb (leastIn f p i) (startIn f p i))
 
 unfoldable pub startPairRefusal : List ℕ → ℕ → ℕ → ℕ → ℕ
-startPairRefusal f size p i = next (present f (pairPlace p i + 3)) (unless (pairOk f size p i) 31)
+startPairRefusal f size p i = next (present f (pairPlace p i + 3)) (unless (pairOk f size p i) badStart)
 
 -- a count and its pairs
 unfoldable pub pairsRefusal : List ℕ → ℕ → ℕ → ℕ
@@ -121,7 +122,7 @@ fileEnd f = startPlace f (startSections f)
 
 -- the start values of each core, and then nothing follows (24, document 02, 2.2)
 unfoldable pub startsRefusal : List ℕ → ℕ
-startsRefusal f = next (first (startRefusal f) (startSections f - 0) 0) (unless (eqb (fileEnd f) (length f)) 24)
+startsRefusal f = next (first (startRefusal f) (startSections f - 0) 0) (unless (eqb (fileEnd f) (length f)) leftOver)
 
 -- ---- the whole file
 

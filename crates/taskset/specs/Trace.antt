@@ -6,6 +6,7 @@ use mathlib.Core.Bool.{Bool}
 use mathlib.Core.List.{List, [], _∷_}
 use lib.Dec.{ltb, eqb}
 use lib.ListN.{length}
+use Rattle.verdict.specs.Numbers.{badTrace}
 use Rattle.verdict.specs.Verdict.{pick, either, unless}
 use Rattle.memory.specs.Memory.{word}
 use Rattle.records.specs.File.{cores, inputSize}
@@ -39,7 +40,7 @@ samplePlace f t k i = tracePlace f t k + 2 + i * recordSize f k
 -- ---- cut or too long, unless it has no bytes: what a cut trace lacks reads as 0, so its parts end past its own end
 
 unfoldable pub traceRefusal : List ℕ → List ℕ → ℕ
-traceRefusal f t = unless (either (blank t) (eqb (tracePlace f t (cores f)) (length t))) 22
+traceRefusal f t = unless (either (blank t) (eqb (tracePlace f t (cores f)) (length t))) badTrace
 
 -- ---- what loading answers: the refusal with zeros, or 0 with each core's count and the place of its first record
 

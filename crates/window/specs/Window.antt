@@ -6,6 +6,7 @@ use mathlib.Core.Bool.{Bool}
 use mathlib.Core.List.{List, []}
 use lib.ListN.{length, getD}
 use lib.Dec.{ltb, leb, eqb}
+use Rattle.verdict.specs.Numbers.{badLengths, outsideWindow}
 use Rattle.verdict.specs.Verdict.{pick, both, next, unless}
 use Rattle.memory.specs.Memory.{total, split, part}
 use Rattle.records.specs.File.{cores}
@@ -40,7 +41,7 @@ inside f shown k start count = both (ltb k (cores f)) (leb (start + count) (plac
 
 unfoldable pub windowRefusal : List ℕ → ℕ → Shown → ℕ → ℕ → ℕ → ℕ
 windowRefusal f buffer shown k start count =
-    next (judge f) (next (unless (eqb buffer (total (sizesOf f))) 21) (unless (inside f shown k start count) 34))
+    next (judge f) (next (unless (eqb buffer (total (sizesOf f))) badLengths) (unless (inside f shown k start count) outsideWindow))
 
 -- ---- the window
 
