@@ -12,7 +12,8 @@ use lib.Seq.{getD-set-same, getD-set-other}
 use Rattle.verdict.specs.Verdict.{pick, next, first}
 use Rattle.verdict.proofs.Verdict.{pick-true, pick-false, skip, stop, halt, yes, no, next-none, next-zero, Going, going-none, going-more, going-stop, going-end}
 use Rattle.memory.specs.Memory.{word, part, total}
-use Rattle.code.specs.Flow.{Kind, Returns, Jumps, Branches, Calls, Passes, kind, after, target}
+use Rattle.code.specs.Commands.{Kind, Returns, Jumps, Branches, Calls, Passes}
+use Rattle.code.specs.Flow.{kindAt, after, targetAt}
 use Rattle.code.specs.Code.{judgeCode}
 use Rattle.code.proofs.Laying.{zeros}
 use Rattle.records.specs.File.{cores}
@@ -39,7 +40,7 @@ less Passes a b t u p q = omega arith
 shallow : (k : ℕ) (c : List ℕ) (p : ℕ) → along depthBy k c p ≤ along countBy k c p
 unfolding along
 shallow zero c p = omega arith
-shallow (suc k) c p = less (kind c p) _ _ _ _ (shallow k c (after c p)) (shallow k c (target c p))
+shallow (suc k) c p = less (kindAt c p) _ _ _ _ (shallow k c (after c p)) (shallow k c (targetAt c p))
 
 deepest-longest : (c : List ℕ) → deepest c ≤ longest c
 unfolding deepest longest

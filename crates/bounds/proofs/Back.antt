@@ -12,13 +12,11 @@ use lib.Seq.{getD-set-same, getD-set-other}
 use Rattle.verdict.specs.Verdict.{pick}
 use Rattle.verdict.proofs.Verdict.{absurd-bool, by-pick}
 use Rattle.memory.specs.Memory.{byte}
-use Rattle.code.specs.declared.Instruction.{Instruction}
-use Rattle.code.specs.declared.Instruction.the-variants.{Return, Jump, JumpZero, JumpNotZero, CallInstance, CallFunction, MoveConstant, CopyMemory, ReadElement, WriteElement, Typed, CycleTime, FlagByte, Convert, Pack, Unpack, Unknown}
-use Rattle.code.specs.Commands.{lengthOf}
-use Rattle.code.specs.Instructions.{instructionAt}
-use Rattle.code.specs.Flow.{Kind, kindOf, targetOf, kind, goesTo, after, target}
+use Rattle.code.specs.Commands.{lengthOf, Kind}
+use Rattle.code.specs.Flow.{kindAt, goesTo, after, targetAt}
 use Rattle.code.specs.declared.Profile.the-variants.{Full}
 use Rattle.code.specs.Code.{laid, startFrom, isStart, allFrom, judgeCode, Marked}
+use Rattle.code.proofs.Laws.{without-target}
 use Rattle.code.proofs.Sound.{Sound, sound, start-zero, inside-code, each-passes, judged, next-starts}
 use Rattle.code.proofs.Passes.{all-one, all-end}
 use Rattle.bounds.specs.Bounds.{countBy, depthBy, along, longest, deepest, rises, allRise, Measured}
@@ -98,17 +96,17 @@ pub record Filled (by : Kind → ℕ → ℕ → ℕ) (c : List ℕ) (p next : �
 module _ (by : Kind → ℕ → ℕ → ℕ) (l : Looks by) (v : Caps by) (c : List ℕ) (g : Rising c) where
   -- the number at p, from the one after it and the table above p
   number : (m : List ℕ) (p n : ℕ) → Filled by c (p + 1) (after c p) m n → Start c p
-      → min (by (kind c p) n (getD m (target c p) 0)) 65536 ≡ min (along by (length c) c p) 65536
+      → min (by (kindAt c p) n (getD m (targetAt c p) 0)) 65536 ≡ min (along by (length c) c p) 65536
   number m p n f w =
       ap (λ (i : ℕ). min i 65536)
-      (l (kind c p) _ _ _ _
+      (l (kindAt c p) _ _ _ _
       (λ o. let y = g .onward p w o in f .latest (y .1))
-      (λ o. let y = g .upward p w o in f .right (target c p) (y .1) (omega arith)))
-      ∙ v (kind c p) (along by (length c) c (after c p)) (along by (length c) c (target c p))
+      (λ o. let y = g .upward p w o in f .right (targetAt c p) (y .1) (omega arith)))
+      ∙ v (kindAt c p) (along by (length c) c (after c p)) (along by (length c) c (targetAt c p))
       ∙ ap (λ (i : ℕ). min i 65536) (sym (level c g by l p w))
 
   pub filled-more : (m : List ℕ) (p n i : ℕ) → p < length m → Start c p → Filled by c (p + 1) (after c p) m n
-      → i ≡ min (by (kind c p) n (getD m (target c p) 0)) 65536 → Filled by c p p (set m p i) i
+      → i ≡ min (by (kindAt c p) n (getD m (targetAt c p) 0)) 65536 → Filled by c p p (set m p i) i
   filled-more m p n i b w f e = record { right = λ q u h. go q u h (eqb p q) refl; latest = λ _. e ∙ number m p n f w }
     where
       go : (q : ℕ) → Start c q → p ≤ q → (t : Bool) → eqb p q ≡ t → getD (set m p i) q 0 ≡ min (along by (length c) c q) 65536
@@ -209,7 +207,7 @@ back-skip c p counts depths count depth e b =
 
 back-more : (c : List ℕ) (p : ℕ) (counts depths : List ℕ) (count depth n d : ℕ) → length c ≤ 8192 → judgeCode c ≡ 0 → Start c p → rises c p ≡ true
     → Back c (p + 1) counts depths count depth
-    → n ≡ min (countBy (kind c p) count (getD counts (target c p) 0)) 65536 → d ≡ min (depthBy (kind c p) depth (getD depths (target c p) 0)) 65536
+    → n ≡ min (countBy (kindAt c p) count (getD counts (targetAt c p) 0)) 65536 → d ≡ min (depthBy (kindAt c p) depth (getD depths (targetAt c p) 0)) 65536
     → Back c p (set counts p n) (set depths p d) n d
 back-more c p counts depths count depth n d b z w r k e f =
     record {
@@ -275,40 +273,21 @@ back-stop c p w r = record { right = go (allFrom (rises c) (length c) c 0) refl;
 
 -- ---- one instruction, as the loop asks for it
 
-no-t : (i : Instruction) → goesTo (kindOf i) ≡ false → targetOf i ≡ 0
-no-t Return e = refl
-no-t (Jump t) e = absurd-bool (sym e)
-no-t (JumpZero a t) e = absurd-bool (sym e)
-no-t (JumpNotZero a t) e = absurd-bool (sym e)
-no-t (CallInstance i t) e = absurd-bool (sym e)
-no-t (CallFunction t) e = absurd-bool (sym e)
-no-t (MoveConstant to n) e = refl
-no-t (CopyMemory to from n) e = refl
-no-t (ReadElement v a i size count) e = refl
-no-t (WriteElement v a i size count) e = refl
-no-t (Typed code type to a b) e = refl
-no-t (CycleTime to) e = refl
-no-t (FlagByte to) e = refl
-no-t (Convert from to destination source) e = refl
-no-t (Pack type destination source) e = refl
-no-t (Unpack type destination source) e = refl
-no-t Unknown e = refl
-
 -- an instruction that starts at p
 pub record Here (c : List ℕ) (p : ℕ) : Type 0 where
   pub inside : p < length c
   pub fixed : p + lengthOf (byte c p) ≤ length c
-  pub there : target c p < length c
+  pub there : targetAt c p < length c
 
 start-here : (c : List ℕ) (p : ℕ) → judgeCode c ≡ 0 → Start c p → Here c p
-start-here c p z w = record { inside = s .inside; fixed = s .here .fixed; there = go (goesTo (kind c p)) refl }
+start-here c p z w = record { inside = s .inside; fixed = s .here .fixed; there = go (goesTo (kindAt c p)) refl }
   where
     s : Sound c p
     s = sound c p z w
 
-    go : (b : Bool) → goesTo (kind c p) ≡ b → target c p < length c
+    go : (b : Bool) → goesTo (kindAt c p) ≡ b → targetAt c p < length c
     go true e = inside-code c _ (s .there e)
-    go false e = let y : target c p ≡ 0 = no-t (instructionAt c p) e in omega (arith, s .inside)
+    go false e = let y : targetAt c p ≡ 0 = without-target c p e in omega (arith, s .inside)
 
 -- ---- the loop: the pass so far, over accepted code and the map of its starts; it goes on at the place below p
 
@@ -345,14 +324,14 @@ module _ {c marks : List ℕ} {p : ℕ} {counts depths : List ℕ} {count depth 
   pub passing-skip : 0 < p → (getD marks (p - 1) 0 ≡ 1 → ⊥) → Passing c marks (p - 1) counts depths count depth
   passing-skip h e = kept _ _ _ _ _ (back-skip c (p - 1) counts depths count depth (sym (w .marked (p - 1)) ∙ ne-eqb _ _ e) (below h))
 
-  pub passing-more : (n d t : ℕ) → 0 < p → getD marks (p - 1) 0 ≡ 1 → rises c (p - 1) ≡ true → t ≡ target c (p - 1)
-      → n ≡ min (countBy (kind c (p - 1)) count (getD counts t 0)) 65536 → d ≡ min (depthBy (kind c (p - 1)) depth (getD depths t 0)) 65536
+  pub passing-more : (n d t : ℕ) → 0 < p → getD marks (p - 1) 0 ≡ 1 → rises c (p - 1) ≡ true → t ≡ targetAt c (p - 1)
+      → n ≡ min (countBy (kindAt c (p - 1)) count (getD counts t 0)) 65536 → d ≡ min (depthBy (kindAt c (p - 1)) depth (getD depths t 0)) 65536
       → Passing c marks (p - 1) (set counts (p - 1) n) (set depths (p - 1) d) n d
   passing-more n d t h e r o u v =
       kept _ _ _ _ _
       (back-more c (p - 1) counts depths count depth n d (w .few) (w .accepted) (begins e) r (below h)
-      (subst (λ (i : ℕ). n ≡ min (countBy (kind c (p - 1)) count (getD counts i 0)) 65536) o u)
-      (subst (λ (i : ℕ). d ≡ min (depthBy (kind c (p - 1)) depth (getD depths i 0)) 65536) o v))
+      (subst (λ (i : ℕ). n ≡ min (countBy (kindAt c (p - 1)) count (getD counts i 0)) 65536) o u)
+      (subst (λ (i : ℕ). d ≡ min (depthBy (kindAt c (p - 1)) depth (getD depths i 0)) 65536) o v))
 
   -- all places are passed
   pub passing-end : p ≡ 0 → Measured c true count depth

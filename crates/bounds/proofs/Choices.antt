@@ -6,7 +6,8 @@ use mathlib.Core.List.{List, [], _∷_}
 use Prim.Native.Nat.{ℕ, zero, suc, _≤_, max}
 use native.Mathlib.Omega.{arith}
 use lib.ListN.{length}
-use Rattle.code.specs.Flow.{Kind, Returns, Jumps, Branches, Calls, Passes, kind, after, target}
+use Rattle.code.specs.Commands.{Kind, Returns, Jumps, Branches, Calls, Passes}
+use Rattle.code.specs.Flow.{kindAt, after, targetAt}
 use Rattle.bounds.specs.Paths.{passes, jumps, stays, leaves, calls, returns, Path, ends, more, Cycle, later, Chosen}
 use Rattle.bounds.proofs.Rising.{Rising}
 use Rattle.bounds.proofs.Greatest.{due, Sound, moved, due-positive}
@@ -20,40 +21,40 @@ record Made (c : List ℕ) (w : ℕ → Bool) (p : ℕ) (s : List ℕ) : Type 0 
 
 -- by one instruction more
 module _ (c : List ℕ) (w : ℕ → Bool) (p : ℕ) (s : List ℕ) where
-  pass : kind c p ≡ Passes → Made c (later w) (after c p) s → Made c w p s
+  pass : kindAt c p ≡ Passes → Made c (later w) (after c p) s → Made c w p s
   pass e m = record { count = _; depth = _; path = more (passes e) (m .path); chosen = m .chosen }
 
-  jump : kind c p ≡ Jumps → Made c (later w) (target c p) s → Made c w p s
+  jump : kindAt c p ≡ Jumps → Made c (later w) (targetAt c p) s → Made c w p s
   jump e m = record { count = _; depth = _; path = more (jumps e) (m .path); chosen = m .chosen }
 
-  stay : kind c p ≡ Branches → w 0 ≡ false → Made c (later w) (after c p) s → Made c w p s
+  stay : kindAt c p ≡ Branches → w 0 ≡ false → Made c (later w) (after c p) s → Made c w p s
   stay e b m = record { count = _; depth = _; path = more (stays e) (m .path); chosen = (b, m .chosen) }
 
-  leave : kind c p ≡ Branches → w 0 ≡ true → Made c (later w) (target c p) s → Made c w p s
+  leave : kindAt c p ≡ Branches → w 0 ≡ true → Made c (later w) (targetAt c p) s → Made c w p s
   leave e b m = record { count = _; depth = _; path = more (leaves e) (m .path); chosen = (b, m .chosen) }
 
-  call : kind c p ≡ Calls → Made c (later w) (target c p) (after c p ∷ s) → Made c w p s
+  call : kindAt c p ≡ Calls → Made c (later w) (targetAt c p) (after c p ∷ s) → Made c w p s
   call e m = record { count = _; depth = _; path = more (calls e) (m .path); chosen = m .chosen }
 
-back : (c : List ℕ) (w : ℕ → Bool) (p q : ℕ) (s : List ℕ) → kind c p ≡ Returns → Made c (later w) q s → Made c w p (q ∷ s)
+back : (c : List ℕ) (w : ℕ → Bool) (p q : ℕ) (s : List ℕ) → kindAt c p ≡ Returns → Made c (later w) q s → Made c w p (q ∷ s)
 back c w p q s e m = record { count = _; depth = _; path = more (returns e) (m .path); chosen = m .chosen }
 
 module _ (c : List ℕ) (g : Rising c) where
   made : (n p : ℕ) (s : List ℕ) (w : ℕ → Bool) → Sound c p s → due c p s ≤ n → Made c w p s
   made zero p s w h e = absurd (let y = due-positive c g p s (h .here) in let z : ⊥ = omega arith in z)
-  made (suc n) p s w h e = go (made n) (kind c p) refl s h e
+  made (suc n) p s w h e = go (made n) (kindAt c p) refl s h e
     where
-      go : ((p : ℕ) (s : List ℕ) (w : ℕ → Bool) → Sound c p s → due c p s ≤ n → Made c w p s) → (x : Kind) → kind c p ≡ x
+      go : ((p : ℕ) (s : List ℕ) (w : ℕ → Bool) → Sound c p s → due c p s ≤ n → Made c w p s) → (x : Kind) → kindAt c p ≡ x
           → (s : List ℕ) → Sound c p s → due c p s ≤ suc n → Made c w p s
       go ih Returns k [] h e = record { count = 1; depth = 0; path = ends k; chosen = tt }
       go ih Returns k (q ∷ s) h e = let f = moved c g h (returns k) in back c w p q s k (ih q s (later w) (f .sound) (omega arith))
-      go ih Jumps k s h e = let f = moved c g h (jumps k) in jump c w p s k (ih (target c p) s (later w) (f .sound) (omega arith))
+      go ih Jumps k s h e = let f = moved c g h (jumps k) in jump c w p s k (ih (targetAt c p) s (later w) (f .sound) (omega arith))
       go ih Branches k s h e = by (w 0) refl
         where
           by : (b : Bool) → w 0 ≡ b → Made c w p s
-          by true b = let f = moved c g h (leaves k) in leave c w p s k b (ih (target c p) s (later w) (f .sound) (omega arith))
+          by true b = let f = moved c g h (leaves k) in leave c w p s k b (ih (targetAt c p) s (later w) (f .sound) (omega arith))
           by false b = let f = moved c g h (stays k) in stay c w p s k b (ih (after c p) s (later w) (f .sound) (omega arith))
-      go ih Calls k s h e = let f = moved c g h (calls k) in call c w p s k (ih (target c p) (after c p ∷ s) (later w) (f .sound) (omega arith))
+      go ih Calls k s h e = let f = moved c g h (calls k) in call c w p s k (ih (targetAt c p) (after c p ∷ s) (later w) (f .sound) (omega arith))
       go ih Passes k s h e = let f = moved c g h (passes k) in pass c w p s k (ih (after c p) s (later w) (f .sound) (omega arith))
 
   pub every-choice : (w : ℕ → Bool) → (n : ℕ) × (d : ℕ) × (x : Cycle c n d) × Chosen w x
@@ -77,14 +78,14 @@ some-choice (more (returns e) x) = let m = some-choice x in (now false (m .0), m
 
 -- ---- one choice makes one cycle
 
--- where an instruction leads, by its kind and the choice b
+-- where an instruction leads, by its kindAt and the choice b
 abbrev leads : Kind → Bool → List ℕ → ℕ → List ℕ → ℕ
 leads Returns b c p [] = 0
 leads Returns b c p (q ∷ s) = q
-leads Jumps b c p s = target c p
-leads Branches true c p s = target c p
+leads Jumps b c p s = targetAt c p
+leads Branches true c p s = targetAt c p
 leads Branches false c p s = after c p
-leads Calls b c p s = target c p
+leads Calls b c p s = targetAt c p
 leads Passes b c p s = after c p
 
 abbrev leaving : Kind → List ℕ → ℕ → List ℕ → List ℕ
@@ -109,8 +110,8 @@ abbrev Picked : List ℕ → (ℕ → Bool) → ℕ → List ℕ → ℕ → ℕ
 Picked c w p s n d = (x : Path c p s n d) × Chosen w x
 
 data Head (c : List ℕ) (w : ℕ → Bool) (p : ℕ) (s : List ℕ) : ℕ → ℕ → Type 0 where
-  stop : Last (kind c p) s → Head c w p s 1 0
-  goes : {n d : ℕ} → (Last (kind c p) s → ⊥) → Picked c (later w) (leads (kind c p) (w 0) c p s) (leaving (kind c p) c p s) n d
+  stop : Last (kindAt c p) s → Head c w p s 1 0
+  goes : {n d : ℕ} → (Last (kindAt c p) s → ⊥) → Picked c (later w) (leads (kindAt c p) (w 0) c p s) (leaving (kindAt c p) c p s) n d
       → Head c w p s (suc n) (max (length s) d)
 
 head : (c : List ℕ) (w : ℕ → Bool) (p : ℕ) (s : List ℕ) {n d : ℕ} (x : Path c p s n d) → Chosen w x → Head c w p s n d

@@ -21,8 +21,9 @@ use Rattle.protocol.specs.declared.Outcome.the-variants.{Fault, Next, Call, Ret
 use Rattle.protocol.specs.Instruction.{Executed}
 use Rattle.code.specs.declared.Instruction.{Instruction}
 use Rattle.code.specs.declared.Instruction.the-variants.{Return, Jump, JumpZero, JumpNotZero, CallInstance, CallFunction, MoveConstant, CopyMemory, ReadElement, WriteElement, Typed, CycleTime, FlagByte, Convert, Pack, Unpack, Unknown}
-use Rattle.code.specs.Flow.{Kind, Returns, Jumps, Branches, Calls, Passes, kind, after, target}
-use Rattle.processor.specs.Processor.{Decided, refused, decided, faultIf, at, endedBy, ofConversion, ofElement, dataPart, called, controlled, meaning, executed}
+use Rattle.code.specs.Commands.{Kind, Returns, Jumps, Branches, Calls, Passes}
+use Rattle.code.specs.Flow.{kindAt, after, targetAt}
+use Rattle.processor.specs.Processor.{Decided, refused, decided, faultIf, at, endedBy, ofConversion, ofElement, dataPart, called, controlled, executed}
 use Rattle.bounds.specs.Paths.{Goes, passes, jumps, stays, leaves, calls}
 
 -- ---- the faults of the data part: neither the limit nor the seventeenth call
@@ -100,32 +101,32 @@ places-length (suc d) st = ap suc (places-length d st)
 
 -- An outcome of the instruction at p of the code c, at a depth
 abbrev pub Fits : List ℕ → ℕ → ℕ → Outcome → Type 0
-Fits c p depth (Fault b) = (b < 8) × (b ≢ 1) × (b ≡ 5 → (kind c p ≡ Calls) × (depth ≡ 16))
+Fits c p depth (Fault b) = (b < 8) × (b ≢ 1) × (b ≡ 5 → (kindAt c p ≡ Calls) × (depth ≡ 16))
 Fits c p depth (Next q) = (s : List ℕ) → Goes c p s q s
 Fits c p depth (Call next q offset) = (depth ≢ 16) × ((s : List ℕ) → Goes c p s q (next ∷ s))
-Fits c p depth Returned = kind c p ≡ Returns
+Fits c p depth Returned = kindAt c p ≡ Returns
 
 ordinary-fits : (c : List ℕ) (p depth b : ℕ) → Ordinary b → Fits c p depth (Fault b)
 ordinary-fits c p depth b o = (o .0, o .1, λ z. absurd (o .2 z))
 
 module _ (c : List ℕ) (p depth : ℕ) (d : List ℕ) where
-  by-kind : (k : Kind) → kind c p ≡ k → (x : Decided) → Fair x → Fits c p depth (controlled k (after c p) (target c p) depth d x .outcome)
+  by-kind : (k : Kind) → kindAt c p ≡ k → (x : Decided) → Fair x → Fits c p depth (controlled k (after c p) (targetAt c p) depth d x .outcome)
   by-kind Returns e x f = e
   by-kind Jumps e x f = λ s. jumps e
   by-kind Branches e (refused b) f = ordinary-fits c p depth b f
   by-kind Branches e (decided made offset m) f =
-      by-pick (λ q. (s : List ℕ) → Goes c p s q s) made (target c p) (after c p) (λ _ s. leaves e) (λ _ s. stays e)
+      by-pick (λ q. (s : List ℕ) → Goes c p s q s) made (targetAt c p) (after c p) (λ _ s. leaves e) (λ _ s. stays e)
   by-kind Calls e x f =
       by-pick (λ (y : Executed). Fits c p depth (y .outcome)) (eqb depth 16) _ _
       (λ z. (omega arith, omega arith, λ _. (e, eqb-true depth 16 z)))
       (λ z. go (eqb-false depth 16 z) x f)
     where
-      go : depth ≢ 16 → (x : Decided) → Fair x → Fits c p depth (called (after c p) (target c p) d x .outcome)
+      go : depth ≢ 16 → (x : Decided) → Fair x → Fits c p depth (called (after c p) (targetAt c p) d x .outcome)
       go n (refused b) f = ordinary-fits c p depth b f
       go n (decided made offset m) f = (n, λ s. calls e)
   by-kind Passes e (refused b) f = ordinary-fits c p depth b f
   by-kind Passes e (decided made offset m) f = λ s. passes e
 
 pub fits : (c : List ℕ) (r : Registers) (d : List ℕ) → Fits c (r .counter) (r .depth) (executed c r d .outcome)
-unfolding executed meaning
-fits c r d = by-kind c (r .counter) (r .depth) d (kind c (r .counter)) refl _ (fair _ c r d)
+unfolding executed
+fits c r d = by-kind c (r .counter) (r .depth) d (kindAt c (r .counter)) refl _ (fair _ c r d)

@@ -8,7 +8,8 @@ use Prim.Native.Nat.{ℕ, zero, suc, _+_, _≤_, _<_, max}
 use native.Mathlib.Nat.{zero-add}
 use native.Mathlib.Omega.{arith, max-cases}
 use lib.ListN.{length}
-use Rattle.code.specs.Flow.{Kind, Returns, Jumps, Branches, Calls, Passes, kind, goesOn, goesTo, after, target}
+use Rattle.code.specs.Commands.{Kind, Returns, Jumps, Branches, Calls, Passes}
+use Rattle.code.specs.Flow.{kindAt, goesOn, goesTo, after, targetAt}
 use Rattle.bounds.specs.Paths.{Goes, passes, jumps, stays, leaves, calls, returns, Path, ends, more, Cycle, Greatest}
 use Rattle.bounds.specs.Bounds.{countBy, depthBy, along, longest, deepest}
 use Rattle.bounds.proofs.Rising.{Start, Rising}
@@ -88,7 +89,7 @@ count-positive Passes a t = omega arith
 
 -- a step that the choice of a greatest number takes, or the end
 data Choice (c : List ℕ) (P : ℕ → List ℕ → Type 0) (p : ℕ) (s : List ℕ) : Type 0 where
-  over : kind c p ≡ Returns → s ≡ [] → Choice c P p s
+  over : kindAt c p ≡ Returns → s ≡ [] → Choice c P p s
   on : (q : ℕ) (r : List ℕ) → Goes c p s q r → P q r → Choice c P p s
 
 larger : (a b : ℕ) → (max a b ≡ a) ⊎ (max a b ≡ b)
@@ -100,24 +101,24 @@ module _ (c : List ℕ) (g : Rising c) where
   enough by l zero j p s h i = absurd (let w = g .inside p s in let z : ⊥ = omega arith in z)
   enough by l (suc k) zero p s h i = absurd (let w = g .inside p s in let z : ⊥ = omega arith in z)
   enough by l (suc k) (suc j) p s h i =
-      l (kind c p) _ _ _ _
+      l (kindAt c p) _ _ _ _
       (λ o. let w = g .onward p s o in enough by l k j (after c p) (w .1) (omega arith) (omega arith))
-      (λ o. let w = g .upward p s o in enough by l k j (target c p) (w .1) (omega arith) (omega arith))
+      (λ o. let w = g .upward p s o in enough by l k j (targetAt c p) (w .1) (omega arith) (omega arith))
 
   -- the number at a start, from those at the places where control goes
   pub level : (by : Kind → ℕ → ℕ → ℕ) → Looks by → (p : ℕ) → Start c p
-      → along by (length c) c p ≡ by (kind c p) (along by (length c) c (after c p)) (along by (length c) c (target c p))
+      → along by (length c) c p ≡ by (kindAt c p) (along by (length c) c (after c p)) (along by (length c) c (targetAt c p))
   unfolding along
   level by l p s = enough by l (length c) (suc (length c)) p s (omega arith) (omega arith)
 
-  count-as : (x : Kind) (p : ℕ) → Start c p → kind c p ≡ x → countAt c p ≡ countBy x (countAt c (after c p)) (countAt c (target c p))
-  count-as x p s e = level countBy count-looks p s ∙ ap (λ (y : Kind). countBy y (countAt c (after c p)) (countAt c (target c p))) e
+  count-as : (x : Kind) (p : ℕ) → Start c p → kindAt c p ≡ x → countAt c p ≡ countBy x (countAt c (after c p)) (countAt c (targetAt c p))
+  count-as x p s e = level countBy count-looks p s ∙ ap (λ (y : Kind). countBy y (countAt c (after c p)) (countAt c (targetAt c p))) e
 
-  depth-as : (x : Kind) (p : ℕ) → Start c p → kind c p ≡ x → depthAt c p ≡ depthBy x (depthAt c (after c p)) (depthAt c (target c p))
-  depth-as x p s e = level depthBy depth-looks p s ∙ ap (λ (y : Kind). depthBy y (depthAt c (after c p)) (depthAt c (target c p))) e
+  depth-as : (x : Kind) (p : ℕ) → Start c p → kindAt c p ≡ x → depthAt c p ≡ depthBy x (depthAt c (after c p)) (depthAt c (targetAt c p))
+  depth-as x p s e = level depthBy depth-looks p s ∙ ap (λ (y : Kind). depthBy y (depthAt c (after c p)) (depthAt c (targetAt c p))) e
 
   pub due-positive : (p : ℕ) (s : List ℕ) → Start c p → 1 ≤ due c p s
-  due-positive p s h = let l = count-as _ p h refl in omega (arith, count-positive (kind c p) (countAt c (after c p)) (countAt c (target c p)))
+  due-positive p s h = let l = count-as _ p h refl in omega (arith, count-positive (kindAt c p) (countAt c (after c p)) (countAt c (targetAt c p)))
 
   pub moved : {p q : ℕ} {s r : List ℕ} → Sound c p s → Goes c p s q r → Fell c p s q r
   unfolding countBy depthBy
@@ -163,28 +164,28 @@ module _ (c : List ℕ) (g : Rising c) where
 
   -- ---- some path has as many
 
-  best-count : (p : ℕ) (s : List ℕ) → Start c p → (x : Kind) → kind c p ≡ x → Choice c (λ q r. suc (due c q r) ≡ due c p s) p s
+  best-count : (p : ℕ) (s : List ℕ) → Start c p → (x : Kind) → kindAt c p ≡ x → Choice c (λ q r. suc (due c q r) ≡ due c p s) p s
   unfolding countBy
   best-count p [] h Returns e = over e refl
   best-count p (q ∷ s) h Returns e = let n = count-as Returns p h e in on q s (returns e) (omega arith)
-  best-count p s h Jumps e = let n = count-as Jumps p h e in on (target c p) s (jumps e) (omega arith)
+  best-count p s h Jumps e = let n = count-as Jumps p h e in on (targetAt c p) s (jumps e) (omega arith)
   best-count p s h Branches e =
       let n = count-as Branches p h e in
-      ⊎-elim (λ l. on (after c p) s (stays e) (omega arith)) (λ l. on (target c p) s (leaves e) (omega arith))
-      (larger (countAt c (after c p)) (countAt c (target c p)))
-  best-count p s h Calls e = let n = count-as Calls p h e in on (target c p) (after c p ∷ s) (calls e) (omega arith)
+      ⊎-elim (λ l. on (after c p) s (stays e) (omega arith)) (λ l. on (targetAt c p) s (leaves e) (omega arith))
+      (larger (countAt c (after c p)) (countAt c (targetAt c p)))
+  best-count p s h Calls e = let n = count-as Calls p h e in on (targetAt c p) (after c p ∷ s) (calls e) (omega arith)
   best-count p s h Passes e = let n = count-as Passes p h e in on (after c p) s (passes e) (omega arith)
 
-  best-depth : (p : ℕ) (s : List ℕ) → Start c p → (x : Kind) → kind c p ≡ x → Choice c (λ q r. max (length s) (reach c q r) ≡ reach c p s) p s
+  best-depth : (p : ℕ) (s : List ℕ) → Start c p → (x : Kind) → kindAt c p ≡ x → Choice c (λ q r. max (length s) (reach c q r) ≡ reach c p s) p s
   unfolding depthBy
   best-depth p [] h Returns e = over e refl
   best-depth p (q ∷ s) h Returns e = let n = depth-as Returns p h e in on q s (returns e) (omega arith)
-  best-depth p s h Jumps e = let n = depth-as Jumps p h e in on (target c p) s (jumps e) (omega arith)
+  best-depth p s h Jumps e = let n = depth-as Jumps p h e in on (targetAt c p) s (jumps e) (omega arith)
   best-depth p s h Branches e =
       let n = depth-as Branches p h e in
-      ⊎-elim (λ l. on (after c p) s (stays e) (omega arith)) (λ l. on (target c p) s (leaves e) (omega arith))
-      (larger (depthAt c (after c p)) (depthAt c (target c p)))
-  best-depth p s h Calls e = let n = depth-as Calls p h e in on (target c p) (after c p ∷ s) (calls e) (omega arith)
+      ⊎-elim (λ l. on (after c p) s (stays e) (omega arith)) (λ l. on (targetAt c p) s (leaves e) (omega arith))
+      (larger (depthAt c (after c p)) (depthAt c (targetAt c p)))
+  best-depth p s h Calls e = let n = depth-as Calls p h e in on (targetAt c p) (after c p ∷ s) (calls e) (omega arith)
   best-depth p s h Passes e = let n = depth-as Passes p h e in on (after c p) s (passes e) (omega arith)
 
   count-path : (n p : ℕ) (s : List ℕ) → Sound c p s → due c p s ≡ n → (d : ℕ) × Path c p s n d
@@ -252,7 +253,7 @@ module _ (c : List ℕ) (g : Rising c) where
   trail-depth w = let u = under w in omega arith
 
   -- a call still finds room
-  pub trail-call : {n p : ℕ} {s : List ℕ} → Trail c n p s → kind c p ≡ Calls → length s < deepest c
+  pub trail-call : {n p : ℕ} {s : List ℕ} → Trail c n p s → kindAt c p ≡ Calls → length s < deepest c
   trail-call w e = trail-depth (then w (calls e))
 
 -- a trail goes on as a path

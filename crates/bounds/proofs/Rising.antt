@@ -8,7 +8,7 @@ use native.Mathlib.Omega.{arith}
 use borrow.Author.Tests.{ltb-true}
 use lib.ListN.{length}
 use Rattle.verdict.specs.Verdict.{pick}
-use Rattle.code.specs.Flow.{kind, goesOn, goesTo, after, target}
+use Rattle.code.specs.Flow.{kindAt, goesOn, goesTo, after, targetAt}
 use Rattle.code.specs.Code.{isStart, judgeCode}
 use Rattle.code.proofs.Sound.{sound, start-zero, inside-code, each-passes}
 use Rattle.bounds.specs.Bounds.{rises, allRise}
@@ -20,10 +20,10 @@ Start c p = isStart c p ≡ true
 pub record Rising (c : List ℕ) : Type 0 where
   pub first : Start c 0
   pub inside : (p : ℕ) → Start c p → p < length c
-  pub onward : (p : ℕ) → Start c p → goesOn (kind c p) ≡ true → (p < after c p) × Start c (after c p)
-  pub upward : (p : ℕ) → Start c p → goesTo (kind c p) ≡ true → (p < target c p) × Start c (target c p)
+  pub onward : (p : ℕ) → Start c p → goesOn (kindAt c p) ≡ true → (p < after c p) × Start c (after c p)
+  pub upward : (p : ℕ) → Start c p → goesTo (kindAt c p) ≡ true → (p < targetAt c p) × Start c (targetAt c p)
 
-above : (c : List ℕ) (p : ℕ) → rises c p ≡ true → goesTo (kind c p) ≡ true → p < target c p
+above : (c : List ℕ) (p : ℕ) → rises c p ≡ true → goesTo (kindAt c p) ≡ true → p < targetAt c p
 unfolding rises pick
 above c p r o = ltb-true _ _ (rw o at r)
 

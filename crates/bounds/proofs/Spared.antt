@@ -21,7 +21,8 @@ use Rattle.protocol.specs.Step.{run, step, Taking, readTaken, readNext, readDon
 use Rattle.protocol.specs.Instruction.{Executed, backFrom, appliedBy, applied, limited, instructionBy}
 use Rattle.protocol.specs.Fresh.{fresh, freshCore}
 use Rattle.protocol.proofs.View.{Moves, rests, waits, takesRead, readsOn, readsLast, runs, takesWrite, writesOn, writesLast, view, at}
-use Rattle.code.specs.Flow.{Returns, kind}
+use Rattle.code.specs.Commands.{Returns}
+use Rattle.code.specs.Flow.{kindAt}
 use Rattle.processor.specs.Processor.{executed}
 use Rattle.bounds.specs.Paths.{returns}
 use Rattle.bounds.specs.Bounds.{longest, deepest}
@@ -121,7 +122,7 @@ module _ (c : List ℕ) (limit : ℕ) (g : Rising c) where
         unnested = λ l. fault-bit 5 b (x .registers .flags) (λ z. v z l) (safe-five b h) a;
       }
 
-  back : (n : ℕ) (m : List ℕ) (x : Core) → x .registers .depth ≡ n → Kept c limit x → mode x ≡ 2 → kind c (x .registers .counter) ≡ Returns → Kept c limit (backFrom n m x)
+  back : (n : ℕ) (m : List ℕ) (x : Core) → x .registers .depth ≡ n → Kept c limit x → mode x ≡ 2 → kindAt c (x .registers .counter) ≡ Returns → Kept c limit (backFrom n m x)
   unfolding cycleEnded returned popped
   back zero m x q w e k =
       record {

@@ -8,7 +8,8 @@ use lib.Dec.{ltb, leb, eqb}
 use lib.ListN.{length}
 use Rattle.verdict.specs.Numbers.{notAbove, tooLong}
 use Rattle.verdict.specs.Verdict.{pick, next, unless, first}
-use Rattle.code.specs.Flow.{Kind, Returns, Jumps, Branches, Calls, Passes, kind, goesTo, after, target}
+use Rattle.code.specs.Commands.{Kind, Returns, Jumps, Branches, Calls, Passes}
+use Rattle.code.specs.Flow.{kindAt, goesTo, after, targetAt}
 use Rattle.code.specs.Code.{allFrom}
 use Rattle.records.specs.File.{cores}
 use Rattle.taskset.specs.Judge.{codeOf, judge}
@@ -34,7 +35,7 @@ depthBy Passes next there = next
 -- the number at p; k bounds how often control moves up
 unfoldable pub along : (Kind → ℕ → ℕ → ℕ) → ℕ → List ℕ → ℕ → ℕ
 along by zero c p = 0
-along by (suc k) c p = by (kind c p) (along by k c (after c p)) (along by k c (target c p))
+along by (suc k) c p = by (kindAt c p) (along by k c (after c p)) (along by k c (targetAt c p))
 
 -- of a whole cycle. `greatest` of proofs/Greatest: where all targets are above their instructions, they are `Greatest c (longest c) (deepest c)`
 unfoldable pub longest : List ℕ → ℕ
@@ -47,12 +48,12 @@ deepest c = along depthBy (length c) c 0
 
 -- the T of the instruction at p, if it has one, is above it
 unfoldable pub rises : List ℕ → ℕ → Bool
-rises c p = pick (goesTo (kind c p)) (ltb p (target c p)) true
+rises c p = pick (goesTo (kindAt c p)) (ltb p (targetAt c p)) true
 
 unfoldable pub allRise : List ℕ → Bool
 allRise c = allFrom (rises c) (length c) c 0
 
--- "25, a target not above its own instruction; 26, a count above 65,535"
+-- "25, a targetAt not above its own instruction; 26, a count above 65,535"
 unfoldable pub boundsRefusal : List ℕ → ℕ
 boundsRefusal c = next (unless (allRise c) notAbove) (unless (leb (longest c) 65535) tooLong)
 

@@ -7,7 +7,7 @@ ghost use Prim.Native.Nat.{ℕ, _+_, _<_, _≤_, min, max};
 ghost use lib.ListN.{length};
 ghost use Rattle.memory.specs.Memory.{byte, splice, part};
 ghost use Rattle.code.specs.Commands.{lengthOf};
-ghost use Rattle.code.specs.Flow.{kind, target as targetAt};
+ghost use Rattle.code.specs.Flow.{kindAt, targetAt};
 ghost use Rattle.code.specs.Code.{isStart, judgeCode};
 ghost use Rattle.records.specs.File.{cores};
 ghost use Rattle.taskset.specs.Judge.{codeOf, judge};
@@ -50,7 +50,7 @@ fn capped(n: u32) -> u32
 // The count at the instruction at p, from the one after it and the one at its T.
 fn count_at(code: &[u8], p: usize, next: u32, there: u32) -> u32
     requires { ⌜ p < length (now code) ⌝ }
-    ensures { λ r. ⌜ r ≡ min (countBy (kind (now (code .entry)) p) next there) 65536 ⌝ }
+    ensures { λ r. ⌜ r ≡ min (countBy (kindAt (now (code .entry)) p) next there) 65536 ⌝ }
 {
     let a = capped(next);
     let t = capped(there);
@@ -72,7 +72,7 @@ fn count_at(code: &[u8], p: usize, next: u32, there: u32) -> u32
 
 fn depth_at(code: &[u8], p: usize, next: u32, there: u32) -> u32
     requires { ⌜ p < length (now code) ⌝ }
-    ensures { λ r. ⌜ r ≡ min (depthBy (kind (now (code .entry)) p) next there) 65536 ⌝ }
+    ensures { λ r. ⌜ r ≡ min (depthBy (kindAt (now (code .entry)) p) next there) 65536 ⌝ }
 {
     let a = capped(next);
     let t = capped(there);

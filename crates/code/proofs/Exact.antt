@@ -15,10 +15,10 @@ use Rattle.verdict.proofs.Verdict.{next-zero, next-none, unless-zero, yes}
 use Rattle.verdict.proofs.Items.{Judges, judges-none, judges-one, judges-both, judged}
 use Rattle.memory.specs.Memory.{byte}
 use Rattle.code.specs.Instructions.{instructionAt}
-use Rattle.code.specs.Flow.{kind, goesTo, target, after}
+use Rattle.code.specs.Flow.{kindAt, goesTo, targetAt, after}
 use Rattle.code.specs.declared.Profile.{Profile}
 use Rattle.code.specs.declared.Profile.the-variants.{Full, Small}
-use Rattle.code.specs.Profiles.{carries}
+use Rattle.code.specs.Profiles.{typesAt, carries}
 use Rattle.code.specs.Code.{instructionOk, instructionRefusal, laid, isStart, allFrom, targetOk, lastFrom, ends, judgeCodeFor, judgeCode}
 use Rattle.code.specs.Rules.{InstructionRules, NoWide, Start, first, then, startsFrom, Instructions, Targets, Last, Carried, WellFormedCodeFor, WellFormedCode, typeItems, codeItemsFor, codeItems}
 use Rattle.code.proofs.Laws.{is, whole, full-small, carried-none}
@@ -45,7 +45,7 @@ unfolding instructionRefusal unless
 instruction-judged Full c p = judges-both (judges-one 5 (instructionOk c p) (keeps-instruction c p) (accepts-instruction c p)) (λ z. judges-none)
 instruction-judged Small c p =
     judges-both (judges-one 5 (instructionOk c p) (keeps-instruction c p) (accepts-instruction c p))
-    (λ z. let e = unless-zero _ 5 z in judges-one 26 (carries Small (instructionAt c p)) (keeps-types c p e) (accepts-types c p e))
+    (λ z. let e = unless-zero _ 5 z in judges-one 26 (carries Small (typesAt c p)) (keeps-types c p e) (accepts-types c p e))
 
 instructions-judged : (o : Profile) (k : ℕ) (c : List ℕ) (p : ℕ)
     → Judges (forEach (startsFrom k c p) (λ q. item 6 (InstructionRules c q) ∷ typeItems o c q)) (laid o k c p)
@@ -65,7 +65,7 @@ instruction-none o c p r n = carried-none o c p e (go o refl)
     e : instructionOk c p ≡ true
     e = accepts-instruction c p r
 
-    go : (x : Profile) → o ≡ x → carries o (instructionAt c p) ≡ true
+    go : (x : Profile) → o ≡ x → carries o (typesAt c p) ≡ true
     go Full q = rw q
     go Small q = rw q (accepts-types c p (accepts-instruction c p r) (n q))
 
@@ -113,14 +113,14 @@ module _ (c : List ℕ) (l : laid Full (length c) c 0 ≡ 0) where
       let w = start-is c l s in
       let i = target-is c p g in
       subst (Start c) (i .1)
-      (is-start c (target c p) (omega (arith, inside-code c p w)) (target-starts c p (each-passes (targetOk c) c p a w) (i .0)))
+      (is-start c (targetAt c p) (omega (arith, inside-code c p w)) (target-starts c p (each-passes (targetOk c) c p a w) (i .0)))
 
   target-right : Targets c → (p : ℕ) → Start c p → targetOk c p ≡ true
   unfolding targetOk pick
-  target-right r p s = go (goesTo (kind c p)) refl
+  target-right r p s = go (goesTo (kindAt c p)) refl
     where
-      go : (b : Bool) → goesTo (kind c p) ≡ b → targetOk c p ≡ true
-      go true e = rw e (start-is c l (r p (target c p) s (has-target c p e)))
+      go : (b : Bool) → goesTo (kindAt c p) ≡ b → targetOk c p ≡ true
+      go true e = rw e (start-is c l (r p (targetAt c p) s (has-target c p e)))
       go false e = rw e
 
   targets-from : Targets c → (k p : ℕ) → (p < length c → Start c p) → allFrom (targetOk c) k c p ≡ true

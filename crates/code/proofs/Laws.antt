@@ -2,20 +2,20 @@
 -- an accepted instruction; its length. Assumes nothing.
 use mathlib.Core.Path.{_≡_, refl, sym, ap, _∙_, subst}
 use mathlib.Core.Bool.{Bool, true, false, not}
-use mathlib.Core.List.{List}
+use mathlib.Core.List.{List, []}
 use Prim.Native.Nat.{ℕ, zero, suc, _+_, _≤_, _<_}
 use native.Mathlib.Omega.{arith}
 use borrow.Author.Tests.{ltb-true, leb-true, eqb-true, eqb-false, ne-eqb, lt-ltb, le-leb}
 use lib.Dec.{T, ltb, leb, eqb, eqb→eq, leb→le}
 use lib.ListN.{length, getD}
 use Rattle.verdict.specs.Verdict.{pick, both, either, within, upto}
-use Rattle.verdict.proofs.Verdict.{absurd-bool, by-pick, skip, halt, yes, no, below, both-true, next-zero, next-none, unless-zero}
+use Rattle.verdict.proofs.Verdict.{absurd-bool, by-pick, skip, halt, yes, no, below, both-true, inside-true, next-zero, next-none, unless-zero}
 use Rattle.memory.specs.Memory.{byte}
 use Rattle.values.specs.Types.{takes}
-use Rattle.code.specs.Commands.{three, layoutOf, lengthOf, known, Lengths}
+use Rattle.code.specs.Commands.{three, Row, Passes, rowOf, operandsIn, placesOf, lengthOf, known, Lengths}
 use Rattle.code.specs.Instructions.{typedAt, instructionAt, instructionLength}
-use Rattle.code.specs.Flow.{kind, goesOn, goesTo, kindOf}
-use Rattle.code.specs.Profiles.{carries}
+use Rattle.code.specs.Flow.{kindOf, isTarget, firstWord, goesOn, goesTo, kindAt, targetAt}
+use Rattle.code.specs.Profiles.{typesAt, carries}
 use Rattle.code.specs.Code.{operandsOk, instructionOk, instructionRefusal, acceptedLength, Sized}
 use Rattle.code.specs.declared.Profile.{Profile}
 use Rattle.code.specs.declared.Profile.the-variants.{Full, Small}
@@ -32,7 +32,7 @@ is P b k f g = go (eqb b k) refl
 
 -- ---- all code bytes
 
-both-T : (a b : Bool) → T (both a b) → T a × T b
+pub both-T : (a b : Bool) → T (both a b) → T a × T b
 both-T true b t = (tt, t)
 both-T false b t = absurd t
 
@@ -64,13 +64,13 @@ table-right table t =
     rule : (code : ℕ) → code < 256 → T (fits table code) × T (none table code)
     rule code h = both-T (fits table code) (none table code) (below (λ k. both (fits table k) (none table k)) 256 t code h)
 
-either-T : (a b : Bool) → T (either a b) → a ≡ false → T b
+pub either-T : (a b : Bool) → T (either a b) → a ≡ false → T b
 either-T true b t e = absurd (subst T e tt)
 either-T false b t e = t
 
 -- the commands with three addresses have eight bytes
 pub three-length : (code : ℕ) → code < 256 → three code ≡ true → lengthOf code ≡ 8
-unfolding lengthOf layoutOf pick
+unfolding lengthOf rowOf pick
 three-length code h e =
     eqb→eq _ _ (either-T _ _ (below (λ k. either (not (three k)) (eqb (lengthOf k) 8)) 256 tt code h) (ap not e))
 
@@ -103,7 +103,7 @@ takes-not code t h e f =
 
 -- no instruction is longer than ten bytes, MCD's own apart
 pub short : (code : ℕ) → code < 256 → lengthOf code ≤ 10
-unfolding lengthOf layoutOf pick
+unfolding lengthOf rowOf pick
 short code h = leb→le _ _ (below (λ k. leb (lengthOf k) 10) 256 tt code h)
 
 -- ---- the instruction by its code byte
@@ -145,33 +145,76 @@ typed-left c p n0 n1 n2 n3 n4 n5 n6 n7 n8 n9 n41 n42 n43 n44 n45 =
       ne-eqb _ _ n45,
     )
 
-typed-passes : (c : List ℕ) (p : ℕ) (other : Instruction) → goesTo (kindOf other) ≡ false → goesTo (kindOf (typedAt c p other)) ≡ false
-unfolding typedAt
-typed-passes c p other z =
-    let P : Instruction → Type 0 = λ (i : Instruction). goesTo (kindOf i) ≡ false in
-    by-pick P _ _ _ (λ e. refl) (λ e. by-pick P _ _ _ (λ f. refl) (λ f. z))
-
 -- only the code bytes 1 to 5 have a T
 pub no-target : (c : List ℕ) (p : ℕ) → (byte c p ≡ 1 → ⊥) → (byte c p ≡ 2 → ⊥) → (byte c p ≡ 3 → ⊥) → (byte c p ≡ 4 → ⊥) → (byte c p ≡ 5 → ⊥)
-    → goesTo (kind c p) ≡ false
-unfolding instructionAt
+    → goesTo (kindAt c p) ≡ false
+unfolding rowOf
 no-target c p n1 n2 n3 n4 n5 =
-    let P : Instruction → Type 0 = λ (i : Instruction). goesTo (kindOf i) ≡ false in
+    let P : Row → Type 0 = λ (r : Row). goesTo (kindOf r) ≡ false in
     by-pick P _ _ _ (λ e. refl)
     (λ e. by-pick P _ _ _ (λ z. absurd (n1 (eqb-true (byte c p) 1 z)))
-    (λ e. by-pick P _ _ _ (λ z. absurd (n2 (eqb-true (byte c p) 2 z)))
-    (λ e. by-pick P _ _ _ (λ z. absurd (n3 (eqb-true (byte c p) 3 z)))
+    (λ e. by-pick P _ _ _ (λ z. absurd (branch (inside-true 2 3 (byte c p) z)))
     (λ e. by-pick P _ _ _ (λ z. absurd (n4 (eqb-true (byte c p) 4 z)))
     (λ e. by-pick P _ _ _ (λ z. absurd (n5 (eqb-true (byte c p) 5 z)))
     (λ e. by-pick P _ _ _ (λ z. refl)
     (λ e. by-pick P _ _ _ (λ z. refl)
     (λ e. by-pick P _ _ _ (λ z. refl)
     (λ e. by-pick P _ _ _ (λ z. refl)
-    (λ e. typed-passes c p _ (by-pick P _ _ _ (λ z. refl) (λ e. by-pick P _ _ _ (λ z. refl) (λ e. by-pick P _ _ _ (λ z. refl) (λ e. by-pick P _ _ _ (λ z. refl) (λ e. by-pick P _ _ _ (λ z. refl) (λ e. refl))))))))))))))))
+    (λ e. by-pick P _ _ _ (λ z. refl)
+    (λ e. by-pick P _ _ _ (λ z. refl)
+    (λ e. by-pick P _ _ _ (λ z. refl) (λ e. by-pick P _ _ _ (λ z. refl) (λ e. refl)))))))))))))
+  where
+    branch : (2 ≤ byte c p) × (byte c p ≤ 3) → ⊥
+    branch h = is ⊥ (byte c p) 2 n2 (λ n. n3 (omega arith))
+
+-- what the row of a command says of T and of control: without a T it has no place of one; from MCD on it goes on and has no T
+no-place : (code : ℕ) → goesTo (kindOf (rowOf code)) ≡ false → placesOf isTarget 1 (operandsIn (rowOf code)) ≡ []
+unfolding rowOf
+no-place code =
+    let P : Row → Type 0 = λ (r : Row). goesTo (kindOf r) ≡ false → placesOf isTarget 1 (operandsIn r) ≡ [] in
+    by-pick P _ _ _ (λ z e. refl)
+    (λ z. by-pick P _ _ _ (λ z e. absurd-bool (sym e))
+    (λ z. by-pick P _ _ _ (λ z e. absurd-bool (sym e))
+    (λ z. by-pick P _ _ _ (λ z e. absurd-bool (sym e))
+    (λ z. by-pick P _ _ _ (λ z e. absurd-bool (sym e))
+    (λ z. by-pick P _ _ _ (λ z e. refl)
+    (λ z. by-pick P _ _ _ (λ z e. refl)
+    (λ z. by-pick P _ _ _ (λ z e. refl)
+    (λ z. by-pick P _ _ _ (λ z e. refl)
+    (λ z. by-pick P _ _ _ (λ z e. refl)
+    (λ z. by-pick P _ _ _ (λ z e. refl)
+    (λ z. by-pick P _ _ _ (λ z e. refl) (λ z. by-pick P _ _ _ (λ z e. refl) (λ z e. refl)))))))))))))
+
+-- the same of the instruction at p
+pub without-target : (c : List ℕ) (p : ℕ) → goesTo (kindAt c p) ≡ false → targetAt c p ≡ 0
+without-target c p e = ap (firstWord c p) (no-place (byte c p) e)
+
+pub row-passes : (code : ℕ) → 6 ≤ code → kindOf (rowOf code) ≡ Passes
+unfolding rowOf
+row-passes code h =
+    let P : Row → Type 0 = λ (r : Row). kindOf r ≡ Passes in
+    by-pick P _ _ _ (λ z. absurd (low 0 (eqb-true code 0 z) (omega arith)))
+    (λ z. by-pick P _ _ _ (λ z. absurd (low 1 (eqb-true code 1 z) (omega arith)))
+    (λ z. by-pick P _ _ _ (λ z. absurd (branch (inside-true 2 3 code z .1)))
+    (λ z. by-pick P _ _ _ (λ z. absurd (low 4 (eqb-true code 4 z) (omega arith)))
+    (λ z. by-pick P _ _ _ (λ z. absurd (low 5 (eqb-true code 5 z) (omega arith)))
+    (λ z. by-pick P _ _ _ (λ z. refl)
+    (λ z. by-pick P _ _ _ (λ z. refl)
+    (λ z. by-pick P _ _ _ (λ z. refl)
+    (λ z. by-pick P _ _ _ (λ z. refl)
+    (λ z. by-pick P _ _ _ (λ z. refl)
+    (λ z. by-pick P _ _ _ (λ z. refl)
+    (λ z. by-pick P _ _ _ (λ z. refl) (λ z. by-pick P _ _ _ (λ z. refl) (λ z. refl)))))))))))))
+  where
+    low : (k : ℕ) → code ≡ k → k < 6 → ⊥
+    low k e l = omega arith
+
+    branch : code ≤ 3 → ⊥
+    branch l = omega arith
 
 -- RETURN and JMP do not go on
-pub high : (c : List ℕ) (p : ℕ) → goesOn (kind c p) ≡ true → 2 ≤ byte c p
-unfolding instructionAt pick
+pub high : (c : List ℕ) (p : ℕ) → goesOn (kindAt c p) ≡ true → 2 ≤ byte c p
+unfolding rowOf pick
 high c p o = go (byte c p) refl
   where
     go : (b : ℕ) → byte c p ≡ b → 2 ≤ byte c p
@@ -218,11 +261,11 @@ unfolding small
 full-small e = absurd-bool (ap small e)
 
 -- accepted and carried by the profile, or not carried
-pub carried-none : (o : Profile) (c : List ℕ) (p : ℕ) → instructionOk c p ≡ true → carries o (instructionAt c p) ≡ true → instructionRefusal o c p ≡ 0
+pub carried-none : (o : Profile) (c : List ℕ) (p : ℕ) → instructionOk c p ≡ true → carries o (typesAt c p) ≡ true → instructionRefusal o c p ≡ 0
 unfolding instructionRefusal
 carried-none o c p e h = next-none _ _ (yes _ 6 e) (yes _ 27 h)
 
-pub carried-not : (o : Profile) (c : List ℕ) (p : ℕ) → instructionOk c p ≡ true → carries o (instructionAt c p) ≡ false → 27 ≡ instructionRefusal o c p
+pub carried-not : (o : Profile) (c : List ℕ) (p : ℕ) → instructionOk c p ≡ true → carries o (typesAt c p) ≡ false → 27 ≡ instructionRefusal o c p
 unfolding instructionRefusal
 carried-not o c p e h = skip (yes _ 6 e) (sym (no _ 27 h))
 
@@ -256,11 +299,11 @@ length-unlisted c p e = length-none c p (λ w. absurd-bool (sym e ∙ w .listed)
 -- MCD: its n bytes follow its own
 module _ (c : List ℕ) (p : ℕ) (mcd : byte c p ≡ 6) where
   own-four : lengthOf (byte c p) ≡ 4
-  unfolding lengthOf layoutOf pick
+  unfolding lengthOf rowOf pick
   own-four = rw mcd
 
   all-constant : instructionLength c p ≡ 4 + byte c (p + 3)
-  unfolding instructionLength lengthOf layoutOf pick
+  unfolding instructionLength lengthOf rowOf pick
   all-constant = rw mcd
 
   listed-constant : operandsOk (instructionAt c p) ≡ within 1 8 (byte c (p + 3))

@@ -1,5 +1,5 @@
 -- The one pass that judges a core's code: the map of starts and of targets that ask for one, and what one turn does to it and to what is left.
--- In order: an empty map; a target asked for; the pass; the targets, judged by the map; its largest byte. Assumes nothing.
+-- In order: an empty map; a targetAt asked for; the pass; the targets, judged by the map; its largest byte. Assumes nothing.
 use mathlib.Core.Path.{_≡_, refl, sym, ap, _∙_, subst}
 use mathlib.Core.Logic.{_⊎_, inl, inr, ⊎-elim}
 use mathlib.Core.Bool.{Bool, true, false}
@@ -13,10 +13,10 @@ use lib.Seq.{getD-set-same, getD-set-other}
 use Rattle.verdict.specs.Verdict.{pick, either, next}
 use Rattle.verdict.proofs.Verdict.{absurd-bool, skip, stop, halt, no, next-zero, either-true, either-false}
 use Rattle.memory.specs.Memory.{byte}
-use Rattle.code.specs.Flow.{kind, goesTo, target, after}
+use Rattle.code.specs.Flow.{kindAt, goesTo, targetAt, after}
 use Rattle.code.specs.declared.Profile.{Profile}
 use Rattle.code.specs.Instructions.{instructionAt}
-use Rattle.code.specs.Profiles.{carries}
+use Rattle.code.specs.Profiles.{typesAt, carries}
 use Rattle.code.specs.Code.{instructionRefusal, laid, startFrom, isStart, allFrom, targetOk, lastFrom, acceptedLength, judgeCodeFor, Asked, TargetAsked, Pass, AllMet}
 use Rattle.code.proofs.Laws.{whole, accepted, carried-none, length-taken}
 use Rattle.code.proofs.Passes.{laid-one, start-one, all-one, last-one, laid-end, start-end, all-end, last-end, start-here, start-beyond}
@@ -29,7 +29,7 @@ zeros zero t = refl
 zeros (suc n) zero = refl
 zeros (suc n) (suc t) = zeros n t
 
--- ---- a target asked for
+-- ---- a targetAt asked for
 
 pub asked-outside : (m : List ℕ) (t : ℕ) → length m ≤ t → Asked m t true m
 asked-outside m t h =
@@ -72,11 +72,11 @@ asked-new m t h ne =
     new u x true e = inr (sym (eqb-true t u e))
     new u x false e = inl (rw (other u e) at x)
 
-pub target-asked : (c : List ℕ) (p : ℕ) (m : List ℕ) (r : Bool) (n : List ℕ) (t : ℕ) → target c p ≡ t → goesTo (kind c p) ≡ true → Asked m t r n
+pub target-asked : (c : List ℕ) (p : ℕ) (m : List ℕ) (r : Bool) (n : List ℕ) (t : ℕ) → targetAt c p ≡ t → goesTo (kindAt c p) ≡ true → Asked m t r n
     → TargetAsked c p m r n
 target-asked c p m r n t e g a = record { asked = λ _. subst (λ (x : ℕ). Asked m x r n) (sym e) a; none = λ z. absurd-bool (sym z ∙ g) }
 
-pub target-none : (c : List ℕ) (p : ℕ) (m : List ℕ) → goesTo (kind c p) ≡ false → TargetAsked c p m false m
+pub target-none : (c : List ℕ) (p : ℕ) (m : List ℕ) → goesTo (kindAt c p) ≡ false → TargetAsked c p m false m
 target-none c p m g = record { asked = λ z. absurd-bool (sym g ∙ z); none = λ _. (refl, refl) }
 
 -- what the asking of the instruction at p does to a map that is as long as the code at least
@@ -90,9 +90,9 @@ record Turned (c : List ℕ) (p : ℕ) (m : List ℕ) (outside : Bool) (n : List
 
 turned : (c : List ℕ) (p : ℕ) (m : List ℕ) (r : Bool) (n : List ℕ) → length c ≤ length m → TargetAsked c p m r n → Turned c p m r n
 unfolding targetOk pick
-turned c p m r n b q = go (goesTo (kind c p)) refl
+turned c p m r n b q = go (goesTo (kindAt c p)) refl
   where
-    asking : goesTo (kind c p) ≡ true → Asked m (target c p) r n → Turned c p m r n
+    asking : goesTo (kindAt c p) ≡ true → Asked m (targetAt c p) r n → Turned c p m r n
     asking e a =
         record {
           size = a .size;
@@ -100,25 +100,25 @@ turned c p m r n b q = go (goesTo (kind c p)) refl
           kept = a .kept;
           new = λ t u h. ⊎-elim (λ x. inl x) (λ x. inr (ap (isStart c) x ∙ there t)) (a .new u h);
           near = λ t. close t r refl;
-          right = λ o two one. rw e (met o two one (eqb (getD n (target c p) 0) 1) refl);
+          right = λ o two one. rw e (met o two one (eqb (getD n (targetAt c p) 0) 1) refl);
         }
       where
-        there : targetOk c p ≡ true → isStart c (target c p) ≡ true
+        there : targetOk c p ≡ true → isStart c (targetAt c p) ≡ true
         there t = rw e at t
 
         close : targetOk c p ≡ true → (x : Bool) → r ≡ x → r ≡ false
-        close t true h = absurd-bool (sym (start-beyond c (target c p) (omega (arith, a .beyond h))) ∙ there t)
+        close t true h = absurd-bool (sym (start-beyond c (targetAt c p) (omega (arith, a .beyond h))) ∙ there t)
         close t false h = h
 
         met : r ≡ false → ((t : ℕ) → 2 ≤ getD n t 0 → isStart c t ≡ true) → ((t : ℕ) → getD n t 0 ≡ 1 → isStart c t ≡ true)
-            → (x : Bool) → eqb (getD n (target c p) 0) 1 ≡ x → isStart c (target c p) ≡ true
-        met o two one true h = one (target c p) (eqb-true _ _ h)
+            → (x : Bool) → eqb (getD n (targetAt c p) 0) 1 ≡ x → isStart c (targetAt c p) ≡ true
+        met o two one true h = one (targetAt c p) (eqb-true _ _ h)
         met o two one false h =
-            let g : 0 < getD n (target c p) 0 = a .there o in
-            let f : getD n (target c p) 0 ≡ 1 → ⊥ = eqb-false _ _ h in
-            two (target c p) (omega (arith, f))
+            let g : 0 < getD n (targetAt c p) 0 = a .there o in
+            let f : getD n (targetAt c p) 0 ≡ 1 → ⊥ = eqb-false _ _ h in
+            two (targetAt c p) (omega (arith, f))
 
-    go : (x : Bool) → goesTo (kind c p) ≡ x → Turned c p m r n
+    go : (x : Bool) → goesTo (kindAt c p) ≡ x → Turned c p m r n
     go true e = asking e (q .asked e)
     go false e =
         let o = q .none e in
@@ -132,9 +132,9 @@ turned c p m r n b q = go (goesTo (kind c p)) refl
         }
 
 pub asked-size : (c : List ℕ) (p : ℕ) (m : List ℕ) (r : Bool) (n : List ℕ) → TargetAsked c p m r n → length n ≡ length m
-asked-size c p m r n q = go (goesTo (kind c p)) refl
+asked-size c p m r n q = go (goesTo (kindAt c p)) refl
   where
-    go : (x : Bool) → goesTo (kind c p) ≡ x → length n ≡ length m
+    go : (x : Bool) → goesTo (kindAt c p) ≡ x → length n ≡ length m
     go true e = q .asked e .size
     go false e = ap length (q .none e .1)
 
@@ -246,7 +246,7 @@ laying-turn x c p last outside m b h z r n q (suc k) e g l a s o i w =
 
 -- with the length and the flag as the code has them
 pub laying-more : (x : Profile) (c : List ℕ) (p last : ℕ) (outside : Bool) (m : List ℕ) → length c ≤ 8192 → Laying x c p last outside m → p < length c
-    → (l : ℕ) → l ≡ acceptedLength c p → (l ≡ 0 → ⊥) → carries x (instructionAt c p) ≡ true → (r : Bool) (n : List ℕ) → TargetAsked c p m r n → (o : Bool) → o ≡ either r outside
+    → (l : ℕ) → l ≡ acceptedLength c p → (l ≡ 0 → ⊥) → carries x (typesAt c p) ≡ true → (r : Bool) (n : List ℕ) → TargetAsked c p m r n → (o : Bool) → o ≡ either r outside
     → Laying x c (p + l) (byte c p) o (set n p 1)
 laying-more x c p last outside m b w h l e nz y r n q o f =
     let t = length-taken c p l e nz in

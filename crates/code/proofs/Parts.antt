@@ -10,7 +10,7 @@ use lib.Seq.{getD-take, getD-drop}
 use Rattle.verdict.specs.Verdict.{pick}
 use Rattle.memory.specs.Memory.{byte, word, part}
 use Rattle.memory.proofs.Number.{read-word}
-use Rattle.code.specs.Commands.{three, layoutOf, lengthOf}
+use Rattle.code.specs.Commands.{three, rowOf, lengthOf}
 use Rattle.code.specs.Instructions.{typedAt, instructionAt, instructionLength}
 use Rattle.code.specs.declared.Instruction.the-variants.{Typed, Unknown}
 use Rattle.code.proofs.Laws.{is, three-length, length-at, typed-left}
@@ -35,7 +35,7 @@ module _ (s : List ℕ) (a n : ℕ) where
     bytes d g = byte-part (p + d) g ∙ ap (byte s) (omega arith)
 
     typed-part : typedAt (part s a n) p Unknown ≡ typedAt s (a + p) Unknown
-    unfolding typedAt pick lengthOf layoutOf
+    unfolding typedAt pick lengthOf rowOf
     typed-part = rw (byte-part p h) (go (three (byte s (a + p))) refl)
       where
         also : three (byte s (a + p)) ≡ false → (b : Bool) → eqb (byte s (a + p)) 27 ≡ b
@@ -60,7 +60,7 @@ module _ (s : List ℕ) (a n : ℕ) where
     not-part g z = g (sym (byte-part p h) ∙ z)
 
     pub instruction-part : instructionAt (part s a n) p ≡ instructionAt s (a + p)
-    unfolding instructionAt typedAt pick lengthOf layoutOf
+    unfolding instructionAt typedAt pick lengthOf rowOf
     instruction-part =
         (is _ (byte s (a + p)) 0 (λ e. rw (byte-part p h, e)) (λ n0.
         (is _ (byte s (a + p)) 1 (λ e. rw (byte-part p h, e, words 1 (omega (arith, length-at _ e)))) (λ n1.
@@ -82,7 +82,7 @@ module _ (s : List ℕ) (a n : ℕ) where
         ∙ sym (typed-left s (a + p) n0 n1 n2 n3 n4 n5 n6 n7 n8 n9 n41 n42 n43 n44 n45))))))))))))))))))))))))))))))))
 
     pub length-part-same : instructionLength (part s a n) p ≡ instructionLength s (a + p)
-    unfolding instructionLength pick lengthOf layoutOf
+    unfolding instructionLength pick lengthOf rowOf
     length-part-same =
         is _ (byte s (a + p)) 6
         (λ e. rw (byte-part p h, e, bytes 3 (omega (arith, length-at _ e))))

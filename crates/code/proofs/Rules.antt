@@ -1,5 +1,5 @@
 -- An instruction is accepted exactly if it keeps the rules of `specs/Rules`, and its T is where the decoded instruction has it. In order: code
--- bytes; types; operands; the instruction; its target. Assumes nothing.
+-- bytes; types; operands; the instruction; its targetAt. Assumes nothing.
 use mathlib.Core.Path.{_≡_, refl, sym, ap, _∙_, subst}
 use mathlib.Core.Bool.{Bool, true, false}
 use mathlib.Core.Logic.{_⊎_, inl, inr}
@@ -14,9 +14,9 @@ use Rattle.verdict.proofs.Verdict.{absurd-bool, by-pick, below, both-true, eith
 use Rattle.verdict.proofs.Items.{member, member-of, of-member}
 use Rattle.memory.specs.Memory.{byte, word}
 use Rattle.values.specs.Types.{takes}
-use Rattle.code.specs.Commands.{Layout, known, three, layoutOf, lengthOf, lengthWith}
+use Rattle.code.specs.Commands.{Row, known, three, rowOf, lengthOf, lengthWith}
 use Rattle.code.specs.Instructions.{instructionAt, typedAt}
-use Rattle.code.specs.Flow.{kind, goesTo, target}
+use Rattle.code.specs.Flow.{kindAt, goesTo, targetAt}
 use Rattle.code.specs.Code.{isWidth, elementOk, convertible, packable, operandsOk, instructionOk}
 use Rattle.code.specs.Rules.{TypeRules, InstructionRules, Target, jmp, jz-jnz, calb, calf}
 use Rattle.code.proofs.Laws.{is, same, same-is, Whole, whole, typed-takes, typed-left, no-target}
@@ -34,9 +34,9 @@ three-low code e =
 
 -- only code bytes below 46 are known
 low : (code : ℕ) → 0 < lengthOf code → code < 46
-unfolding lengthOf layoutOf
+unfolding lengthOf rowOf
 low code =
-    let P : Layout → Type 0 = λ (l : Layout). 0 < lengthWith l → code < 46 in
+    let P : Row → Type 0 = λ (l : Row). 0 < lengthWith l → code < 46 in
     by-pick P _ _ _ (λ e h. omega (arith, eqb-true code 0 e))
     (λ e. by-pick P _ _ _ (λ e h. omega (arith, eqb-true code 1 e))
     (λ e. by-pick P _ _ _ (λ e h. omega (arith, inside-true 2 3 code e))
@@ -70,7 +70,7 @@ none-known code e =
 
 -- the code bytes with a length are those of the table of commands
 pub known-is : (code : ℕ) → ltb 0 (lengthOf code) ≡ known code
-unfolding lengthOf layoutOf pick
+unfolding lengthOf rowOf pick
 known-is code = go (ltb code 46) refl
   where
     go : (b : Bool) → ltb code 46 ≡ b → ltb 0 (lengthOf code) ≡ known code
@@ -314,15 +314,15 @@ module _ (c : List ℕ) (p : ℕ) where
 
   -- ---- the target
 
-  pub target-is : {t : ℕ} → Target c p t → (goesTo (kind c p) ≡ true) × (target c p ≡ t)
-  unfolding instructionAt pick
+  pub target-is : {t : ℕ} → Target c p t → (goesTo (kindAt c p) ≡ true) × (targetAt c p ≡ t)
+  unfolding rowOf pick
   target-is (jmp e) = (rw e, rw e)
   target-is (jz-jnz h) = is _ (byte c p) 2 (λ e. (rw e, rw e)) (λ n. let e : byte c p ≡ 3 = omega arith in (rw e, rw e))
   target-is (calb e) = (rw e, rw e)
   target-is (calf e) = (rw e, rw e)
 
-  pub has-target : goesTo (kind c p) ≡ true → Target c p (target c p)
-  unfolding instructionAt pick
+  pub has-target : goesTo (kindAt c p) ≡ true → Target c p (targetAt c p)
+  unfolding rowOf pick
   has-target o =
       is _ (byte c p) 1 (λ e. there (jmp e)) (λ n1.
       is _ (byte c p) 2 (λ e. there (jz-jnz (omega arith, omega arith))) (λ n2.
@@ -331,5 +331,5 @@ module _ (c : List ℕ) (p : ℕ) where
       is _ (byte c p) 5 (λ e. there (calf e)) (λ n5.
       absurd-bool (sym (no-target c p n1 n2 n3 n4 n5) ∙ o))))))
     where
-      there : {t : ℕ} → Target c p t → Target c p (target c p)
+      there : {t : ℕ} → Target c p t → Target c p (targetAt c p)
       there t = subst (Target c p) (sym (target-is t .1)) t

@@ -12,7 +12,7 @@ use lib.ListN.{length}
 use Rattle.verdict.specs.Verdict.{pick, next, unless}
 use Rattle.verdict.proofs.Verdict.{absurd-bool, next-zero, unless-zero}
 use Rattle.memory.specs.Memory.{byte}
-use Rattle.code.specs.Flow.{kind, goesOn, goesTo, target, after}
+use Rattle.code.specs.Flow.{kindAt, goesOn, goesTo, targetAt, after}
 use Rattle.code.specs.declared.Profile.{Profile}
 use Rattle.code.specs.declared.Profile.the-variants.{Full}
 use Rattle.code.specs.Code.{instructionOk, instructionRefusal, laid, startFrom, isStart, allFrom, targetOk, lastFrom, ends, judgeCodeFor, judgeCode}
@@ -151,8 +151,8 @@ end-is-last c p l w h = last-is (length c) c 0 p 0 (omega arith) l w h
 pub record Sound (c : List ℕ) (p : ℕ) : Type 0 where
   pub inside : p < length c
   pub here : Whole c p
-  pub onward : goesOn (kind c p) ≡ true → isStart c (after c p) ≡ true
-  pub there : goesTo (kind c p) ≡ true → isStart c (target c p) ≡ true
+  pub onward : goesOn (kindAt c p) ≡ true → isStart c (after c p) ≡ true
+  pub there : goesTo (kindAt c p) ≡ true → isStart c (targetAt c p) ≡ true
 
 -- the three judgements of code that a profile accepts
 pub record Judged (o : Profile) (c : List ℕ) : Type 0 where
@@ -174,7 +174,7 @@ pub start-zero : (c : List ℕ) → 0 < length c → isStart c 0 ≡ true
 unfolding isStart
 start-zero c h = start-here (length c) c 0 (omega arith) h
 
-pub target-starts : (c : List ℕ) (p : ℕ) → targetOk c p ≡ true → goesTo (kind c p) ≡ true → isStart c (target c p) ≡ true
+pub target-starts : (c : List ℕ) (p : ℕ) → targetOk c p ≡ true → goesTo (kindAt c p) ≡ true → isStart c (targetAt c p) ≡ true
 unfolding targetOk pick
 target-starts c p t o = rw o at t
 
@@ -187,7 +187,7 @@ sound c p z w = record { inside = inside-code c p w; here = here; onward = onwar
     here : Whole c p
     here = whole c p (each-ok c p (j .all-laid) w)
 
-    onward : goesOn (kind c p) ≡ true → isStart c (after c p) ≡ true
+    onward : goesOn (kindAt c p) ≡ true → isStart c (after c p) ≡ true
     onward o = go (ltb (after c p) (length c)) refl
       where
         go : (t : Bool) → ltb (after c p) (length c) ≡ t → isStart c (after c p) ≡ true
@@ -198,5 +198,5 @@ sound c p z w = record { inside = inside-code c p w; here = here; onward = onwar
             let m = high c p o in
             absurd (let y : ⊥ = omega arith in y)
 
-    there : goesTo (kind c p) ≡ true → isStart c (target c p) ≡ true
+    there : goesTo (kindAt c p) ≡ true → isStart c (targetAt c p) ≡ true
     there o = target-starts c p (each-passes (targetOk c) c p (j .targets) w) o

@@ -14,8 +14,8 @@ use Rattle.memory.specs.Memory.{byte}
 use Rattle.values.specs.Types.{takes}
 use Rattle.code.specs.Commands.{lengthOf}
 use Rattle.code.specs.Instructions.{instructionAt, instructionLength}
-use Rattle.code.specs.Flow.{kind, goesTo, target, after}
-use Rattle.code.specs.Profiles.{carries}
+use Rattle.code.specs.Flow.{kindAt, goesTo, targetAt, after}
+use Rattle.code.specs.Profiles.{typesAt, carries}
 use Rattle.code.specs.declared.Profile.{Profile}
 use Rattle.code.specs.declared.Profile.the-variants.{Full}
 use Rattle.code.specs.declared.Instruction.{Instruction}
@@ -66,7 +66,7 @@ instructionOk c p =
 
 -- 6, and right after it what the profile does not carry
 unfoldable pub instructionRefusal : Profile → List ℕ → ℕ → ℕ
-instructionRefusal profile c p = next (unless (instructionOk c p) badInstruction) (unless (carries profile (instructionAt c p)) wideType)
+instructionRefusal profile c p = next (unless (instructionOk c p) badInstruction) (unless (carries profile (typesAt c p)) wideType)
 
 -- the length of an accepted instruction, 0 where it is refused
 unfoldable pub acceptedLength : List ℕ → ℕ → ℕ
@@ -101,7 +101,7 @@ allFrom test (suc k) c p = pick (ltb p (length c)) (pick (test p) (allFrom test 
 
 -- the T of the instruction at p, if it has one, is the start of an instruction
 unfoldable pub targetOk : List ℕ → ℕ → Bool
-targetOk c p = pick (goesTo (kind c p)) (isStart c (target c p)) true
+targetOk c p = pick (goesTo (kindAt c p)) (isStart c (targetAt c p)) true
 
 -- the code byte of the last instruction from p on; `code` where there is none
 unfoldable pub lastFrom : ℕ → List ℕ → ℕ → ℕ → ℕ
@@ -142,8 +142,8 @@ pub record Asked (m : List ℕ) (t : ℕ) (outside : Bool) (n : List ℕ) : Type
 
 -- the same for the T of the instruction at p, if it has one
 pub record TargetAsked (c : List ℕ) (p : ℕ) (m : List ℕ) (outside : Bool) (n : List ℕ) : Type 0 where
-  pub asked : goesTo (kind c p) ≡ true → Asked m (target c p) outside n
-  pub none : goesTo (kind c p) ≡ false → (outside ≡ false) × (n ≡ m)
+  pub asked : goesTo (kindAt c p) ≡ true → Asked m (targetAt c p) outside n
+  pub none : goesTo (kindAt c p) ≡ false → (outside ≡ false) × (n ≡ m)
 
 -- what a pass over the instructions finds: their refusal, and if there is none the map of starts, the last code byte, and the targets:
 -- all are right where none lies outside the map and none is still asked for, and only there

@@ -1,14 +1,14 @@
 -- Document 02, 2.10: what a profile of the machine carries. "Our smallest controller carries no 64-bit numbers and no floats." "Small means a data size of
 -- at most 1,024 (else 3) and no instruction naming types 7 to 10." The full profile is document 01's. In order: data; types. Not here: where 3 and 27 are
 -- judged (crate `records`; `Code`).
-use Prim.Native.Nat.{ℕ}
-use mathlib.Core.Bool.{Bool, true, not}
-use mathlib.Core.List.{List, [], _∷_}
+use Prim.Native.Nat.{ℕ, _+_}
+use mathlib.Core.Bool.{Bool, true, false, not}
+use mathlib.Core.List.{List, [], _∷_, map}
+use Rattle.memory.specs.Memory.{byte}
 use Rattle.verdict.specs.Verdict.{both, within}
+use Rattle.code.specs.Commands.{Operand, Address, CodePlace, Number, TypeByte, SizeByte, rowOf, operandsIn, placesOf}
 use Rattle.code.specs.declared.Profile.{Profile}
 use Rattle.code.specs.declared.Profile.the-variants.{Full, Small}
-use Rattle.code.specs.declared.Instruction.{Instruction}
-use Rattle.code.specs.declared.Instruction.the-variants.{Return, Jump, JumpZero, JumpNotZero, CallInstance, CallFunction, MoveConstant, CopyMemory, ReadElement, WriteElement, Typed, CycleTime, FlagByte, Convert, Pack, Unpack, Unknown}
 
 -- ---- data
 
@@ -23,31 +23,22 @@ mostData Small = 1024
 abbrev pub wide : ℕ → Bool
 wide type = within 7 10 type
 
--- the types that an instruction names: its type bytes
-abbrev pub typesOf : Instruction → List ℕ
-typesOf Return = []
-typesOf (Jump t) = []
-typesOf (JumpZero a t) = []
-typesOf (JumpNotZero a t) = []
-typesOf (CallInstance i t) = []
-typesOf (CallFunction t) = []
-typesOf (MoveConstant to n) = []
-typesOf (CopyMemory to from n) = []
-typesOf (ReadElement v a i size count) = []
-typesOf (WriteElement v a i size count) = []
-typesOf (Typed code type to a b) = type ∷ []
-typesOf (CycleTime to) = []
-typesOf (FlagByte to) = []
-typesOf (Convert from to destination source) = from ∷ to ∷ []
-typesOf (Pack type destination source) = type ∷ []
-typesOf (Unpack type destination source) = type ∷ []
-typesOf Unknown = []
+abbrev pub isType : Operand → Bool
+isType Address = false
+isType CodePlace = false
+isType Number = false
+isType TypeByte = true
+isType SizeByte = false
+
+-- the types that the instruction at p names: its type bytes
+abbrev pub typesAt : List ℕ → ℕ → List ℕ
+typesAt c p = map (λ n. byte c (p + n)) (placesOf isType 1 (operandsIn (rowOf (byte c p))))
 
 abbrev pub noneWide : List ℕ → Bool
 noneWide [] = true
 noneWide (type ∷ types) = both (not (wide type)) (noneWide types)
 
--- a profile carries an instruction
-abbrev pub carries : Profile → Instruction → Bool
-carries Full i = true
-carries Small i = noneWide (typesOf i)
+-- a profile carries an instruction that names these types
+abbrev pub carries : Profile → List ℕ → Bool
+carries Full types = true
+carries Small types = noneWide types

@@ -9,7 +9,7 @@ ghost use Rattle.memory.specs.Memory.{byte, readLE};
 ghost use Rattle.values.specs.Types.{takes};
 ghost use Rattle.code.specs.Commands.{three, lengthOf, Lengths};
 ghost use Rattle.code.specs.Instructions.{instructionAt, instructionLength, typedAt};
-ghost use Rattle.code.specs.Profiles.{wide, carries};
+ghost use Rattle.code.specs.Profiles.{wide, typesAt, carries};
 ghost use Rattle.code.specs.Code.{isWidth, elementOk, convertible, packable, operandsOk, instructionOk, acceptedLength, Sized, isStart, judgeCode, judgeCodeFor, Marked, Asked, TargetAsked, Cleared, Pass, AllMet};
 
 // "Each of the 256 code bytes has its instruction length in one table, 0 where unknown; MCD adds n."
@@ -586,7 +586,7 @@ fn is_wide(t: u8) -> bool
 // Whether the small profile carries the accepted instruction at p.
 fn is_small(code: &[u8], p: usize) -> bool
     requires { ⌜ (p < length (now code)) × (instructionOk (now code) p ≡ true) ⌝ }
-    ensures { λ r. ⌜ r ≡ carries Profile.Small (instructionAt (now (code .entry)) p) ⌝ }
+    ensures { λ r. ⌜ r ≡ carries Profile.Small (typesAt (now (code .entry)) p) ⌝ }
 {
     let b = code[p];
     if b < 16 {
@@ -606,7 +606,7 @@ fn is_small(code: &[u8], p: usize) -> bool
 
 fn is_carried(profile: Profile, code: &[u8], p: usize) -> bool
     requires { ⌜ (p < length (now code)) × (instructionOk (now code) p ≡ true) ⌝ }
-    ensures { λ r. ⌜ r ≡ carries profile (instructionAt (now (code .entry)) p) ⌝ }
+    ensures { λ r. ⌜ r ≡ carries profile (typesAt (now (code .entry)) p) ⌝ }
 {
     match profile {
         Profile::Full => true,

@@ -33,12 +33,13 @@ use Rattle.races.proofs.Footprint.{withData, by-control}
 use Rattle.races.proofs.Stretch.{splice-outside, splice-inside, read-alike, part-alike}
 use Rattle.code.specs.declared.Instruction.{Instruction}
 use Rattle.code.specs.declared.Instruction.the-variants.{Return, Jump, JumpZero, JumpNotZero, CallInstance, CallFunction, MoveConstant, CopyMemory, ReadElement, WriteElement, Typed, CycleTime, FlagByte, Convert, Pack, Unpack, Unknown}
-use Rattle.code.specs.Flow.{Kind, Returns, Jumps, Branches, Calls, Passes, kindOf, targetOf, after}
-use Rattle.code.specs.Commands.{layoutOf, lengthOf}
+use Rattle.code.specs.Flow.{kindAt, targetAt, after}
+use Rattle.code.specs.Commands.{rowOf, lengthOf, Kind, Returns, Jumps, Branches, Calls, Passes}
 use Rattle.code.specs.Code.{judgeCode, isStart}
 use Rattle.code.specs.Instructions.{instructionAt, instructionLength}
+use Rattle.code.proofs.Laws.{is, row-passes}
 use Rattle.code.proofs.Sound.{sound}
-use Rattle.processor.specs.Processor.{Decided, refused, decided, faultIf, changed, at, indexOf, elementAt, ofElement, ofConversion, dataPart, answer, controlled, meaning, executed}
+use Rattle.processor.specs.Processor.{Decided, refused, decided, faultIf, changed, at, indexOf, elementAt, ofElement, ofConversion, dataPart, answer, controlled, executed}
 use Rattle.operands.specs.Operands.{touching, operandsOf, unlessFault, dataFootprint, dataFootprints}
 
 -- ---- the data part
@@ -203,25 +204,16 @@ WritesNone Branches ws = ws ≡ []
 WritesNone Calls ws = ws ≡ []
 WritesNone Passes ws = Unit {0}
 
-writes-none : (i : Instruction) (c : List ℕ) (r : Registers) (d : List ℕ) → WritesNone (kindOf i) (operandsOf i c r d .writes)
-unfolding operandsOf
-writes-none Return c r d = refl
-writes-none (Jump t) c r d = refl
-writes-none (JumpZero a t) c r d = refl
-writes-none (JumpNotZero a t) c r d = refl
-writes-none (CallInstance i t) c r d = refl
-writes-none (CallFunction t) c r d = refl
-writes-none (MoveConstant to n) c r d = tt
-writes-none (CopyMemory to from n) c r d = tt
-writes-none (ReadElement v a i size count) c r d = tt
-writes-none (WriteElement v a i size count) c r d = tt
-writes-none (Typed code t to a b) c r d = tt
-writes-none (CycleTime to) c r d = tt
-writes-none (FlagByte to) c r d = tt
-writes-none (Convert from to destination source) c r d = tt
-writes-none (Pack type destination source) c r d = tt
-writes-none (Unpack type destination source) c r d = tt
-writes-none Unknown c r d = tt
+writes-none : (c : List ℕ) (p : ℕ) (r : Registers) (d : List ℕ) → WritesNone (kindAt c p) (operandsOf (instructionAt c p) c r d .writes)
+unfolding operandsOf instructionAt rowOf pick
+writes-none c p r d =
+    is _ (byte c p) 0 (λ e. rw e refl)
+    (λ n0. is _ (byte c p) 1 (λ e. rw e refl)
+    (λ n1. is _ (byte c p) 2 (λ e. rw e refl)
+    (λ n2. is _ (byte c p) 3 (λ e. rw e refl)
+    (λ n3. is _ (byte c p) 4 (λ e. rw e refl)
+    (λ n4. is _ (byte c p) 5 (λ e. rw e refl)
+    (λ n5. rw (row-passes (byte c p) (omega arith)) tt))))))
 
 module _ (d d′ ws : List ℕ) where
   answers-same : (o : Outcome) → ws ≡ [] → Answers d d′ ws (answer o d) (answer o d′)
@@ -313,12 +305,12 @@ module _ (limit : ℕ) (c : List ℕ) (x : Core) where
 
   module _ (d′ : List ℕ) (size : length (x .memory) ≡ length d′) (a : (i : ℕ) → In i (its .reads) → getD (x .memory) i 0 ≡ getD d′ i 0) where
     executes : Answers (x .memory) d′ (its .writes) (limited limit (executed c (x .registers) (x .memory)) x) (limited limit (executed c (x .registers) d′) (other x d′ size))
-    unfolding limited executed meaning
+    unfolding limited executed
     executes =
         let i = instructionAt c (x .registers .counter) in
         picks (x .memory) d′ (its .writes) (eqb (x .registers .count) limit) _ _ _ _ (halts 1)
-        (controls (x .memory) d′ (its .writes) (kindOf i) (after c (x .registers .counter)) (targetOf i) (x .registers .depth) _ _
-        (writes-none i c (x .registers) (x .memory)) (decides c (x .registers) (x .memory) d′ size i a))
+        (controls (x .memory) d′ (its .writes) (kindAt c (x .registers .counter)) (after c (x .registers .counter)) (targetAt c (x .registers .counter)) (x .registers .depth) _ _
+        (writes-none c (x .registers .counter) (x .registers) (x .memory)) (decides c (x .registers) (x .memory) d′ size i a))
 
 -- core x after it
 afterwards : ℕ → List ℕ → Core → Core
@@ -363,7 +355,7 @@ module _ (limit : ℕ) (c : List ℕ) (x : Core) where
 -- ---- MCD: accepted code has all of its n bytes
 
 pub constant-whole : (c : List ℕ) (p : ℕ) → judgeCode c ≡ 0 → isStart c p ≡ true → byte c p ≡ 6 → length (part c (p + 4) (byte c (p + 3))) ≡ byte c (p + 3)
-unfolding instructionLength lengthOf layoutOf pick
+unfolding instructionLength lengthOf rowOf pick
 constant-whole c p j w e =
     let l : p + (4 + byte c (p + 3)) ≤ length c = rw e at (sound c p j w .here .inside) in
     length-part c (p + 4) (byte c (p + 3)) (omega arith)

@@ -8,8 +8,8 @@ use Rattle.protocol.specs.State.{Core, cleared}
 use Rattle.operands.specs.Operands.{touching, dataFootprint}
 
 -- a core in mode 2, all other registers 0, with this data; and one inside a call, whose data offset is 10
-abbrev pub executing : List ℕ → Core
-executing d = record { registers = cleared 2 0; stack = record { places = replicate 16 0; offsets = replicate 16 0 }; memory = d }
+abbrev pub coreWith : List ℕ → Core
+coreWith d = record { registers = cleared executing 0; stack = record { places = replicate 16 0; offsets = replicate 16 0 }; memory = d }
 
 abbrev pub calledAt10 : List ℕ → Core
 calledAt10 d = record {
@@ -37,6 +37,6 @@ pub record Examples : Type 0 where
   -- with one byte of data less, the result is beyond the data: a fault, which writes nothing
   pub beyond-data : dataFootprint 100 addition (calledAt10 (replicate 17 0)) ≡ touching (12 ∷ 13 ∷ 14 ∷ 15 ∷ []) []
   -- the index, and of the array element 3 alone, from 8 + 3 * 2 on
-  pub chosen : dataFootprint 100 element (executing (withIndex 3)) ≡ touching (2 ∷ 3 ∷ 14 ∷ 15 ∷ []) (0 ∷ 1 ∷ [])
+  pub chosen : dataFootprint 100 element (coreWith (withIndex 3)) ≡ touching (2 ∷ 3 ∷ 14 ∷ 15 ∷ []) (0 ∷ 1 ∷ [])
   -- there is no element 4: a fault, which writes nothing
-  pub index-fault : dataFootprint 100 element (executing (withIndex 4)) ≡ touching (2 ∷ 3 ∷ 16 ∷ 17 ∷ []) []
+  pub index-fault : dataFootprint 100 element (coreWith (withIndex 4)) ≡ touching (2 ∷ 3 ∷ 16 ∷ 17 ∷ []) []

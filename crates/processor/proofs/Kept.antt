@@ -33,11 +33,12 @@ use Rattle.protocol.specs.Laws.{Laws}
 use Rattle.protocol.proofs.Instance.{obeys}
 use Rattle.code.specs.declared.Instruction.{Instruction}
 use Rattle.code.specs.declared.Instruction.the-variants.{Return, Jump, JumpZero, JumpNotZero, CallInstance, CallFunction, MoveConstant, CopyMemory, ReadElement, WriteElement, Typed, CycleTime, FlagByte, Convert, Pack, Unpack, Unknown}
-use Rattle.code.specs.Flow.{Kind, Returns, Jumps, Branches, Calls, Passes, goesOn, goesTo, kind, target, after}
+use Rattle.code.specs.Commands.{Kind, Returns, Jumps, Branches, Calls, Passes}
+use Rattle.code.specs.Flow.{goesOn, goesTo, kindAt, targetAt, after}
 use Rattle.code.specs.Code.{judgeCode, isStart}
 use Rattle.code.specs.Instructions.{instructionAt}
 use Rattle.code.proofs.Sound.{sound, inside-code, start-zero}
-use Rattle.processor.specs.Processor.{Decided, refused, decided, faultIf, changed, at, ofElement, endedBy, ofConversion, dataPart, answer, controlled, meaning, executed}
+use Rattle.processor.specs.Processor.{Decided, refused, decided, faultIf, changed, at, ofElement, endedBy, ofConversion, dataPart, answer, controlled, executed}
 use Rattle.processor.specs.Placed.{Placed, Leads}
 
 -- ---- the answers of the data part
@@ -127,20 +128,20 @@ module _ (r : Registers) (d : List ℕ) where
 
 -- ---- the data's length
 
-controlled-length : (k : Kind) (next target depth : ℕ) (d : List ℕ) (x : Decided) → Keeps d x → length (controlled k next target depth d x .memory) ≡ length d
-controlled-length Returns next target depth d x h = refl
-controlled-length Jumps next target depth d x h = refl
-controlled-length Branches next target depth d (refused b) h = refl
-controlled-length Branches next target depth d (decided made offset m) h = refl
-controlled-length Calls next target depth d (refused b) h = by-pick (λ (y : Executed). length (y .memory) ≡ length d) (eqb depth 16) (halted 5 d) (halted b d) (λ e. refl) (λ e. refl)
-controlled-length Calls next target depth d (decided made offset m) h =
-    by-pick (λ (y : Executed). length (y .memory) ≡ length d) (eqb depth 16) (halted 5 d) (answer (Call next target offset) d) (λ e. refl) (λ e. refl)
-controlled-length Passes next target depth d (refused b) h = refl
-controlled-length Passes next target depth d (decided made offset m) h = h
+controlled-length : (k : Kind) (next targetAt depth : ℕ) (d : List ℕ) (x : Decided) → Keeps d x → length (controlled k next targetAt depth d x .memory) ≡ length d
+controlled-length Returns next targetAt depth d x h = refl
+controlled-length Jumps next targetAt depth d x h = refl
+controlled-length Branches next targetAt depth d (refused b) h = refl
+controlled-length Branches next targetAt depth d (decided made offset m) h = refl
+controlled-length Calls next targetAt depth d (refused b) h = by-pick (λ (y : Executed). length (y .memory) ≡ length d) (eqb depth 16) (halted 5 d) (halted b d) (λ e. refl) (λ e. refl)
+controlled-length Calls next targetAt depth d (decided made offset m) h =
+    by-pick (λ (y : Executed). length (y .memory) ≡ length d) (eqb depth 16) (halted 5 d) (answer (Call next targetAt offset) d) (λ e. refl) (λ e. refl)
+controlled-length Passes next targetAt depth d (refused b) h = refl
+controlled-length Passes next targetAt depth d (decided made offset m) h = h
 
 pub executed-length : (c : List ℕ) (r : Registers) (d : List ℕ) → length (executed c r d .memory) ≡ length d
-unfolding executed meaning
-executed-length c r d = controlled-length (kind c (r .counter)) _ _ _ d _ (data-answers r d (instructionAt c (r .counter)) c .keeps)
+unfolding executed
+executed-length c r d = controlled-length (kindAt c (r .counter)) _ _ _ d _ (data-answers r d (instructionAt c (r .counter)) c .keeps)
 
 -- the laws of a task whose instructions are those of its cores' code
 pub instruction-laws : (t : Task) (code : ℕ → List ℕ)
@@ -159,32 +160,32 @@ module _ (c : List ℕ) (r : Registers) (d : List ℕ) (offset : r .offset < len
   To : Executed → Type 0
   To y = Leads c (length d) (r .depth) (y .outcome)
 
-  controlled-leads : (k : Kind) (next target : ℕ) (x : Decided) → Answers r d x → (goesOn k ≡ true → isStart c next ≡ true)
-      → (goesTo k ≡ true → isStart c target ≡ true) → Leads c (length d) (r .depth) (controlled k next target (r .depth) d x .outcome)
+  controlled-leads : (k : Kind) (next targetAt : ℕ) (x : Decided) → Answers r d x → (goesOn k ≡ true → isStart c next ≡ true)
+      → (goesTo k ≡ true → isStart c targetAt ≡ true) → Leads c (length d) (r .depth) (controlled k next targetAt (r .depth) d x .outcome)
   unfolding To
-  controlled-leads Returns next target x a on to = tt
-  controlled-leads Jumps next target x a on to = to refl
-  controlled-leads Branches next target (refused b) a on to = fault-bit (a .faults)
-  controlled-leads Branches next target (decided made o m) a on to =
-      by-pick (λ (p : ℕ). isStart c p ≡ true) made target next (λ e. to refl) (λ e. on refl)
-  controlled-leads Calls next target (refused b) a on to =
+  controlled-leads Returns next targetAt x a on to = tt
+  controlled-leads Jumps next targetAt x a on to = to refl
+  controlled-leads Branches next targetAt (refused b) a on to = fault-bit (a .faults)
+  controlled-leads Branches next targetAt (decided made o m) a on to =
+      by-pick (λ (p : ℕ). isStart c p ≡ true) made targetAt next (λ e. to refl) (λ e. on refl)
+  controlled-leads Calls next targetAt (refused b) a on to =
       by-pick To (eqb (r .depth) 16) (halted 5 d) (halted b d) (λ e. omega arith) (λ e. fault-bit (a .faults))
-  controlled-leads Calls next target (decided made o m) a on to =
-      by-pick To (eqb (r .depth) 16) (halted 5 d) (answer (Call next target o) d) (λ e. omega arith)
+  controlled-leads Calls next targetAt (decided made o m) a on to =
+      by-pick To (eqb (r .depth) 16) (halted 5 d) (answer (Call next targetAt o) d) (λ e. omega arith)
       (λ e. (on refl, to refl, a .inside offset, below e))
     where
       below : eqb (r .depth) 16 ≡ false → r .depth < 16
       below e =
           let n : (r .depth ≡ 16 → ⊥) = eqb-false (r .depth) 16 e in
           omega arith
-  controlled-leads Passes next target (refused b) a on to = fault-bit (a .faults)
-  controlled-leads Passes next target (decided made o m) a on to = on refl
+  controlled-leads Passes next targetAt (refused b) a on to = fault-bit (a .faults)
+  controlled-leads Passes next targetAt (decided made o m) a on to = on refl
 
   pub executed-leads : judgeCode c ≡ 0 → isStart c (r .counter) ≡ true → Leads c (length d) (r .depth) (executed c r d .outcome)
-  unfolding executed meaning
+  unfolding executed
   executed-leads z w =
       let s = sound c (r .counter) z w in
-      controlled-leads (kind c (r .counter)) (after c (r .counter)) (target c (r .counter)) _ (data-answers r d (instructionAt c (r .counter)) c) (s .onward) (s .there)
+      controlled-leads (kindAt c (r .counter)) (after c (r .counter)) (targetAt c (r .counter)) _ (data-answers r d (instructionAt c (r .counter)) c) (s .onward) (s .there)
 
 -- ---- a core stays inside its code and its data
 
@@ -246,10 +247,10 @@ module _ (c : List ℕ) (size : ℕ) (k : Stack) where
     sixteen = p .sixteen;
   }
 
-  called-placed : (r : Registers) (next target offset : ℕ) → Placed c size r k → isStart c next ≡ true → isStart c target ≡ true → offset < size
-      → r .depth < 16 → Placed c size (calledTo target offset r) (pushed (r .depth) next (r .offset) k)
+  called-placed : (r : Registers) (next targetAt offset : ℕ) → Placed c size r k → isStart c next ≡ true → isStart c targetAt ≡ true → offset < size
+      → r .depth < 16 → Placed c size (calledTo targetAt offset r) (pushed (r .depth) next (r .offset) k)
   unfolding calledTo pushed
-  called-placed r next target offset p e f g h = record {
+  called-placed r next targetAt offset p e f g h = record {
     counter = f;
     offset = g;
     depth = omega arith;
@@ -293,8 +294,8 @@ applied-placed : (c : List ℕ) (x : Core) (o : Outcome) (m : List ℕ) → Plac
 unfolding faulted
 applied-placed c x (Fault b) m p e l = placed-same c _ _ (x .registers) (faulted b (x .registers)) p refl refl refl
 applied-placed c x (Next place) m p e l = rw e (advanced-placed c _ (x .stack) (x .registers) place p l)
-applied-placed c x (Call next target offset) m p e l =
-    rw e (called-placed c _ (x .stack) (x .registers) next target offset p (l .0) (l .1) (l .2) (l .3))
+applied-placed c x (Call next targetAt offset) m p e l =
+    rw e (called-placed c _ (x .stack) (x .registers) next targetAt offset p (l .0) (l .1) (l .2) (l .3))
 applied-placed c x Returned m p e l = back-placed c x m (x .registers .depth) p e refl
 
 back-size : (n : ℕ) (m : List ℕ) (x : Core) → length m ≡ length (x .memory) → length (backFrom n m x .memory) ≡ length (x .memory)
@@ -304,7 +305,7 @@ back-size (suc n) m x e = e
 applied-size : (o : Outcome) (m : List ℕ) (x : Core) → length m ≡ length (x .memory) → length (appliedBy o m x .memory) ≡ length (x .memory)
 applied-size (Fault b) m x e = refl
 applied-size (Next place) m x e = e
-applied-size (Call next target offset) m x e = e
+applied-size (Call next targetAt offset) m x e = e
 applied-size Returned m x e = back-size (x .registers .depth) m x e
 
 -- what an instruction answers under the limit

@@ -21,7 +21,8 @@ use Rattle.protocol.specs.Instruction.{Executed, halted}
 use Rattle.code.specs.declared.Instruction.{Instruction}
 use Rattle.code.specs.declared.Instruction.the-variants.{Return, Jump, JumpZero, JumpNotZero, CallInstance, CallFunction, MoveConstant, CopyMemory, ReadElement, WriteElement, Typed, CycleTime, FlagByte, Convert, Pack, Unpack, Unknown}
 use Rattle.code.specs.Instructions.{instructionAt}
-use Rattle.code.specs.Flow.{Kind, Returns, Jumps, Branches, Calls, Passes, kindOf, targetOf, after}
+use Rattle.code.specs.Commands.{Kind, Returns, Jumps, Branches, Calls, Passes}
+use Rattle.code.specs.Flow.{kindAt, targetAt, after}
 
 -- ---- addresses
 
@@ -128,10 +129,7 @@ controlled Passes next target depth d x = passed next d x
 
 -- ---- one instruction
 
--- the instruction i, which ends before the place `next` of the code c
-unfoldable pub meaning : Instruction → ℕ → List ℕ → Registers → List ℕ → Executed
-meaning i next c r d = controlled (kindOf i) next (targetOf i) (r .depth) d (dataPart i c r d)
-
 -- the instruction at the program counter
 unfoldable pub executed : List ℕ → Registers → List ℕ → Executed
-executed c r d = meaning (instructionAt c (r .counter)) (after c (r .counter)) c r d
+executed c r d =
+    controlled (kindAt c (r .counter)) (after c (r .counter)) (targetAt c (r .counter)) (r .depth) d (dataPart (instructionAt c (r .counter)) c r d)

@@ -12,10 +12,11 @@ use Rattle.protocol.specs.declared.Registers.{Registers}
 use Rattle.protocol.specs.declared.Outcome.the-variants.{Call}
 use Rattle.protocol.specs.State.{Core}
 use Rattle.protocol.specs.Instruction.{Executed, halted, instructionBy}
-use Rattle.code.specs.Flow.{Kind, Returns, Jumps, Branches, Calls, Passes, kindOf}
+use Rattle.code.specs.Commands.{Kind, Returns, Jumps, Branches, Calls, Passes}
+use Rattle.code.specs.Flow.{kindAt}
 use Rattle.code.specs.Instructions.{instructionAt}
 use Rattle.processor.specs.Placed.{Placed}
-use Rattle.processor.specs.Processor.{Decided, refused, decided, answer, controlled, meaning, executed}
+use Rattle.processor.specs.Processor.{Decided, refused, decided, answer, controlled, executed}
 use Rattle.processor.proofs.Kept.{DataFault, data-faults, instruction-laws, placed-kept}
 use Rattle.records.specs.File.{cores, dataSize, limit}
 use Rattle.taskset.specs.Judge.{codeOf}
@@ -46,8 +47,8 @@ controlled-bits Passes next target depth d (refused b) h = fault-lawful (h b ref
 controlled-bits Passes next target depth d (decided made offset m) h = tt
 
 executed-bits : (c : List ℕ) (r : Registers) (d : List ℕ) → Bits (executed c r d .outcome)
-unfolding executed meaning
-executed-bits c r d = controlled-bits (kindOf (instructionAt c (r .counter))) _ _ _ d _ (data-faults r d (instructionAt c (r .counter)) c)
+unfolding executed
+executed-bits c r d = controlled-bits (kindAt c (r .counter)) _ _ _ d _ (data-faults r d (instructionAt c (r .counter)) c)
 
 -- ---- the three facts
 

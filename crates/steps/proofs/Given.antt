@@ -30,11 +30,11 @@ use Rattle.exchange.specs.Laid.{exchangeBytes}
 use Rattle.exchange.proofs.Moves.{left-more, left-last, left-none}
 use Rattle.exchange.proofs.Cursors.{length-reads, length-writes}
 use Rattle.exchange.proofs.Records.{bytes-few}
-use Rattle.code.specs.Flow.{Kind, Returns as Ends, Jumps, Branches, Calls as Enters, Passes, kindOf}
-use Rattle.code.specs.Instructions.{instructionAt}
+use Rattle.code.specs.Commands.{Kind, Returns as Ends, Jumps, Branches, Calls as Enters, Passes}
+use Rattle.code.specs.Flow.{kindAt}
 use Rattle.processor.specs.Executable.{Executable}
 use Rattle.processor.specs.Placed.{Leads}
-use Rattle.processor.specs.Processor.{Decided, refused, decided, answer, controlled, meaning, executed}
+use Rattle.processor.specs.Processor.{Decided, refused, decided, answer, controlled, executed}
 use Rattle.processor.proofs.Kept.{executed-leads}
 use Rattle.states.specs.declared.CoreTask.{CoreTask}
 use Rattle.states.specs.Task.{taskOf}
@@ -72,8 +72,8 @@ controlled-leaves Passes next target depth d (refused b) = refl
 controlled-leaves Passes next target depth d (decided made offset m) = tt
 
 executed-leaves : (c : List ℕ) (r : Registers) (d : List ℕ) → Leaves (executed c r d .outcome) (executed c r d .memory) d
-unfolding executed meaning
-executed-leaves c r d = controlled-leaves (kindOf (instructionAt c (r .counter))) _ _ _ d _
+unfolding executed
+executed-leaves c r d = controlled-leaves (kindAt c (r .counter)) _ _ _ d _
 
 -- the registers can take what an instruction answers
 back-takes : (r : Registers) (n : ℕ) → r .depth ≡ n → r .count < 65535 → r .depth ≤ 16 → Takes r (backAt n)

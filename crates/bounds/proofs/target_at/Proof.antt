@@ -2,7 +2,7 @@
 use mathlib.Core.Path.{sym}
 use native.Mathlib.Omega.{arith}
 use Rattle.verdict.specs.Verdict.{pick}
-use Rattle.code.specs.Commands.{layoutOf, lengthOf}
+use Rattle.code.specs.Commands.{rowOf, lengthOf}
 use Rattle.code.specs.Instructions.{instructionAt}
 use Rattle.code.proofs.Laws.{length-at}
 use Rattle.bounds.proofs.Bytes.{no-target-byte}
@@ -17,7 +17,7 @@ add-word : tie.Need-add-word
 add-word c = search needs
 
 word-requires : tie.Need-word-requires
-unfolding lengthOf layoutOf pick
+unfolding lengthOf rowOf pick
 word-requires c κs = omega (arith, length-at _ (c .match .keys1))
 
 cast-result : tie.Need-cast-result
@@ -27,7 +27,7 @@ add-word-2 : tie.Need-add-word-2
 add-word-2 c = search needs
 
 word-requires-2 : tie.Need-word-requires-2
-unfolding lengthOf layoutOf pick
+unfolding lengthOf rowOf pick
 word-requires-2 c κs = omega (arith, length-at _ (c .match .keys2))
 
 cast-result-2 : tie.Need-cast-result-2
@@ -37,7 +37,7 @@ add-word-3 : tie.Need-add-word-3
 add-word-3 c = search needs
 
 word-requires-3 : tie.Need-word-requires-3
-unfolding lengthOf layoutOf pick
+unfolding lengthOf rowOf pick
 word-requires-3 c κs = omega (arith, length-at _ (c .match .keys3))
 
 cast-result-3 : tie.Need-cast-result-3
@@ -47,7 +47,7 @@ add-word-4 : tie.Need-add-word-4
 add-word-4 c = search needs
 
 word-requires-4 : tie.Need-word-requires-4
-unfolding lengthOf layoutOf pick
+unfolding lengthOf rowOf pick
 word-requires-4 c κs = omega (arith, length-at _ (c .match .keys4))
 
 cast-result-4 : tie.Need-cast-result-4
@@ -57,7 +57,7 @@ add-word-5 : tie.Need-add-word-5
 add-word-5 c = search needs
 
 word-requires-5 : tie.Need-word-requires-5
-unfolding lengthOf layoutOf pick
+unfolding lengthOf rowOf pick
 word-requires-5 c κs = omega (arith, length-at _ (c .match .keys5))
 
 cast-result-5 : tie.Need-cast-result-5

@@ -6,7 +6,7 @@ use borrow.Author.Needs.{needs}
 use Rattle.verdict.specs.Verdict.{pick}
 use Rattle.memory.specs.Memory.{byte}
 use Rattle.values.specs.Types.{takes}
-use Rattle.code.specs.Commands.{layoutOf, lengthOf}
+use Rattle.code.specs.Commands.{rowOf, lengthOf}
 use Rattle.code.specs.Instructions.{typedAt, instructionAt, instructionLength}
 use Rattle.code.specs.Code.{operandsOk}
 use Rattle.code.proofs.Laws.{typed-left, typed-takes, typed-sized}
@@ -17,66 +17,66 @@ shared-slice-read-b : tie.Need-shared-slice-read-b
 shared-slice-read-b c = search needs
 
 plain-length-requires : tie.Need-plain-length-requires
-unfolding instructionLength instructionAt typedAt lengthOf layoutOf pick
+unfolding instructionLength instructionAt typedAt lengthOf rowOf pick
 plain-length-requires c κs = (c .before .before .before .pre, omega arith, record { own = λ _. rw (c .match .keys1); all = λ _. rw (c .match .keys1) }, rw (c .match .keys1))
 
 plain-length-requires-2 : tie.Need-plain-length-requires-2
-unfolding instructionLength instructionAt typedAt lengthOf layoutOf pick
+unfolding instructionLength instructionAt typedAt lengthOf rowOf pick
 plain-length-requires-2 c κs = (c .before .before .before .pre, omega arith, record { own = λ _. rw (c .match .keys2); all = λ _. rw (c .match .keys2) }, rw (c .match .keys2))
 
 plain-length-requires-3 : tie.Need-plain-length-requires-3
-unfolding instructionLength instructionAt typedAt lengthOf layoutOf pick
+unfolding instructionLength instructionAt typedAt lengthOf rowOf pick
 plain-length-requires-3 c κs = (c .before .before .before .pre, omega arith, record { own = λ _. rw (c .match .keys3); all = λ _. rw (c .match .keys3) }, rw (c .match .keys3))
 
 plain-length-requires-4 : tie.Need-plain-length-requires-4
-unfolding instructionLength instructionAt typedAt lengthOf layoutOf pick
+unfolding instructionLength instructionAt typedAt lengthOf rowOf pick
 plain-length-requires-4 c κs = (c .before .before .before .pre, omega arith, record { own = λ _. rw (c .match .keys4); all = λ _. rw (c .match .keys4) }, rw (c .match .keys4))
 
 plain-length-requires-5 : tie.Need-plain-length-requires-5
-unfolding instructionLength instructionAt typedAt lengthOf layoutOf pick
+unfolding instructionLength instructionAt typedAt lengthOf rowOf pick
 plain-length-requires-5 c κs = (c .before .before .before .pre, omega arith, record { own = λ _. rw (c .match .keys5); all = λ _. rw (c .match .keys5) }, rw (c .match .keys5))
 
 plain-length-requires-6 : tie.Need-plain-length-requires-6
-unfolding instructionLength instructionAt typedAt lengthOf layoutOf pick
+unfolding instructionLength instructionAt typedAt lengthOf rowOf pick
 plain-length-requires-6 c κs = (c .before .before .before .pre, omega arith, record { own = λ _. rw (c .match .keys6); all = λ _. rw (c .match .keys6) }, rw (c .match .keys6))
 
 constant-length-requires : tie.Need-constant-length-requires
 constant-length-requires c κs = search needs
 
 plain-length-requires-7 : tie.Need-plain-length-requires-7
-unfolding instructionLength instructionAt typedAt lengthOf layoutOf pick
+unfolding instructionLength instructionAt typedAt lengthOf rowOf pick
 plain-length-requires-7 c κs = (c .before .before .before .pre, omega arith, record { own = λ _. rw (c .match .keys8); all = λ _. rw (c .match .keys8) }, rw (c .match .keys8))
 
 element-length-requires : tie.Need-element-length-requires
-unfolding instructionLength instructionAt typedAt lengthOf layoutOf pick
+unfolding instructionLength instructionAt typedAt lengthOf rowOf pick
 element-length-requires c κs = (c .before .before .before .pre, record { own = λ _. rw (c .match .keys9); all = λ _. rw (c .match .keys9) }, rw (c .match .keys9))
 
 element-length-requires-2 : tie.Need-element-length-requires-2
-unfolding instructionLength instructionAt typedAt lengthOf layoutOf pick
+unfolding instructionLength instructionAt typedAt lengthOf rowOf pick
 element-length-requires-2 c κs = (c .before .before .before .pre, record { own = λ _. rw (c .match .keys10); all = λ _. rw (c .match .keys10) }, rw (c .match .keys10))
 
 typed-length-requires : tie.Need-typed-length-requires
-unfolding instructionLength instructionAt typedAt lengthOf layoutOf pick
+unfolding instructionLength instructionAt typedAt lengthOf rowOf pick
 typed-length-requires c κs = (c .before .before .before .pre, omega arith, record { own = λ _. rw (c .match .keys11); all = λ _. rw (c .match .keys11) }, rw (c .match .keys11))
 
 plain-length-requires-8 : tie.Need-plain-length-requires-8
-unfolding instructionLength instructionAt typedAt lengthOf layoutOf pick
+unfolding instructionLength instructionAt typedAt lengthOf rowOf pick
 plain-length-requires-8 c κs = (c .before .before .before .pre, omega arith, record { own = λ _. rw (c .match .keys12); all = λ _. rw (c .match .keys12) }, rw (c .match .keys12))
 
 plain-length-requires-9 : tie.Need-plain-length-requires-9
-unfolding instructionLength instructionAt typedAt lengthOf layoutOf pick
+unfolding instructionLength instructionAt typedAt lengthOf rowOf pick
 plain-length-requires-9 c κs = (c .before .before .before .pre, omega arith, record { own = λ _. rw (c .match .keys13); all = λ _. rw (c .match .keys13) }, rw (c .match .keys13))
 
 conversion-length-requires : tie.Need-conversion-length-requires
-unfolding instructionLength instructionAt typedAt lengthOf layoutOf pick
+unfolding instructionLength instructionAt typedAt lengthOf rowOf pick
 conversion-length-requires c κs = (c .before .before .before .pre, record { own = λ _. rw (c .match .keys14); all = λ _. rw (c .match .keys14) }, rw (c .match .keys14))
 
 packed-length-requires : tie.Need-packed-length-requires
-unfolding instructionLength instructionAt typedAt lengthOf layoutOf pick
+unfolding instructionLength instructionAt typedAt lengthOf rowOf pick
 packed-length-requires c κs = (c .before .before .before .pre, record { own = λ _. rw (c .match .keys15); all = λ _. rw (c .match .keys15) }, rw (c .match .keys15))
 
 packed-length-requires-2 : tie.Need-packed-length-requires-2
-unfolding instructionLength instructionAt typedAt lengthOf layoutOf pick
+unfolding instructionLength instructionAt typedAt lengthOf rowOf pick
 packed-length-requires-2 c κs = (c .before .before .before .pre, record { own = λ _. rw (c .match .keys16); all = λ _. rw (c .match .keys16) }, rw (c .match .keys16))
 
 typed-length-requires-2 : tie.Need-typed-length-requires-2

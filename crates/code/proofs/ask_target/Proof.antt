@@ -3,7 +3,7 @@ use mathlib.Core.Path.{sym}
 use native.Mathlib.Omega.{arith}
 use borrow.Author.Needs.{needs}
 use Rattle.verdict.specs.Verdict.{pick}
-use Rattle.code.specs.Commands.{layoutOf, lengthOf}
+use Rattle.code.specs.Commands.{rowOf, lengthOf}
 use Rattle.code.specs.Instructions.{instructionAt}
 use Rattle.code.proofs.Laws.{length-at, no-target}
 use Rattle.code.proofs.Laying.{target-asked, target-none}
@@ -17,7 +17,7 @@ add-word : tie.Need-add-word
 add-word c = search needs
 
 word-requires : tie.Need-word-requires
-unfolding lengthOf layoutOf pick
+unfolding lengthOf rowOf pick
 word-requires c κs = omega (arith, length-at _ (c .before .match .keys1))
 
 ask-requires : tie.Need-ask-requires
@@ -27,7 +27,7 @@ add-word-2 : tie.Need-add-word-2
 add-word-2 c = search needs
 
 word-requires-2 : tie.Need-word-requires-2
-unfolding lengthOf layoutOf pick
+unfolding lengthOf rowOf pick
 word-requires-2 c κs = omega (arith, length-at _ (c .before .match .keys2))
 
 ask-requires-2 : tie.Need-ask-requires-2
@@ -37,7 +37,7 @@ add-word-3 : tie.Need-add-word-3
 add-word-3 c = search needs
 
 word-requires-3 : tie.Need-word-requires-3
-unfolding lengthOf layoutOf pick
+unfolding lengthOf rowOf pick
 word-requires-3 c κs = omega (arith, length-at _ (c .before .match .keys3))
 
 ask-requires-3 : tie.Need-ask-requires-3
@@ -47,7 +47,7 @@ add-word-4 : tie.Need-add-word-4
 add-word-4 c = search needs
 
 word-requires-4 : tie.Need-word-requires-4
-unfolding lengthOf layoutOf pick
+unfolding lengthOf rowOf pick
 word-requires-4 c κs = omega (arith, length-at _ (c .before .match .keys4))
 
 ask-requires-4 : tie.Need-ask-requires-4
@@ -57,7 +57,7 @@ add-word-5 : tie.Need-add-word-5
 add-word-5 c = search needs
 
 word-requires-5 : tie.Need-word-requires-5
-unfolding lengthOf layoutOf pick
+unfolding lengthOf rowOf pick
 word-requires-5 c κs = omega (arith, length-at _ (c .before .match .keys5))
 
 ask-requires-5 : tie.Need-ask-requires-5
@@ -67,39 +67,39 @@ same-length : tie.Need-same-length
 same-length c = search needs
 
 returns : tie.Need-returns
-unfolding instructionAt pick
+unfolding rowOf pick
 returns c = target-asked _ _ _ _ _ _ (rw (c .before .before .before .before .before .match .keys1) (sym (c .before .before .before .word .ensures))) (rw (c .before .before .before .before .before .match .keys1)) (c .before .before .ask .ensures)
 
 same-length-2 : tie.Need-same-length-2
 same-length-2 c = search needs
 
 returns-2 : tie.Need-returns-2
-unfolding instructionAt pick
+unfolding rowOf pick
 returns-2 c = target-asked _ _ _ _ _ _ (rw (c .before .before .before .before .before .match .keys2) (sym (c .before .before .before .word2 .ensures))) (rw (c .before .before .before .before .before .match .keys2)) (c .before .before .ask2 .ensures)
 
 same-length-3 : tie.Need-same-length-3
 same-length-3 c = search needs
 
 returns-3 : tie.Need-returns-3
-unfolding instructionAt pick
+unfolding rowOf pick
 returns-3 c = target-asked _ _ _ _ _ _ (rw (c .before .before .before .before .before .match .keys3) (sym (c .before .before .before .word3 .ensures))) (rw (c .before .before .before .before .before .match .keys3)) (c .before .before .ask3 .ensures)
 
 same-length-4 : tie.Need-same-length-4
 same-length-4 c = search needs
 
 returns-4 : tie.Need-returns-4
-unfolding instructionAt pick
+unfolding rowOf pick
 returns-4 c = target-asked _ _ _ _ _ _ (rw (c .before .before .before .before .before .match .keys4) (sym (c .before .before .before .word4 .ensures))) (rw (c .before .before .before .before .before .match .keys4)) (c .before .before .ask4 .ensures)
 
 same-length-5 : tie.Need-same-length-5
 same-length-5 c = search needs
 
 returns-5 : tie.Need-returns-5
-unfolding instructionAt pick
+unfolding rowOf pick
 returns-5 c = target-asked _ _ _ _ _ _ (rw (c .before .before .before .before .before .match .keys5) (sym (c .before .before .before .word5 .ensures))) (rw (c .before .before .before .before .before .match .keys5)) (c .before .before .ask5 .ensures)
 
 returns-6 : tie.Need-returns-6
-returns-6 c = let n = c .match .rest in target-none _ _ _ (no-target _ _ (n .0 .0 .0 .0 .1) (n .0 .0 .0 .1) (n .0 .0 .1) (n .0 .1) (n .1))
+returns-6 c = let n = c .match .rest in target-none _ _ _ (no-target (c .before .before .before .before .args .code .now) (c .before .before .before .before .args .p) (n .0 .0 .0 .0 .1) (n .0 .0 .0 .1) (n .0 .0 .1) (n .0 .1) (n .1))
 
 pub ask-target-spec : {M : Type 1} → statement M
 ask-target-spec =

@@ -4,7 +4,7 @@ use mathlib.Core.Logic.{inl, inr}
 use native.Mathlib.Omega.{arith}
 use borrow.Author.Needs.{needs}
 use Rattle.verdict.specs.Verdict.{pick}
-use Rattle.code.specs.Commands.{lengthOf, layoutOf}
+use Rattle.code.specs.Commands.{lengthOf, rowOf}
 use Rattle.processor.proofs.Accepted.{inside-code, stands, stands-report, stands-constant, stands-branch, stands-element, three-inside, last-here, typed-inside, typed-given, stands-conversion, stands-packing, stands-unpacking}
 use Rattle.processor.proofs.Commands.{return-at, jump-at, typed-done, typed}
 use Rattle.processor.proofs.execute.Tie as tie
@@ -18,30 +18,30 @@ add-next : tie.Need-add-next
 add-next c = omega (arith, inside-code _ _ _ (c .before .before .before .before .before .pre), c .before .before .before .before .before .pre .short)
 
 word-requires : tie.Need-word-requires
-unfolding lengthOf layoutOf pick
+unfolding lengthOf rowOf pick
 word-requires c κs = let s = stands _ _ _ (c .before .before .before .before .before .before .pre) 1 (c .match .keys2) in omega (arith, s .whole)
 
 call-instance-requires : tie.Need-call-instance-requires
-unfolding lengthOf layoutOf pick
+unfolding lengthOf rowOf pick
 call-instance-requires c κs = (stands _ _ _ (c .before .before .before .before .before .before .before .pre) 4 (c .before .match .keys3), c .before .before .before .before .before .before .before .pre .small)
 
 call-function-requires : tie.Need-call-function-requires
-unfolding lengthOf layoutOf pick
+unfolding lengthOf rowOf pick
 call-function-requires c κs = stands _ _ _ (c .before .before .before .before .before .before .before .pre) 5 (c .before .match .keys4)
 
 move-constant-requires : tie.Need-move-constant-requires
 move-constant-requires c κs = stands-constant _ _ _ (c .before .before .before .before .before .before .before .pre) (c .before .match .keys5)
 
 copy-memory-requires : tie.Need-copy-memory-requires
-unfolding lengthOf layoutOf pick
+unfolding lengthOf rowOf pick
 copy-memory-requires c κs = (stands _ _ _ (c .before .before .before .before .before .before .before .pre) 7 (c .before .match .keys6), c .before .before .before .before .before .before .before .pre .small)
 
 store-number-requires : tie.Need-store-number-requires
-unfolding lengthOf layoutOf pick
+unfolding lengthOf rowOf pick
 store-number-requires c κs = (inl (c .before .before .match .keys7, refl, refl), stands-report _ _ _ (c .before .before .before .before .before .before .before .before .pre) _ 41 refl (c .before .before .match .keys7) refl)
 
 store-number-requires-2 : tie.Need-store-number-requires-2
-unfolding lengthOf layoutOf pick
+unfolding lengthOf rowOf pick
 store-number-requires-2 c κs = (inr (c .before .before .match .keys8, refl, refl), stands-report _ _ _ (c .before .before .before .before .before .before .before .before .pre) _ 42 refl (c .before .before .match .keys8) refl)
 
 convert-requires : tie.Need-convert-requires
