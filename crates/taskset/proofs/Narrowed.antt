@@ -12,9 +12,8 @@ use Rattle.verdict.specs.Verdict.{pick, next, unless, first}
 use Rattle.verdict.proofs.Verdict.{yes, no}
 use Rattle.code.specs.declared.Profile.{Profile}
 use Rattle.code.specs.declared.Profile.the-variants.{Full, Small}
-use Rattle.code.specs.Instructions.{instructionAt}
 use Rattle.code.specs.Flow.{after}
-use Rattle.code.specs.Profiles.{carries, mostData}
+use Rattle.code.specs.Profiles.{typesAt, carries, mostData}
 use Rattle.code.specs.Code.{instructionRefusal, laid, judgeCodeFor}
 use Rattle.records.specs.File.{cores}
 use Rattle.records.specs.Records.{coreOk, coreRefusal}
@@ -55,7 +54,7 @@ module _ (o : Profile) where
 
   narrowed-instruction : (c : List ℕ) (p : ℕ) → Narrowed (instructionRefusal o c p) (instructionRefusal Full c p)
   unfolding instructionRefusal unless
-  narrowed-instruction c p = narrowed-next _ _ (alike refl) (narrowed-types (carries o (instructionAt c p)))
+  narrowed-instruction c p = narrowed-next _ _ (alike refl) (narrowed-types (carries o (typesAt c p)))
 
   narrowed-laid : (k : ℕ) (c : List ℕ) (p : ℕ) → Narrowed (laid o k c p) (laid Full k c p)
   unfolding laid pick
