@@ -154,12 +154,12 @@ mark-one m p t r h = go (eqb p t) refl
     go false e = rw (e, getD-set-other m p t 1 0 (λ q. eqb-false p t e (sym q)))
 
 -- what is left to judge from p on is what was asked, and the map has the starts before p. Of the targets before p: if all targets are right, each place
--- that is asked for is a start and none lies outside the map; if that is so, what is left of the targets is what was asked
-pub record Laying (o : Profile) (c : List ℕ) (p last : ℕ) (outside : Bool) (m : List ℕ) : Type 0 where
+-- that is asked for is a start and none lies outside the map, of b bytes; if that is so, what is left of the targets is what was asked
+pub record Laying (b : ℕ) (o : Profile) (c : List ℕ) (p last : ℕ) (outside : Bool) (m : List ℕ) : Type 0 where
   pub left : ℕ
   pub inside : p ≤ length c
   pub enough : length c ≤ p + left
-  pub size : length m ≡ 8192
+  pub size : length m ≡ b
   pub laid-rest : laid o (length c) c 0 ≡ laid o left c p
   pub last-rest : lastFrom (length c) c 0 0 ≡ lastFrom left c p last
   pub start-rest : (t : ℕ) → isStart c t ≡ either (eqb (getD m t 0) 1) (startFrom left c p t)
@@ -167,14 +167,14 @@ pub record Laying (o : Profile) (c : List ℕ) (p last : ℕ) (outside : Bool) (
   pub near : allFrom (targetOk c) (length c) c 0 ≡ true → outside ≡ false
   pub target-rest : outside ≡ false → ((t : ℕ) → 2 ≤ getD m t 0 → isStart c t ≡ true) → allFrom (targetOk c) (length c) c 0 ≡ allFrom (targetOk c) left c p
 
-pub laying-none : (o : Profile) (c m : List ℕ) → length m ≡ 8192 → ((t : ℕ) → getD m t 0 ≡ 0) → Laying o c 0 0 false m
+pub laying-none : (o : Profile) (c m : List ℕ) → ((t : ℕ) → getD m t 0 ≡ 0) → Laying (length m) o c 0 0 false m
 unfolding isStart
-laying-none o c m e z =
+laying-none o c m z =
     record {
       left = length c;
       inside = omega arith;
       enough = omega arith;
-      size = e;
+      size = refl;
       laid-rest = refl;
       last-rest = refl;
       start-rest = λ t. rw (z t);
@@ -206,14 +206,14 @@ neither : (a b : Bool) → either a b ≡ false → (a ≡ false) × (b ≡ fals
 neither true b e = absurd-bool (sym e)
 neither false b e = (refl, e)
 
-laying-turn : (o : Profile) (c : List ℕ) (p last : ℕ) (outside : Bool) (m : List ℕ) → length c ≤ 8192 → p < length c → instructionRefusal o c p ≡ 0
+laying-turn : {size : ℕ} (o : Profile) (c : List ℕ) (p last : ℕ) (outside : Bool) (m : List ℕ) → length c ≤ size → p < length c → instructionRefusal o c p ≡ 0
     → (r : Bool) (n : List ℕ) → Turned c p m r n → (k : ℕ)
-    → length c ≤ p + k → length m ≡ 8192 → laid o (length c) c 0 ≡ laid o k c p → lastFrom (length c) c 0 0 ≡ lastFrom k c p last
+    → length c ≤ p + k → length m ≡ size → laid o (length c) c 0 ≡ laid o k c p → lastFrom (length c) c 0 0 ≡ lastFrom k c p last
     → ((t : ℕ) → isStart c t ≡ either (eqb (getD m t 0) 1) (startFrom k c p t))
     → (allFrom (targetOk c) (length c) c 0 ≡ true → (t : ℕ) → 2 ≤ getD m t 0 → isStart c t ≡ true)
     → (allFrom (targetOk c) (length c) c 0 ≡ true → outside ≡ false)
     → (outside ≡ false → ((t : ℕ) → 2 ≤ getD m t 0 → isStart c t ≡ true) → allFrom (targetOk c) (length c) c 0 ≡ allFrom (targetOk c) k c p)
-    → Laying o c (after c p) (byte c p) (either r outside) (set n p 1)
+    → Laying size o c (after c p) (byte c p) (either r outside) (set n p 1)
 unfolding next pick
 laying-turn x c p last outside m b h z r n q zero e g l a s o i w = absurd (let y : ⊥ = omega arith in y)
 laying-turn x c p last outside m b h z r n q (suc k) e g l a s o i w =
@@ -245,16 +245,16 @@ laying-turn x c p last outside m b h z r n q (suc k) e g l a s o i w =
     one t u = s t ∙ ap (λ (x : Bool). either x (startFrom (suc k) c p t)) (sym (q .starts t) ∙ eq-eqb _ _ u)
 
 -- with the length and the flag as the code has them
-pub laying-more : (x : Profile) (c : List ℕ) (p last : ℕ) (outside : Bool) (m : List ℕ) → length c ≤ 8192 → Laying x c p last outside m → p < length c
+pub laying-more : {size : ℕ} (x : Profile) (c : List ℕ) (p last : ℕ) (outside : Bool) (m : List ℕ) → length c ≤ size → Laying size x c p last outside m → p < length c
     → (l : ℕ) → l ≡ acceptedLength c p → (l ≡ 0 → ⊥) → carries x (typesAt c p) ≡ true → (r : Bool) (n : List ℕ) → TargetAsked c p m r n → (o : Bool) → o ≡ either r outside
-    → Laying x c (p + l) (byte c p) o (set n p 1)
+    → Laying size x c (p + l) (byte c p) o (set n p 1)
 laying-more x c p last outside m b w h l e nz y r n q o f =
     let t = length-taken c p l e nz in
     rw (t .1, f)
     (laying-turn x c p last outside m b h (carried-none x c p (t .0) y) r n (turned c p m r n (omega (arith, w .size)) q)
     (w .left) (w .enough) (w .size) (w .laid-rest) (w .last-rest) (w .start-rest) (w .wanted) (w .near) (w .target-rest))
 
-pub laying-end : (x : Profile) (c : List ℕ) (p last : ℕ) (outside : Bool) (m : List ℕ) → Laying x c p last outside m → length c ≤ p → Pass x c 0 last outside m
+pub laying-end : {size : ℕ} (x : Profile) (c : List ℕ) (p last : ℕ) (outside : Bool) (m : List ℕ) → Laying size x c p last outside m → length c ≤ p → Pass x c size 0 last outside m
 laying-end x c p last outside m r h =
     record {
       right = sym (r .laid-rest ∙ laid-end x (r .left) c p h);
@@ -281,8 +281,8 @@ laid-stop o zero c p r e h q nz = absurd (let x : ⊥ = omega arith in x)
 laid-stop o (suc k) c p r e h q nz = stop _ q nz ∙ sym (laid-one o k c p h)
 
 -- where the pass stops at p, whatever it has written by then
-pub laying-stop : (x : Profile) (c : List ℕ) (p last r : ℕ) (outside : Bool) (m : List ℕ) → Laying x c p last outside m → p < length c → r ≡ instructionRefusal x c p
-    → (r ≡ 0 → ⊥) → (last′ : ℕ) (outside′ : Bool) (m′ : List ℕ) → length m′ ≡ 8192 → Pass x c r last′ outside′ m′
+pub laying-stop : {size : ℕ} (x : Profile) (c : List ℕ) (p last r : ℕ) (outside : Bool) (m : List ℕ) → Laying size x c p last outside m → p < length c → r ≡ instructionRefusal x c p
+    → (r ≡ 0 → ⊥) → (last′ : ℕ) (outside′ : Bool) (m′ : List ℕ) → length m′ ≡ size → Pass x c size r last′ outside′ m′
 laying-stop x c p last r outside m w h q nz last′ outside′ m′ e =
     record {
       right = laid-stop x (w .left) c p r (w .enough) h q nz ∙ sym (w .laid-rest);
@@ -300,19 +300,19 @@ never : (b x : Bool) → (b ≡ true → x ≡ false) → x ≡ true → b ≡ f
 never true x f e = absurd-bool (sym (f refl) ∙ e)
 never false x f e = refl
 
-pub targets-outside : {x : Profile} (c : List ℕ) (r l : ℕ) (o : Bool) (m : List ℕ) → Pass x c r l o m → r ≡ 0 → o ≡ true → allFrom (targetOk c) (length c) c 0 ≡ false
+pub targets-outside : {x : Profile} {size : ℕ} (c : List ℕ) (r l : ℕ) (o : Bool) (m : List ℕ) → Pass x c size r l o m → r ≡ 0 → o ≡ true → allFrom (targetOk c) (length c) c 0 ≡ false
 targets-outside c r l o m p z e = never _ o (p .inside z) e
 
-pub targets-wanted : {y : Profile} (c : List ℕ) (r l : ℕ) (o : Bool) (m : List ℕ) (x : Bool) → Pass y c r l o m → r ≡ 0 → AllMet m x → x ≡ false
+pub targets-wanted : {y : Profile} {size : ℕ} (c : List ℕ) (r l : ℕ) (o : Bool) (m : List ℕ) (x : Bool) → Pass y c size r l o m → r ≡ 0 → AllMet m x → x ≡ false
     → allFrom (targetOk c) (length c) c 0 ≡ false
 targets-wanted c r l o m x p z a e = never _ true (λ t. sym (a .high (p .closed z t)) ∙ e) refl
 
-pub targets-right : {y : Profile} (c : List ℕ) (r l : ℕ) (o : Bool) (m : List ℕ) (x : Bool) → Pass y c r l o m → r ≡ 0 → o ≡ false → AllMet m x → x ≡ true
+pub targets-right : {y : Profile} {size : ℕ} (c : List ℕ) (r l : ℕ) (o : Bool) (m : List ℕ) (x : Bool) → Pass y c size r l o m → r ≡ 0 → o ≡ false → AllMet m x → x ≡ true
     → allFrom (targetOk c) (length c) c 0 ≡ true
 targets-right c r l o m x p z f a e = p .met z f (a .low e)
 
 -- the instructions come before the targets outside the map
-module _ {z : Profile} (c : List ℕ) (r l : ℕ) (o : Bool) (m : List ℕ) (p : Pass z c r l o m) (x y : ℕ) (e : x ≡ pick o 7 0) (d : y ≡ next r x) where
+module _ {z : Profile} {size : ℕ} (c : List ℕ) (r l : ℕ) (o : Bool) (m : List ℕ) (p : Pass z c size r l o m) (x y : ℕ) (e : x ≡ pick o 7 0) (d : y ≡ next r x) where
   pub first-refused : (y ≡ 0 → ⊥) → y ≡ judgeCodeFor z c
   unfolding judgeCodeFor pick next
   first-refused nz = go r refl o refl

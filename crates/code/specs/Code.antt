@@ -129,7 +129,7 @@ Marked c marks = (t : ℕ) → eqb (byte marks t) 1 ≡ isStart c t
 
 -- a map with no mark
 abbrev pub Cleared : List ℕ → Type 0
-Cleared marks = (length marks ≡ 8192) × ((t : ℕ) → getD marks t 0 ≡ 0)
+Cleared marks = (t : ℕ) → getD marks t 0 ≡ 0
 
 -- what asking for a start at place t does to a map: a place that is no start may become one that is asked for
 pub record Asked (m : List ℕ) (t : ℕ) (outside : Bool) (n : List ℕ) : Type 0 where
@@ -146,10 +146,10 @@ pub record TargetAsked (c : List ℕ) (p : ℕ) (m : List ℕ) (outside : Bool) 
   pub none : goesTo (kindAt c p) ≡ false → (outside ≡ false) × (n ≡ m)
 
 -- what a pass over the instructions finds: their refusal, and if there is none the map of starts, the last code byte, and the targets:
--- all are right where none lies outside the map and none is still asked for, and only there
-pub record Pass (profile : Profile) (c : List ℕ) (refusal last : ℕ) (outside : Bool) (marks : List ℕ) : Type 0 where
+-- all are right where none lies outside the map, of n bytes, and none is still asked for, and only there
+pub record Pass (profile : Profile) (c : List ℕ) (n refusal last : ℕ) (outside : Bool) (marks : List ℕ) : Type 0 where
   pub right : refusal ≡ laid profile (length c) c 0
-  pub size : length marks ≡ 8192
+  pub size : length marks ≡ n
   pub marked : refusal ≡ 0 → Marked c marks
   pub latest : refusal ≡ 0 → last ≡ lastFrom (length c) c 0 0
   pub met : refusal ≡ 0 → outside ≡ false → ((t : ℕ) → getD marks t 0 < 2) → allFrom (targetOk c) (length c) c 0 ≡ true

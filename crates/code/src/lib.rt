@@ -570,6 +570,24 @@ fn accepted_length(code: &[u8], p: usize) -> usize
         43 => conversion_length(code, p),
         44 => packed_length(code, p),
         45 => packed_length(code, p),
+        16 => typed_length(code, p, TYPED),
+        17 => typed_length(code, p, TYPED),
+        18 => typed_length(code, p, TYPED),
+        19 => typed_length(code, p, TYPED),
+        20 => typed_length(code, p, TYPED),
+        24 => typed_length(code, p, TYPED),
+        25 => typed_length(code, p, TYPED),
+        26 => typed_length(code, p, TYPED),
+        28 => typed_length(code, p, TYPED),
+        29 => typed_length(code, p, TYPED),
+        30 => typed_length(code, p, TYPED),
+        31 => typed_length(code, p, TYPED),
+        32 => typed_length(code, p, TYPED),
+        33 => typed_length(code, p, TYPED),
+        34 => typed_length(code, p, TYPED),
+        35 => typed_length(code, p, TYPED),
+        36 => typed_length(code, p, TYPED),
+        37 => typed_length(code, p, TYPED),
         _ => typed_length(code, p, TYPED),
     }
 }
@@ -623,10 +641,19 @@ pub struct Laid {
     pub outside: bool,
 }
 
+// The most bytes of a code that has a short map, which is cleared sooner.
+const SHORT: usize = 512;
+
 fn cleared() -> [u8; 8192]
-    ensures { λ r. ⌜ Cleared r ⌝ }
+    ensures { λ r. ⌜ (length r ≡ 8192) × Cleared r ⌝ }
 {
     [0u8; 8192]
+}
+
+fn cleared_short() -> [u8; SHORT]
+    ensures { λ r. ⌜ (length r ≡ 512) × Cleared r ⌝ }
+{
+    [0u8; SHORT]
 }
 
 // Asks for an instruction's start at place t; tells whether t lies outside the map.
@@ -662,8 +689,8 @@ fn ask_target(code: &[u8], p: usize, marks: &mut [u8]) -> bool
 // The pass, and its map: 1 where an instruction starts, 2 where a T asks for one that was not met. The map is lent, since a structure that holds it would
 // be copied.
 fn lay(profile: Profile, code: &[u8], marks: &mut [u8]) -> Laid
-    requires { ⌜ (length (now code) ≤ 8192) × Cleared (now marks) ⌝ }
-    ensures { λ r. ⌜ Pass profile (now (code .entry)) (r .refusal) (r .last) (r .outside) (now (marks .exit)) ⌝ }
+    requires { ⌜ (length (now code) ≤ 8192) × (length (now code) ≤ length (now marks)) × Cleared (now marks) ⌝ }
+    ensures { λ r. ⌜ Pass profile (now (code .entry)) (length (now (marks .entry))) (r .refusal) (r .last) (r .outside) (now (marks .exit)) ⌝ }
 {
     let mut last: u8 = 0;
     let mut outside = false;
@@ -735,24 +762,36 @@ fn outside_refusal(outside: bool) -> u8
     0
 }
 
-// The refusal of a core's code: all instructions before any target.
-pub fn judge_code_for(profile: Profile, code: &[u8]) -> u8
-    requires { ⌜ length (now code) ≤ 8192 ⌝ }
+// The refusal of a core's code, all instructions before any target, by a lent map.
+fn judge_by_map(profile: Profile, code: &[u8], marks: &mut [u8]) -> u8
+    requires { ⌜ (length (now code) ≤ 8192) × (length (now code) ≤ length (now marks)) × Cleared (now marks) ⌝ }
     ensures { λ r. ⌜ r ≡ judgeCodeFor profile (now (code .entry)) ⌝ }
 {
-    let mut marks = cleared();
-    let m = lay(profile, code, &mut marks);
+    let m = lay(profile, code, marks);
     let r = first_refusal(m.refusal, outside_refusal(m.outside));
     if r != 0 {
         return r;
     }
-    if !all_met(&marks) {
+    if !all_met(marks) {
         return 7;
     }
     if 2 <= m.last {
         return 7;
     }
     0
+}
+
+// The refusal of a core's code.
+pub fn judge_code_for(profile: Profile, code: &[u8]) -> u8
+    requires { ⌜ length (now code) ≤ 8192 ⌝ }
+    ensures { λ r. ⌜ r ≡ judgeCodeFor profile (now (code .entry)) ⌝ }
+{
+    if code.len() <= SHORT {
+        let mut marks = cleared_short();
+        return judge_by_map(profile, code, &mut marks);
+    }
+    let mut marks = cleared();
+    judge_by_map(profile, code, &mut marks)
 }
 
 // The map of the instruction starts of accepted code: 1 exactly where one starts.

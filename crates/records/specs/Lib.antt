@@ -1,3 +1,4 @@
 pub mod File
 pub mod Records
 pub mod Rules
+pub mod Order

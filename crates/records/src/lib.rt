@@ -1,6 +1,7 @@
 // Document 01, "The task set file": the records of cores and variables, read and judged (refusals 3, 4, 5).
 use code::Profile;
 ghost use mathlib.Core.Path.{_≡_};
+ghost use mathlib.Core.Bool.{true};
 ghost use Prim.Native.Nat.{ℕ, _+_, _*_, _-_, _<_, _≤_};
 ghost use lib.Dec.{eqb};
 ghost use lib.ListN.{length};
@@ -9,6 +10,7 @@ ghost use Rattle.protocol.specs.Variables.{local, readsIt, writesIt};
 ghost use Rattle.code.specs.Profiles.{mostData};
 ghost use Rattle.records.specs.File.{cores, corePlace, variables, recordPlace, variableIn};
 ghost use Rattle.records.specs.Records.{coreOk, coreRefusal, bit, oneWriter, named, placeOk, partOk, partsOk, variableOk, variableRefusal, meets, meetsShared, meetsIn, overlap, pairRefusal, overlapRefusal};
+ghost use Rattle.records.specs.Order.{RisingShared, RisingIn, RisingAll};
 
 // Bytes of a core's record: data size, input size, limit (16 bits each).
 pub const CORE_RECORD: usize = 6;
@@ -114,7 +116,6 @@ fn core_refusal(profile: Profile, f: &[u8], k: usize) -> u8
     3
 }
 
-// The records of n cores.
 pub fn cores_refusal(profile: Profile, f: &[u8], n: usize) -> u8
     requires { ⌜ n ≤ 4 ⌝ }
     ensures { λ r. ⌜ r ≡ first (coreRefusal profile (now (f .entry))) (n - 0) 0 ⌝ }
@@ -155,7 +156,6 @@ fn place_ok(f: &[u8], p: usize, k: usize) -> bool
     place + width(f, p) as usize <= memory::word_at(f, q)
 }
 
-// Core k's part in the record at p.
 fn part_ok(f: &[u8], p: usize, k: usize) -> bool
     requires { ⌜ (p + 12 ≤ length (now f)) × (k < 4) ⌝ }
     ensures { λ r. ⌜ r ≡ partOk (now (f .entry)) (variableIn (now (f .entry)) p) k ⌝ }
@@ -172,7 +172,6 @@ fn part_ok(f: &[u8], p: usize, k: usize) -> bool
     local_place(f, p, k) == 0
 }
 
-// The parts of the four cores.
 fn parts_ok(f: &[u8], p: usize) -> bool
     requires { ⌜ p + 12 ≤ length (now f) ⌝ }
     ensures { λ r. ⌜ r ≡ partsOk (now (f .entry)) (variableIn (now (f .entry)) p) ⌝ }
@@ -189,7 +188,6 @@ fn parts_ok(f: &[u8], p: usize) -> bool
     part_ok(f, p, 3)
 }
 
-// The record at p.
 fn variable_ok(f: &[u8], p: usize) -> bool
     requires { ⌜ p + 12 ≤ length (now f) ⌝ }
     ensures { λ r. ⌜ r ≡ variableOk (now (f .entry)) (variableIn (now (f .entry)) p) ⌝ }
@@ -220,7 +218,6 @@ fn variable_refusal(f: &[u8], i: u8) -> u8
     4
 }
 
-// The records of m variables.
 pub fn variables_refusal(f: &[u8], m: u8) -> u8
     ensures { λ r. ⌜ r ≡ first (variableRefusal (now (f .entry))) (m - 0) 0 ⌝ }
 {
@@ -323,11 +320,74 @@ fn overlap_refusal(f: &[u8], i: u8, m: u8) -> u8
     0
 }
 
+// Whether each of the m variables stands behind all before it in shared memory.
+fn rising_shared(f: &[u8], m: u8) -> bool
+    requires { ⌜ recordPlace (now f) m ≤ length (now f) ⌝ }
+    ensures { λ r. ⌜ (r ≡ true → RisingShared (now (f .entry)) m) ⌝ }
+{
+    let mut end: usize = 0;
+    let mut i = 0;
+    while i < m {
+        let p = record_place(f, i);
+        let place = shared_place(f, p) as usize;
+        if place < end {
+            return false;
+        }
+        end = place + width(f, p) as usize;
+        i = i + 1;
+    }
+    true
+}
+
+// The same in the data of core k, of the variables that name it.
+fn rising_in(f: &[u8], m: u8, k: usize) -> bool
+    requires { ⌜ (recordPlace (now f) m ≤ length (now f)) × (k < 4) ⌝ }
+    ensures { λ r. ⌜ (r ≡ true → RisingIn (now (f .entry)) k m) ⌝ }
+{
+    let mut end: usize = 0;
+    let mut i = 0;
+    while i < m {
+        let p = record_place(f, i);
+        if is_named(f, p, k) {
+            let place = local_place(f, p, k) as usize;
+            if place < end {
+                return false;
+            }
+            end = place + width(f, p) as usize;
+        }
+        i = i + 1;
+    }
+    true
+}
+
+// The same in every memory: in most files the records stand in the order of their places, and no two need to be held against each other.
+fn rising(f: &[u8], m: u8) -> bool
+    requires { ⌜ recordPlace (now f) m ≤ length (now f) ⌝ }
+    ensures { λ r. ⌜ (r ≡ true → RisingAll (now (f .entry)) m) ⌝ }
+{
+    if !rising_shared(f, m) {
+        return false;
+    }
+    if !rising_in(f, m, 0) {
+        return false;
+    }
+    if !rising_in(f, m, 1) {
+        return false;
+    }
+    if !rising_in(f, m, 2) {
+        return false;
+    }
+    rising_in(f, m, 3)
+}
+
 // Each of the m variables against each.
 pub fn overlaps_refusal(f: &[u8], m: u8) -> u8
     requires { ⌜ (m ≡ variables (now f)) × (recordPlace (now f) m ≤ length (now f)) ⌝ }
     ensures { λ r. ⌜ r ≡ first (overlapRefusal (now (f .entry))) (m - 0) 0 ⌝ }
 {
+    if rising(f, m) {
+        return 0;
+    }
     let mut i = 0;
     while i < m {
         let r = overlap_refusal(f, i, m);

@@ -80,7 +80,89 @@ unfolding instructionLength instructionAt typedAt lengthOf rowOf pick
 packed-length-requires-2 c κs = (c .before .before .before .pre, record { own = λ _. rw (c .match .keys16); all = λ _. rw (c .match .keys16) }, rw (c .match .keys16))
 
 typed-length-requires-2 : tie.Need-typed-length-requires-2
-typed-length-requires-2 c κs = let n = c .match .rest in let b = c .before .before .shared-slice-known .given (c .before .before .before .args .p) .fits in let o : operandsOk (instructionAt (c .before .before .before .args .code .now) (c .before .before .before .args .p)) ≡ takes (byte (c .before .before .before .args .code .now) (c .before .before .before .args .p)) (byte (c .before .before .before .args .code .now) (c .before .before .before .args .p + 1)) = ap operandsOk (typed-left _ _ (n .0 .0 .0 .0 .0 .0 .0 .0 .0 .0 .0 .0 .0 .0 .0 .1) (n .0 .0 .0 .0 .0 .0 .0 .0 .0 .0 .0 .0 .0 .0 .1) (n .0 .0 .0 .0 .0 .0 .0 .0 .0 .0 .0 .0 .0 .1) (n .0 .0 .0 .0 .0 .0 .0 .0 .0 .0 .0 .0 .1) (n .0 .0 .0 .0 .0 .0 .0 .0 .0 .0 .0 .1) (n .0 .0 .0 .0 .0 .0 .0 .0 .0 .0 .1) (n .0 .0 .0 .0 .0 .0 .0 .0 .0 .1) (n .0 .0 .0 .0 .0 .0 .0 .0 .1) (n .0 .0 .0 .0 .0 .0 .0 .1) (n .0 .0 .0 .0 .0 .0 .1) (n .0 .0 .0 .0 .1) (n .0 .0 .0 .1) (n .0 .0 .1) (n .0 .1) (n .1)) ∙ typed-takes _ _ b in (c .before .before .before .pre, omega arith, typed-sized _ _ b (n .0 .0 .0 .0 .0 .0 .0 .0 .0 .1) (n .0 .0 .0 .0 .0 .1) o, o)
+unfolding instructionLength instructionAt typedAt lengthOf layoutOf pick
+typed-length-requires-2 c κs = (c .before .before .before .pre, omega arith, record { own = λ _. rw (c .match .keys17); all = λ _. rw (c .match .keys17) }, rw (c .match .keys17))
+
+typed-length-requires-3 : tie.Need-typed-length-requires-3
+unfolding instructionLength instructionAt typedAt lengthOf layoutOf pick
+typed-length-requires-3 c κs = (c .before .before .before .pre, omega arith, record { own = λ _. rw (c .match .keys18); all = λ _. rw (c .match .keys18) }, rw (c .match .keys18))
+
+typed-length-requires-4 : tie.Need-typed-length-requires-4
+unfolding instructionLength instructionAt typedAt lengthOf layoutOf pick
+typed-length-requires-4 c κs = (c .before .before .before .pre, omega arith, record { own = λ _. rw (c .match .keys19); all = λ _. rw (c .match .keys19) }, rw (c .match .keys19))
+
+typed-length-requires-5 : tie.Need-typed-length-requires-5
+unfolding instructionLength instructionAt typedAt lengthOf layoutOf pick
+typed-length-requires-5 c κs = (c .before .before .before .pre, omega arith, record { own = λ _. rw (c .match .keys20); all = λ _. rw (c .match .keys20) }, rw (c .match .keys20))
+
+typed-length-requires-6 : tie.Need-typed-length-requires-6
+unfolding instructionLength instructionAt typedAt lengthOf layoutOf pick
+typed-length-requires-6 c κs = (c .before .before .before .pre, omega arith, record { own = λ _. rw (c .match .keys21); all = λ _. rw (c .match .keys21) }, rw (c .match .keys21))
+
+typed-length-requires-7 : tie.Need-typed-length-requires-7
+unfolding instructionLength instructionAt typedAt lengthOf layoutOf pick
+typed-length-requires-7 c κs = (c .before .before .before .pre, omega arith, record { own = λ _. rw (c .match .keys22); all = λ _. rw (c .match .keys22) }, rw (c .match .keys22))
+
+typed-length-requires-8 : tie.Need-typed-length-requires-8
+unfolding instructionLength instructionAt typedAt lengthOf layoutOf pick
+typed-length-requires-8 c κs = (c .before .before .before .pre, omega arith, record { own = λ _. rw (c .match .keys23); all = λ _. rw (c .match .keys23) }, rw (c .match .keys23))
+
+typed-length-requires-9 : tie.Need-typed-length-requires-9
+unfolding instructionLength instructionAt typedAt lengthOf layoutOf pick
+typed-length-requires-9 c κs = (c .before .before .before .pre, omega arith, record { own = λ _. rw (c .match .keys24); all = λ _. rw (c .match .keys24) }, rw (c .match .keys24))
+
+typed-length-requires-10 : tie.Need-typed-length-requires-10
+unfolding instructionLength instructionAt typedAt lengthOf layoutOf pick
+typed-length-requires-10 c κs = (c .before .before .before .pre, omega arith, record { own = λ _. rw (c .match .keys25); all = λ _. rw (c .match .keys25) }, rw (c .match .keys25))
+
+typed-length-requires-11 : tie.Need-typed-length-requires-11
+unfolding instructionLength instructionAt typedAt lengthOf layoutOf pick
+typed-length-requires-11 c κs = (c .before .before .before .pre, omega arith, record { own = λ _. rw (c .match .keys26); all = λ _. rw (c .match .keys26) }, rw (c .match .keys26))
+
+typed-length-requires-12 : tie.Need-typed-length-requires-12
+unfolding instructionLength instructionAt typedAt lengthOf layoutOf pick
+typed-length-requires-12 c κs = (c .before .before .before .pre, omega arith, record { own = λ _. rw (c .match .keys27); all = λ _. rw (c .match .keys27) }, rw (c .match .keys27))
+
+typed-length-requires-13 : tie.Need-typed-length-requires-13
+unfolding instructionLength instructionAt typedAt lengthOf layoutOf pick
+typed-length-requires-13 c κs = (c .before .before .before .pre, omega arith, record { own = λ _. rw (c .match .keys28); all = λ _. rw (c .match .keys28) }, rw (c .match .keys28))
+
+typed-length-requires-14 : tie.Need-typed-length-requires-14
+unfolding instructionLength instructionAt typedAt lengthOf layoutOf pick
+typed-length-requires-14 c κs = (c .before .before .before .pre, omega arith, record { own = λ _. rw (c .match .keys29); all = λ _. rw (c .match .keys29) }, rw (c .match .keys29))
+
+typed-length-requires-15 : tie.Need-typed-length-requires-15
+unfolding instructionLength instructionAt typedAt lengthOf layoutOf pick
+typed-length-requires-15 c κs = (c .before .before .before .pre, omega arith, record { own = λ _. rw (c .match .keys30); all = λ _. rw (c .match .keys30) }, rw (c .match .keys30))
+
+typed-length-requires-16 : tie.Need-typed-length-requires-16
+unfolding instructionLength instructionAt typedAt lengthOf layoutOf pick
+typed-length-requires-16 c κs = (c .before .before .before .pre, omega arith, record { own = λ _. rw (c .match .keys31); all = λ _. rw (c .match .keys31) }, rw (c .match .keys31))
+
+typed-length-requires-17 : tie.Need-typed-length-requires-17
+unfolding instructionLength instructionAt typedAt lengthOf layoutOf pick
+typed-length-requires-17 c κs = (c .before .before .before .pre, omega arith, record { own = λ _. rw (c .match .keys32); all = λ _. rw (c .match .keys32) }, rw (c .match .keys32))
+
+typed-length-requires-18 : tie.Need-typed-length-requires-18
+unfolding instructionLength instructionAt typedAt lengthOf layoutOf pick
+typed-length-requires-18 c κs = (c .before .before .before .pre, omega arith, record { own = λ _. rw (c .match .keys33); all = λ _. rw (c .match .keys33) }, rw (c .match .keys33))
+
+typed-length-requires-19 : tie.Need-typed-length-requires-19
+unfolding instructionLength instructionAt typedAt lengthOf layoutOf pick
+typed-length-requires-19 c κs = (c .before .before .before .pre, omega arith, record { own = λ _. rw (c .match .keys34); all = λ _. rw (c .match .keys34) }, rw (c .match .keys34))
+
+typed-length-requires-20 : tie.Need-typed-length-requires-20
+typed-length-requires-20 c κs =
+    let code = c .before .before .before .args .code .now in
+    let p = c .before .before .before .args .p in
+    let known = c .match .rest .0 .0 .0 .0 .0 .0 .0 .0 .0 .0 .0 .0 .0 .0 .0 .0 .0 .0 in
+    let b = c .before .before .shared-slice-known .given p .fits in
+    let left = typed-left code p
+    (known .0 .0 .0 .0 .0 .0 .0 .0 .0 .0 .0 .0 .0 .0 .0 .1) (known .0 .0 .0 .0 .0 .0 .0 .0 .0 .0 .0 .0 .0 .0 .1) (known .0 .0 .0 .0 .0 .0 .0 .0 .0 .0 .0 .0 .0 .1) (known .0 .0 .0 .0 .0 .0 .0 .0 .0 .0 .0 .0 .1) (known .0 .0 .0 .0 .0 .0 .0 .0 .0 .0 .0 .1)
+    (known .0 .0 .0 .0 .0 .0 .0 .0 .0 .0 .1) (known .0 .0 .0 .0 .0 .0 .0 .0 .0 .1) (known .0 .0 .0 .0 .0 .0 .0 .0 .1) (known .0 .0 .0 .0 .0 .0 .0 .1) (known .0 .0 .0 .0 .0 .0 .1)
+    (known .0 .0 .0 .0 .1) (known .0 .0 .0 .1) (known .0 .0 .1) (known .0 .1) (known .1) in
+    let o : operandsOk (instructionAt code p) ≡ takes (byte code p) (byte code (p + 1)) = ap operandsOk left ∙ typed-takes _ _ b in
+    (c .before .before .before .pre, omega arith, typed-sized _ _ b (known .0 .0 .0 .0 .0 .0 .0 .0 .0 .1) (known .0 .0 .0 .0 .0 .1) o, o)
 
 returns : tie.Need-returns
 returns c = search needs
@@ -133,6 +215,60 @@ returns-16 c = search needs
 returns-17 : tie.Need-returns-17
 returns-17 c = search needs
 
+returns-18 : tie.Need-returns-18
+returns-18 c = search needs
+
+returns-19 : tie.Need-returns-19
+returns-19 c = search needs
+
+returns-20 : tie.Need-returns-20
+returns-20 c = search needs
+
+returns-21 : tie.Need-returns-21
+returns-21 c = search needs
+
+returns-22 : tie.Need-returns-22
+returns-22 c = search needs
+
+returns-23 : tie.Need-returns-23
+returns-23 c = search needs
+
+returns-24 : tie.Need-returns-24
+returns-24 c = search needs
+
+returns-25 : tie.Need-returns-25
+returns-25 c = search needs
+
+returns-26 : tie.Need-returns-26
+returns-26 c = search needs
+
+returns-27 : tie.Need-returns-27
+returns-27 c = search needs
+
+returns-28 : tie.Need-returns-28
+returns-28 c = search needs
+
+returns-29 : tie.Need-returns-29
+returns-29 c = search needs
+
+returns-30 : tie.Need-returns-30
+returns-30 c = search needs
+
+returns-31 : tie.Need-returns-31
+returns-31 c = search needs
+
+returns-32 : tie.Need-returns-32
+returns-32 c = search needs
+
+returns-33 : tie.Need-returns-33
+returns-33 c = search needs
+
+returns-34 : tie.Need-returns-34
+returns-34 c = search needs
+
+returns-35 : tie.Need-returns-35
+returns-35 c = search needs
+
 pub accepted-length-spec : {M : Type 1} → statement M
 accepted-length-spec =
     tie.close
@@ -155,6 +291,24 @@ accepted-length-spec =
     packed-length-requires
     packed-length-requires-2
     typed-length-requires-2
+    typed-length-requires-3
+    typed-length-requires-4
+    typed-length-requires-5
+    typed-length-requires-6
+    typed-length-requires-7
+    typed-length-requires-8
+    typed-length-requires-9
+    typed-length-requires-10
+    typed-length-requires-11
+    typed-length-requires-12
+    typed-length-requires-13
+    typed-length-requires-14
+    typed-length-requires-15
+    typed-length-requires-16
+    typed-length-requires-17
+    typed-length-requires-18
+    typed-length-requires-19
+    typed-length-requires-20
     returns
     returns-2
     returns-3
@@ -171,4 +325,22 @@ accepted-length-spec =
     returns-14
     returns-15
     returns-16
-    returns-17)
+    returns-17
+    returns-18
+    returns-19
+    returns-20
+    returns-21
+    returns-22
+    returns-23
+    returns-24
+    returns-25
+    returns-26
+    returns-27
+    returns-28
+    returns-29
+    returns-30
+    returns-31
+    returns-32
+    returns-33
+    returns-34
+    returns-35)

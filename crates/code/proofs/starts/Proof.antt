@@ -17,7 +17,7 @@ lay-requires c κs = search needs
 
 returns : tie.Need-returns
 unfolding judgeCodeFor
-returns c = (c .before .lay .ensures .size, c .before .lay .ensures .marked (c .before .lay .ensures .right ∙ next-zero _ _ (c .before .before .before .before .before .pre .1) .0))
+returns c = (c .before .lay .ensures .size ∙ c .before .before .before .cleared .ensures .0, c .before .lay .ensures .marked (c .before .lay .ensures .right ∙ next-zero _ _ (c .before .before .before .before .before .pre .1) .0))
 
 pub starts-spec : {M : Type 1} → statement M
 starts-spec = tie.close (tie.spec cleared-requires slice-aggregate-lay lay-requires returns)

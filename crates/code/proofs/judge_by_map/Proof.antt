@@ -5,14 +5,8 @@ use Rattle.verdict.proofs.Verdict.{skip, halt, yes, no}
 use Rattle.code.specs.Code.{judgeCodeFor}
 use Rattle.code.proofs.Laying.{targets-wanted, targets-right, first-refused, first-none}
 use borrow.Author.Needs.{needs}
-use Rattle.code.proofs.judge_code_for.Statement.{statement}
-use Rattle.code.proofs.judge_code_for.Tie as tie
-
-cleared-requires : tie.Need-cleared-requires
-cleared-requires c κs = search needs
-
-slice-aggregate-lay : tie.Need-slice-aggregate-lay
-slice-aggregate-lay c = search needs
+use Rattle.code.proofs.judge_by_map.Statement.{statement}
+use Rattle.code.proofs.judge_by_map.Tie as tie
 
 lay-requires : tie.Need-lay-requires
 lay-requires c κs = search needs
@@ -23,52 +17,62 @@ outside-refusal-requires c κs = search needs
 first-refusal-requires : tie.Need-first-refusal-requires
 first-refusal-requires c κs = search needs
 
-returns : tie.Need-returns
-returns c = first-refused _ _ _ _ _ (c .before .before .before .before .lay .ensures) _ _ (c .before .before .outside-refusal .ensures) (c .before .first-refusal .ensures) (c .if1 .taken)
+same-length : tie.Need-same-length
+same-length c = search needs
 
-slice-aggregate-all-met : tie.Need-slice-aggregate-all-met
-slice-aggregate-all-met c = search needs
+returns : tie.Need-returns
+returns c = first-refused _ _ _ _ _ (c .before .before .before .before .before .lay .ensures) _ _ (c .before .before .outside-refusal .ensures) (c .before .first-refusal .ensures) (c .if1 .taken)
 
 all-met-requires : tie.Need-all-met-requires
 all-met-requires c κs = search needs
 
+same-length-2 : tie.Need-same-length-2
+same-length-2 c = search needs
+
 returns-2 : tie.Need-returns-2
 unfolding judgeCodeFor
 returns-2 c =
-    let pass = c .before .before .before .before .before .before .before .lay .ensures in
+    let pass = c .before .before .before .before .before .before .before .before .lay .ensures in
     let first = first-none _ _ _ _ _ pass _ _ (c .before .before .before .before .before .outside-refusal .ensures) (c .before .before .before .before .first-refusal .ensures) (c .before .before .before .if1 .left) in
     skip (sym (pass .right) ∙ first .0) (halt 6 _ (no _ _ (targets-wanted _ _ _ _ _ _ pass (first .0) (c .before .all-met .ensures) (not-true _ (c .if2 .taken)))))
+
+same-length-3 : tie.Need-same-length-3
+same-length-3 c = search needs
 
 returns-3 : tie.Need-returns-3
 unfolding judgeCodeFor
 returns-3 c =
-    let pass = c .before .before .before .before .before .before .before .before .before .lay .ensures in
+    let pass = c .before .before .before .before .before .before .before .before .before .before .lay .ensures in
     let first = first-none _ _ _ _ _ pass _ _ (c .before .before .before .before .before .before .before .outside-refusal .ensures) (c .before .before .before .before .before .before .first-refusal .ensures) (c .before .before .before .before .before .if1 .left) in
     skip (sym (pass .right) ∙ first .0)
     (skip (yes _ _ (targets-right _ _ _ _ _ _ pass (first .0) (first .1) (c .before .before .before .all-met .ensures) (not-false _ (c .before .before .if2 .left))))
     (sym (no _ _ (rw (sym (pass .latest (first .0))) (le-ltb _ _ (c .if3 .taken))))))
 
+same-length-4 : tie.Need-same-length-4
+same-length-4 c = search needs
+
 returns-4 : tie.Need-returns-4
 unfolding judgeCodeFor
 returns-4 c =
-    let pass = c .before .before .before .before .before .before .before .before .before .lay .ensures in
+    let pass = c .before .before .before .before .before .before .before .before .before .before .lay .ensures in
     let first = first-none _ _ _ _ _ pass _ _ (c .before .before .before .before .before .before .before .outside-refusal .ensures) (c .before .before .before .before .before .before .first-refusal .ensures) (c .before .before .before .before .before .if1 .left) in
     skip (sym (pass .right) ∙ first .0)
     (skip (yes _ _ (targets-right _ _ _ _ _ _ pass (first .0) (first .1) (c .before .before .before .all-met .ensures) (not-false _ (c .before .before .if2 .left))))
     (sym (yes _ _ (rw (sym (pass .latest (first .0))) (lt-ltb _ _ (c .if3 .left))))))
 
-pub judge-code-for-spec : {M : Type 1} → statement M
-judge-code-for-spec =
+pub judge-by-map-spec : {M : Type 1} → statement M
+judge-by-map-spec =
     tie.close
     (tie.spec
-    cleared-requires
-    slice-aggregate-lay
     lay-requires
     outside-refusal-requires
     first-refusal-requires
+    same-length
     returns
-    slice-aggregate-all-met
     all-met-requires
+    same-length-2
     returns-2
+    same-length-3
     returns-3
+    same-length-4
     returns-4)
