@@ -4,3 +4,4 @@ pub mod Tasks
 pub mod Set
 pub mod Fit
 pub mod Preparing
+pub mod Places

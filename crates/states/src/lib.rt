@@ -11,6 +11,7 @@ ghost use Rattle.taskset.specs.Trace.{traceLayout};
 ghost use Rattle.states.specs.Set.{Set};
 ghost use Rattle.states.specs.Tasks.{noTask, coreTask, taskAt, tasksOf};
 ghost use Rattle.states.specs.Fit.{entry, placesFit, offsetsFit, depthFit, exchangeFit, cyclesFit, holderFit, freedAt, freedFit, executionFit, exchangesFit, fitAt, mayWait, lineFit, stateRefusal};
+ghost use Rattle.states.specs.Places.{AcceptedCode, MapOrNone};
 ghost use Rattle.states.specs.Preparing.{prepared};
 use protocol::Registers;
 use semaphore::Semaphore;
@@ -121,33 +122,76 @@ const FLAGS: u8 = 128; // above the lawful flag bits: bit 7 alone is none
 
 const LINE: usize = 4; // entries of a line
 
-// An instruction starts at a place of accepted code; place 0 is the start of the first.
-fn starts(code: &[u8], place: u16) -> bool
-    requires { ⌜ isStart (now code) 0 ≡ true ⌝ }
+const CLEARED: usize = 2048; // bytes of code that a walk passes over while a map of starts is cleared
+
+// An instruction starts at a place of accepted code: by its map of starts, or by a walk where the map is empty. Place 0 is the start of the first.
+fn starts(code: &[u8], marks: &[u8], place: u16) -> bool
+    requires { ⌜ (isStart (now code) 0 ≡ true) × MapOrNone (now code) (now marks) ⌝ }
     ensures { λ r. ⌜ r ≡ isStart (now (code .entry)) place ⌝ }
 {
     if place == 0 {
         return true;
     }
-    code::is_start(code, place as usize)
+    if marks.len() == 0 {
+        return code::is_start(code, place as usize);
+    }
+    memory::byte_at(marks, place as usize) == 1
 }
 
 // Program counter and return places start instructions.
-fn places_fit(code: &[u8], r: Registers, places: &[u16; 64], k: usize) -> bool
-    requires { ⌜ (isStart (now code) 0 ≡ true) × (k < 4) ⌝ }
+fn places_start(code: &[u8], marks: &[u8], r: Registers, places: &[u16; 64], k: usize) -> bool
+    requires { ⌜ (isStart (now code) 0 ≡ true) × MapOrNone (now code) (now marks) × (k < 4) ⌝ }
     ensures { λ ok. ⌜ ok ≡ placesFit (now (code .entry)) r (entry (now (places .entry)) k) ⌝ }
 {
-    if !starts(code, r.counter) {
+    if !starts(code, marks, r.counter) {
         return false;
     }
     let mut i: usize = 0;
     while i < ENTRIES {
-        if !starts(code, places[ENTRIES * k + i]) {
+        if !starts(code, marks, places[ENTRIES * k + i]) {
             return false;
         }
         i += 1;
     }
     true
+}
+
+// The bytes before a place.
+fn bytes_before(place: u16) -> u32
+    ensures { λ r. ⌜ (r ≡ place) × (r < 65536) ⌝ }
+{
+    place as u32
+}
+
+// The bytes that walks to the places of core k pass over, all together. Where no call is open the return places of a fit core are 0.
+fn walked(r: Registers, places: &[u16; 64], k: usize) -> u32
+    requires { ⌜ k < 4 ⌝ }
+    ensures { λ n. ⌜ n < 1200000 ⌝ }
+{
+    let mut sum = bytes_before(r.counter);
+    if r.depth == 0 {
+        return sum;
+    }
+    let mut i: usize = 0;
+    while i < ENTRIES {
+        sum = sum + bytes_before(places[ENTRIES * k + i]);
+        i += 1;
+    }
+    sum
+}
+
+// By walks where they pass over little, and else by a map, which one pass over the code makes: a byte of a walk takes up to twice the time of a byte of the
+// pass, and the map is to be cleared.
+fn places_fit(code: &[u8], r: Registers, places: &[u16; 64], k: usize) -> bool
+    requires { ⌜ AcceptedCode (now code) × (k < 4) ⌝ }
+    ensures { λ ok. ⌜ ok ≡ placesFit (now (code .entry)) r (entry (now (places .entry)) k) ⌝ }
+{
+    if 2 * walked(r, places, k) as usize <= code.len() + CLEARED {
+        let none = [0u8; 1];
+        return places_start(code, &none[..0], r, places, k);
+    }
+    let marks = code::starts(code);
+    places_start(code, &marks, r, places, k)
 }
 
 // An offset doesn't reach the data size.
@@ -266,7 +310,7 @@ fn execution_fit(
     offsets: &[u16; 64],
     k: usize,
 ) -> bool
-    requires { ⌜ (isStart (now code) 0 ≡ true) × (k < 4) ⌝ }
+    requires { ⌜ AcceptedCode (now code) × (k < 4) ⌝ }
     ensures { λ ok. ⌜ ok ≡ executionFit (now (code .entry)) (task .size) (task .limit) r (entry (now (places .entry)) k) (entry (now (offsets .entry)) k) ⌝ }
 {
     if protocol::STOPPED < r.mode {
@@ -308,13 +352,14 @@ fn core_fit(file: &[u8], trace: &[u8], task: CoreTask, s: State, k: usize) -> bo
     let offsets = s.offsets;
     let from = task.code;
     let to = from + task.length;
+    // first, so that a core with no call open has no return place
+    if !freed_fit(r, &places, &offsets, k) {
+        return false;
+    }
     if !execution_fit(&file[from..to], task, r, &places, &offsets, k) {
         return false;
     }
     if !exchanges_fit(task, s.semaphore.holder, k, r) {
-        return false;
-    }
-    if !freed_fit(r, &places, &offsets, k) {
         return false;
     }
     r.flags < FLAGS

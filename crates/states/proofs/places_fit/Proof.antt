@@ -1,79 +1,58 @@
--- Every entry passed starts an instruction.
-use mathlib.Core.Path.{sym, _∙_}
-use Prim.Native.Nat.{_-_}
-use native.Mathlib.Omega.{arith}
+-- The map is that of the code, and no map is needed where there is none.
+use mathlib.Core.Path.{refl}
 use borrow.Author.Needs.{needs}
-use borrow.Author.Tests.{not-true, not-false}
-use Rattle.code.specs.Code.{isStart}
-use Rattle.states.specs.Fit.{entry, placesFit}
-use Rattle.states.proofs.Says.{Passing, passing-none, passing-more, passing-stop, passing-end, rejects, admits}
 use Rattle.states.proofs.places_fit.Statement.{statement}
 use Rattle.states.proofs.places_fit.Tie as tie
 
-abbrev Inv-loop : tie.InvT-loop
-Inv-loop code places k i₀ i = Passing (λ j. isStart code (entry places k j)) 16 i
+walked-requires : tie.Need-walked-requires
+walked-requires c κs = search needs
 
-abbrev μ-loop : tie.MeasureT-loop
-μ-loop code places k i₀ i = 16 - i
+cast-if1 : tie.Need-cast-if1
+cast-if1 c = search needs
 
-starts-requires : tie.Need-starts-requires Inv-loop μ-loop
-starts-requires c κs = c .before .pre .0
+mul-if1 : tie.Need-mul-if1
+mul-if1 c = search needs
 
-returns : tie.Need-returns Inv-loop μ-loop
-unfolding placesFit
-returns c = rejects _ (c .before .starts .ensures) (c .if1 .taken)
+add-if1 : tie.Need-add-if1
+add-if1 c = search needs
 
-loop-holds : tie.Need-loop-holds Inv-loop μ-loop
-loop-holds c = passing-none _ _
+array-share-prefix-none : tie.Need-array-share-prefix-none
+array-share-prefix-none c = search needs
 
-mul-starts : tie.Need-mul-starts Inv-loop μ-loop
-mul-starts c = search needs
+slice-aggregate-places-start : tie.Need-slice-aggregate-places-start
+slice-aggregate-places-start c = search needs
 
-add-starts : tie.Need-add-starts Inv-loop μ-loop
-add-starts c = search needs
+places-start-requires : tie.Need-places-start-requires
+places-start-requires c κs = (c .before .before .before .before .pre .0 .start, λ h. absurd (h refl), c .before .before .before .before .pre .1)
 
-mul-starts-2 : tie.Need-mul-starts-2 Inv-loop μ-loop
-mul-starts-2 c = search needs
+returns : tie.Need-returns
+returns c = search needs
 
-element-copy-out-starts : tie.Need-element-copy-out-starts Inv-loop μ-loop
-element-copy-out-starts c = search needs
+starts-requires : tie.Need-starts-requires
+starts-requires c κs = (c .before .before .before .pre .0 .short, c .before .before .before .pre .0 .accepted)
 
-starts-requires-2 : tie.Need-starts-requires-2 Inv-loop μ-loop
-starts-requires-2 c κs = c .before .before .before .before .before .before .pre .0
+slice-aggregate-places-start-2 : tie.Need-slice-aggregate-places-start-2
+slice-aggregate-places-start-2 c = search needs
 
-returns-2 : tie.Need-returns-2 Inv-loop μ-loop
-unfolding placesFit
-returns-2 c = admits (c .before .before .before .before .before .before .starts .ensures) (c .before .before .before .before .before .if1 .left) (passing-stop _ 16 _ (c .before .before .before .before .loop .inv) (c .before .before .before .loop-test .taken) (sym (c .before .starts2 .ensures) ∙ not-true _ (c .if2 .taken)))
+places-start-requires-2 : tie.Need-places-start-requires-2
+places-start-requires-2 c κs = (c .before .before .before .before .before .pre .0 .start, λ _. c .before .starts .ensures .1, c .before .before .before .before .before .pre .1)
 
-add-i : tie.Need-add-i Inv-loop μ-loop
-add-i c = omega arith
-
-loop-less : tie.Need-loop-less Inv-loop μ-loop
-loop-less c = omega arith
-
-loop-again : tie.Need-loop-again Inv-loop μ-loop
-loop-again c = passing-more _ 16 _ (c .before .before .before .before .loop .inv) (c .before .before .before .loop-test .taken) (sym (c .before .starts2 .ensures) ∙ not-false _ (c .if2 .left))
-
-returns-3 : tie.Need-returns-3 Inv-loop μ-loop
-unfolding placesFit
-returns-3 c = admits (c .before .before .before .starts .ensures) (c .before .before .if1 .left) (passing-end _ 16 _ (c .before .loop .inv) (c .loop-test .left))
+returns-2 : tie.Need-returns-2
+returns-2 c = search needs
 
 pub places-fit-spec : {M : Type 1} → statement M
 places-fit-spec =
     tie.close
     (tie.spec
-    Inv-loop
-    μ-loop
-    starts-requires
+    walked-requires
+    cast-if1
+    mul-if1
+    add-if1
+    array-share-prefix-none
+    slice-aggregate-places-start
+    places-start-requires
     returns
-    loop-holds
-    mul-starts
-    add-starts
-    mul-starts-2
-    element-copy-out-starts
-    starts-requires-2
-    returns-2
-    add-i
-    loop-less
-    loop-again
-    returns-3)
+    starts-requires
+    slice-aggregate-places-start-2
+    places-start-requires-2
+    returns-2)
