@@ -80,75 +80,75 @@ unfolding instructionLength instructionAt typedAt lengthOf rowOf pick
 packed-length-requires-2 c κs = (c .before .before .before .pre, record { own = λ _. rw (c .match .keys16); all = λ _. rw (c .match .keys16) }, rw (c .match .keys16))
 
 typed-length-requires-2 : tie.Need-typed-length-requires-2
-unfolding instructionLength instructionAt typedAt lengthOf layoutOf pick
+unfolding instructionLength instructionAt typedAt lengthOf rowOf pick
 typed-length-requires-2 c κs = (c .before .before .before .pre, omega arith, record { own = λ _. rw (c .match .keys17); all = λ _. rw (c .match .keys17) }, rw (c .match .keys17))
 
 typed-length-requires-3 : tie.Need-typed-length-requires-3
-unfolding instructionLength instructionAt typedAt lengthOf layoutOf pick
+unfolding instructionLength instructionAt typedAt lengthOf rowOf pick
 typed-length-requires-3 c κs = (c .before .before .before .pre, omega arith, record { own = λ _. rw (c .match .keys18); all = λ _. rw (c .match .keys18) }, rw (c .match .keys18))
 
 typed-length-requires-4 : tie.Need-typed-length-requires-4
-unfolding instructionLength instructionAt typedAt lengthOf layoutOf pick
+unfolding instructionLength instructionAt typedAt lengthOf rowOf pick
 typed-length-requires-4 c κs = (c .before .before .before .pre, omega arith, record { own = λ _. rw (c .match .keys19); all = λ _. rw (c .match .keys19) }, rw (c .match .keys19))
 
 typed-length-requires-5 : tie.Need-typed-length-requires-5
-unfolding instructionLength instructionAt typedAt lengthOf layoutOf pick
+unfolding instructionLength instructionAt typedAt lengthOf rowOf pick
 typed-length-requires-5 c κs = (c .before .before .before .pre, omega arith, record { own = λ _. rw (c .match .keys20); all = λ _. rw (c .match .keys20) }, rw (c .match .keys20))
 
 typed-length-requires-6 : tie.Need-typed-length-requires-6
-unfolding instructionLength instructionAt typedAt lengthOf layoutOf pick
+unfolding instructionLength instructionAt typedAt lengthOf rowOf pick
 typed-length-requires-6 c κs = (c .before .before .before .pre, omega arith, record { own = λ _. rw (c .match .keys21); all = λ _. rw (c .match .keys21) }, rw (c .match .keys21))
 
 typed-length-requires-7 : tie.Need-typed-length-requires-7
-unfolding instructionLength instructionAt typedAt lengthOf layoutOf pick
+unfolding instructionLength instructionAt typedAt lengthOf rowOf pick
 typed-length-requires-7 c κs = (c .before .before .before .pre, omega arith, record { own = λ _. rw (c .match .keys22); all = λ _. rw (c .match .keys22) }, rw (c .match .keys22))
 
 typed-length-requires-8 : tie.Need-typed-length-requires-8
-unfolding instructionLength instructionAt typedAt lengthOf layoutOf pick
+unfolding instructionLength instructionAt typedAt lengthOf rowOf pick
 typed-length-requires-8 c κs = (c .before .before .before .pre, omega arith, record { own = λ _. rw (c .match .keys23); all = λ _. rw (c .match .keys23) }, rw (c .match .keys23))
 
 typed-length-requires-9 : tie.Need-typed-length-requires-9
-unfolding instructionLength instructionAt typedAt lengthOf layoutOf pick
+unfolding instructionLength instructionAt typedAt lengthOf rowOf pick
 typed-length-requires-9 c κs = (c .before .before .before .pre, omega arith, record { own = λ _. rw (c .match .keys24); all = λ _. rw (c .match .keys24) }, rw (c .match .keys24))
 
 typed-length-requires-10 : tie.Need-typed-length-requires-10
-unfolding instructionLength instructionAt typedAt lengthOf layoutOf pick
+unfolding instructionLength instructionAt typedAt lengthOf rowOf pick
 typed-length-requires-10 c κs = (c .before .before .before .pre, omega arith, record { own = λ _. rw (c .match .keys25); all = λ _. rw (c .match .keys25) }, rw (c .match .keys25))
 
 typed-length-requires-11 : tie.Need-typed-length-requires-11
-unfolding instructionLength instructionAt typedAt lengthOf layoutOf pick
+unfolding instructionLength instructionAt typedAt lengthOf rowOf pick
 typed-length-requires-11 c κs = (c .before .before .before .pre, omega arith, record { own = λ _. rw (c .match .keys26); all = λ _. rw (c .match .keys26) }, rw (c .match .keys26))
 
 typed-length-requires-12 : tie.Need-typed-length-requires-12
-unfolding instructionLength instructionAt typedAt lengthOf layoutOf pick
+unfolding instructionLength instructionAt typedAt lengthOf rowOf pick
 typed-length-requires-12 c κs = (c .before .before .before .pre, omega arith, record { own = λ _. rw (c .match .keys27); all = λ _. rw (c .match .keys27) }, rw (c .match .keys27))
 
 typed-length-requires-13 : tie.Need-typed-length-requires-13
-unfolding instructionLength instructionAt typedAt lengthOf layoutOf pick
+unfolding instructionLength instructionAt typedAt lengthOf rowOf pick
 typed-length-requires-13 c κs = (c .before .before .before .pre, omega arith, record { own = λ _. rw (c .match .keys28); all = λ _. rw (c .match .keys28) }, rw (c .match .keys28))
 
 typed-length-requires-14 : tie.Need-typed-length-requires-14
-unfolding instructionLength instructionAt typedAt lengthOf layoutOf pick
+unfolding instructionLength instructionAt typedAt lengthOf rowOf pick
 typed-length-requires-14 c κs = (c .before .before .before .pre, omega arith, record { own = λ _. rw (c .match .keys29); all = λ _. rw (c .match .keys29) }, rw (c .match .keys29))
 
 typed-length-requires-15 : tie.Need-typed-length-requires-15
-unfolding instructionLength instructionAt typedAt lengthOf layoutOf pick
+unfolding instructionLength instructionAt typedAt lengthOf rowOf pick
 typed-length-requires-15 c κs = (c .before .before .before .pre, omega arith, record { own = λ _. rw (c .match .keys30); all = λ _. rw (c .match .keys30) }, rw (c .match .keys30))
 
 typed-length-requires-16 : tie.Need-typed-length-requires-16
-unfolding instructionLength instructionAt typedAt lengthOf layoutOf pick
+unfolding instructionLength instructionAt typedAt lengthOf rowOf pick
 typed-length-requires-16 c κs = (c .before .before .before .pre, omega arith, record { own = λ _. rw (c .match .keys31); all = λ _. rw (c .match .keys31) }, rw (c .match .keys31))
 
 typed-length-requires-17 : tie.Need-typed-length-requires-17
-unfolding instructionLength instructionAt typedAt lengthOf layoutOf pick
+unfolding instructionLength instructionAt typedAt lengthOf rowOf pick
 typed-length-requires-17 c κs = (c .before .before .before .pre, omega arith, record { own = λ _. rw (c .match .keys32); all = λ _. rw (c .match .keys32) }, rw (c .match .keys32))
 
 typed-length-requires-18 : tie.Need-typed-length-requires-18
-unfolding instructionLength instructionAt typedAt lengthOf layoutOf pick
+unfolding instructionLength instructionAt typedAt lengthOf rowOf pick
 typed-length-requires-18 c κs = (c .before .before .before .pre, omega arith, record { own = λ _. rw (c .match .keys33); all = λ _. rw (c .match .keys33) }, rw (c .match .keys33))
 
 typed-length-requires-19 : tie.Need-typed-length-requires-19
-unfolding instructionLength instructionAt typedAt lengthOf layoutOf pick
+unfolding instructionLength instructionAt typedAt lengthOf rowOf pick
 typed-length-requires-19 c κs = (c .before .before .before .pre, omega arith, record { own = λ _. rw (c .match .keys34); all = λ _. rw (c .match .keys34) }, rw (c .match .keys34))
 
 typed-length-requires-20 : tie.Need-typed-length-requires-20
