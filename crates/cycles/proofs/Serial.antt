@@ -7,6 +7,7 @@ use Prim.Native.Nat.{ℕ, _≤_, _<_}
 use lib.Dec.{T, ltb}
 use lib.ListN.{length, getD, List·getD-eq-default}
 use borrow.Author.Tests.{eq-eqb, ltb-true, ltb-false}
+use Rattle.verdict.specs.Verdict.{pick}
 use Rattle.verdict.proofs.Verdict.{next-zero, pick-true, by-pick}
 use Rattle.protocol.specs.State.{Core, State, core, mode, absent}
 use Rattle.protocol.specs.Step.{step, stepIn, run}
@@ -58,7 +59,7 @@ step-by-step f t ks x =
 
 -- a core number from n on: the step changes nothing
 step-none : (f t : List ℕ) (s : State) → Fit f t s → (k : ℕ) → cores f ≤ k → step (taskOf f t) k s ≡ s
-unfolding step
+unfolding step pick
 step-none f t s fit k l =
     let e : core (s .plant) k ≡ absent = List·getD-eq-default (s .plant .cores) absent (subst (λ (n : ℕ). n ≤ k) (sym (fit .table)) l) in
     ap (λ (c : Core). stepIn (mode c) (taskOf f t) k c s) e

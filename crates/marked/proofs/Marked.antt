@@ -30,7 +30,7 @@ stands k (x ∷ xs) = by-pick (λ b. b ≡ true) (eqb x k) true (inLine k (xs ++
 
 -- a step in mode 3 while the semaphore is held waits
 held-waits : (t : Task) (k : ℕ) (s : State) → mode (core (s .plant) k) ≡ 3 → 0 < s .semaphore .holder → step t k s ≡ wait k s
-unfolding step
+unfolding step pick
 held-waits t k s e h = rw e (go (s .semaphore .holder) h)
   where
     go : (h : ℕ) → 0 < h → takeWrite (turnIn h (s .semaphore .line) k) k (core (s .plant) k) s ≡ wait k s

@@ -8,6 +8,7 @@ use Prim.Native.Nat.{ℕ, zero, suc, _+_, _-_, _≤_, _<_}
 use native.Mathlib.Omega.{arith}
 use lib.ListN.{length, take, drop}
 use lib.Seq.{getD-set-same, set-getD}
+use Rattle.protocol.proofs.View.{stopped-step}
 use Rattle.verdict.specs.Verdict.{pick}
 use Rattle.verdict.proofs.Verdict.{pick-true}
 use Rattle.memory.specs.Memory.{splice}
@@ -47,6 +48,7 @@ module _ (t : Task) (k : ℕ) (r : Registers) (d sh : List ℕ) (h : Semaphore) 
 
   -- mode 0, with the records that are left and whether it is the core's turn
   step-0 : r .mode ≡ 0 → (l : List Sample) → drop (r .cycles) (t .samples k) ≡ l → (b : Bool) → turn h k ≡ b → step t k s ≡ takeRead l b k (core (s .plant) k) s
+  unfolding pick
   step-0 m l e b u =
       step-in t k s 0 (mode-is 0 m)
       ∙ ap (λ (u : List Sample). takeRead u (turn (s .semaphore) k) k (core (s .plant) k) s) (ap (λ (q : Registers). drop (q .cycles) (t .samples k)) (x .registers) ∙ e)
@@ -54,6 +56,7 @@ module _ (t : Task) (k : ℕ) (r : Registers) (d sh : List ℕ) (h : Semaphore) 
 
   -- mode 1, with the bytes that are left
   step-1 : r .mode ≡ 1 → (l : List Move) → drop (r .exchange) (t .reads k) ≡ l → step t k s ≡ readOn (drop 1 l) (copy (take 1 l) sh d) k (core (s .plant) k) s
+  unfolding pick
   step-1 m l e =
       step-in t k s 1 (mode-is 1 m)
       ∙ ap (λ (u : List Move). readOn (drop 1 u) (copy (take 1 u) (s .plant .shared) (core (s .plant) k .memory)) k (core (s .plant) k) s)
@@ -61,13 +64,16 @@ module _ (t : Task) (k : ℕ) (r : Registers) (d sh : List ℕ) (h : Semaphore) 
       ∙ ap₂ (λ (u v : List ℕ). readOn (drop 1 l) (copy (take 1 l) u v) k (core (s .plant) k) s) (x .shared) (x .memory)
 
   step-2 : r .mode ≡ 2 → step t k s ≡ record { plant = put (s .plant) k (t .instruction k (core (s .plant) k)); semaphore = s .semaphore }
+  unfolding pick
   step-2 m = step-in t k s 2 (mode-is 2 m)
 
   step-3 : r .mode ≡ 3 → (b : Bool) → turn h k ≡ b → step t k s ≡ takeWrite b k (core (s .plant) k) s
+  unfolding pick
   step-3 m b u = step-in t k s 3 (mode-is 3 m) ∙ ap (λ (u : Bool). takeWrite u k (core (s .plant) k) s) (turn-is b u)
 
   -- mode 4, with the bytes that are left
   step-4 : r .mode ≡ 4 → (l : List Move) → drop (r .exchange) (t .writes k) ≡ l → step t k s ≡ writeOn (drop 1 l) (copy (take 1 l) d sh) k (core (s .plant) k) s
+  unfolding pick
   step-4 m l e =
       step-in t k s 4 (mode-is 4 m)
       ∙ ap (λ (u : List Move). writeOn (drop 1 u) (copy (take 1 u) (core (s .plant) k .memory) (s .plant .shared)) k (core (s .plant) k) s)
@@ -75,7 +81,7 @@ module _ (t : Task) (k : ℕ) (r : Registers) (d sh : List ℕ) (h : Semaphore) 
       ∙ ap₂ (λ (u v : List ℕ). writeOn (drop 1 l) (copy (take 1 l) u v) k (core (s .plant) k) s) (x .memory) (x .shared)
 
   step-5 : (m : ℕ) → r .mode ≡ 5 + m → step t k s ≡ s
-  step-5 m e = step-in t k s (suc (suc (suc (suc (suc m))))) (mode-is (suc (suc (suc (suc (suc m))))) (e ∙ omega arith))
+  step-5 m e = step-in t k s (5 + m) (mode-is (5 + m) e) ∙ stopped-step (5 + m) t k (core (s .plant) k) s (omega arith)
 
 -- core k after an effect
 by-effected : (k : ℕ) (z : Effect) (d′ sh′ : List ℕ) (s : State) → k < length (s .plant .cores) → mode (core (effected z k d′ sh′ s .plant) k) ≡ registersBy z (core (s .plant) k) .mode

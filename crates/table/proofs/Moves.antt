@@ -6,7 +6,7 @@ use mathlib.Core.Bool.{Bool, true, false}
 use mathlib.Core.List.{List, [], _∷_}
 use Prim.Native.Nat.{ℕ, zero, suc, _+_, _<_}
 use native.Mathlib.Omega.{arith}
-use borrow.Author.Tests.{lt-ltb, le-ltb, ltb-true, ltb-false}
+use borrow.Author.Tests.{lt-ltb, le-ltb, ltb-true, ltb-false, ne-eqb}
 use lib.Dec.{ltb}
 use lib.ListN.{length, drop, length-drop, length-append, drop-of-length-le}
 use Rattle.verdict.specs.Verdict.{pick}
@@ -23,12 +23,8 @@ use Rattle.table.specs.Table.{goesOn, canMoveIn, canMove}
 
 -- in every mode but 0 and 3 a core moves until it is stopped
 pub other-modes : (m : ℕ) (goes : Bool) (count cycles : ℕ) → m ≢ 0 → m ≢ 3 → ltb m 5 ≡ canMoveIn m goes count cycles
-other-modes zero h n c a b = absurd (a refl)
-other-modes (suc zero) h n c a b = refl
-other-modes (suc (suc zero)) h n c a b = refl
-other-modes (suc (suc (suc zero))) h n c a b = absurd (b refl)
-other-modes (suc (suc (suc (suc zero)))) h n c a b = refl
-other-modes (suc (suc (suc (suc (suc m))))) h n c a b = le-ltb (suc (suc (suc (suc (suc m))))) 5 (omega arith)
+unfolding pick
+other-modes m h n c a b = rw (ne-eqb m 0 a, ne-eqb m 3 b)
 
 -- ---- steps
 
@@ -62,6 +58,7 @@ module _ (t : Task) (k : ℕ) (s : State) where
   able = canMove (s .semaphore) k (length (t .samples k)) (at s k .registers)
 
   resting : Idle t k s → (m : ℕ) → mode (at s k) ≡ m → canMoveIn m (goesOn (s .semaphore) k) (length (t .samples k)) (at s k .registers .cycles) ≡ false
+  unfolding pick
   resting z zero e =
       both-not (goesOn (s .semaphore) k) (ltb (at s k .registers .cycles) (length (t .samples k)))
       (λ a b.
@@ -72,7 +69,7 @@ module _ (t : Task) (k : ℕ) (s : State) where
   resting z (suc (suc zero)) e = absurd (z .still .1 e)
   resting z (suc (suc (suc zero))) e = absurd (z .no-write e)
   resting z (suc (suc (suc (suc zero)))) e = absurd (z .still .2 e)
-  resting z (suc (suc (suc (suc (suc m))))) e = refl
+  resting z (suc (suc (suc (suc (suc m))))) e = sym (other-modes (suc (suc (suc (suc (suc m))))) _ _ _ (λ q. let y : ⊥ = omega arith in y) (λ q. let y : ⊥ = omega arith in y)) ∙ le-ltb (suc (suc (suc (suc (suc m))))) 5 (omega arith)
 
   -- a core that waits: it joins, or it stands in line and nothing changes
   some-left : drop (at s k .registers .cycles) (t .samples k) ≢ [] → ltb (at s k .registers .cycles) (length (t .samples k)) ≡ true
@@ -83,7 +80,7 @@ module _ (t : Task) (k : ℕ) (s : State) where
       go false e = absurd (n (drop-of-length-le (t .samples k) {i = at s k .registers .cycles} (ltb-false _ _ e)))
 
   able-is : Wants t k s → able ≡ goesOn (s .semaphore) k
-  unfolding canMove
+  unfolding canMove pick
   able-is (inl z) = rw (z .0, some-left (z .1)) (both-swap (goesOn (s .semaphore) k) true)
   able-is (inr z) = rw z
 
@@ -97,7 +94,7 @@ module _ (t : Task) (k : ℕ) (s : State) where
       omega arith)
 
   seen : Laws t → (s′ : State) (ts : List Taking) → Moves t k s s′ ts → Seen able s s′
-  unfolding canMove readTaken readAcquired readNext byteCopied readDone readReleased writeTaken writeAcquired writeNext writeDone writeReleased
+  unfolding canMove readTaken readAcquired readNext byteCopied readDone readReleased writeTaken writeAcquired writeNext writeDone writeReleased pick
   seen l s′ ts (rests z) = stays (resting z _ refl) refl
   seen l s′ ts (waits i z u) = waiting z u _ refl
   seen l s′ ts (takesRead r rs i f u e d) =

@@ -9,6 +9,7 @@ use native.Mathlib.Omega.{arith}
 use borrow.Author.Tests.{ltb-true, ltb-false, lt-ltb, eq-eqb}
 use lib.Dec.{T, ltb}
 use lib.ListN.{length, getD}
+use Rattle.verdict.specs.Verdict.{pick}
 use Rattle.verdict.proofs.Verdict.{absurd-bool, both-not, either-true}
 use Rattle.verdict.proofs.Truth.{tested}
 use Rattle.protocol.specs.State.{Core as Whole, State, absent, mode}
@@ -134,6 +135,7 @@ module _ (f t : List ℕ) (h : Held) (d sh : List ℕ) (ok : Set f t) (fit : Fit
       go false e = rw e (either-true (turn (whole .semaphore) k))
 
   rest-done : AtRest (taskOf f t) (cores f) whole → Done f t whole
+  unfolding pick
   rest-done s k l = go (mode (at whole k)) refl
     where
       no : moves f t h k ≡ true → ⊥
@@ -155,6 +157,7 @@ module _ (f t : List ℕ) (h : Held) (d sh : List ℕ) (ok : Set f t) (fit : Fit
       go (suc (suc (suc (suc (suc (suc m)))))) e = absurd (let z : ⊥ = omega (arith, fit .each k l .modes) in z)
 
   done-rest : Done f t whole → AtRest (taskOf f t) (cores f) whole
+  unfolding pick
   done-rest x k l = resting-stays (seen k l) (go (x k l))
     where
       go : DoneAt f t whole k → moves f t h k ≡ false

@@ -2,6 +2,7 @@
 use mathlib.Core.Path.{_∙_}
 use mathlib.Core.Bool.{true, false}
 use borrow.Author.Tests.{lt-ltb, le-ltb}
+use Rattle.verdict.specs.Verdict.{pick}
 use Rattle.verdict.proofs.Truth.{both-swap}
 use Rattle.semaphore.specs.Line.{semaphoreOf}
 use Rattle.table.specs.Table.{goesOn, canMove}
@@ -14,25 +15,25 @@ cast-if2 : tie.Need-cast-if2
 cast-if2 c = search needs
 
 returns : tie.Need-returns
-unfolding canMove
+unfolding canMove pick
 returns c = rw (c .before .before .if1 .taken, le-ltb _ _ (c .if2 .taken)) (both-swap false (goesOn (semaphoreOf (c .before .before .before .before .args .m)) (c .before .before .before .before .args .k)))
 
 goes-on-requires : tie.Need-goes-on-requires
 goes-on-requires c κs = search needs
 
 returns-2 : tie.Need-returns-2
-unfolding canMove
+unfolding canMove pick
 returns-2 c = rw (c .before .before .before .if1 .taken, lt-ltb _ _ (c .before .if2 .left)) (c .goes-on .ensures ∙ both-swap true (goesOn (semaphoreOf (c .before .before .before .before .before .args .m)) (c .before .before .before .before .before .args .k)))
 
 goes-on-requires-2 : tie.Need-goes-on-requires-2
 goes-on-requires-2 c κs = search needs
 
 returns-3 : tie.Need-returns-3
-unfolding canMove
+unfolding canMove pick
 returns-3 c = rw (c .before .if3 .taken) (c .goes-on2 .ensures)
 
 returns-4 : tie.Need-returns-4
-unfolding canMove
+unfolding canMove pick
 returns-4 c = other-modes _ _ _ _ (c .before .before .before .if1 .left) (c .before .if3 .left)
 
 pub can-move-spec : {M : Type 1} → statement M
