@@ -92,6 +92,7 @@ module _ (f t : List ℕ) (h : Held) (d sh : List ℕ) (ok : Set f t) (fit : Fit
 
   -- where no step changes anything the semaphore is free: its holder, in an exchange, would move
   free : AtRest (taskOf f t) (cores f) whole → (j : ℕ) → whole .semaphore .holder ≡ j → j ≡ 0
+  unfolding pick
   free s zero e = refl
   free s (suc j) e = absurd (go (fit .held .holding j e))
     where
@@ -107,6 +108,7 @@ module _ (f t : List ℕ) (h : Held) (d sh : List ℕ) (ok : Set f t) (fit : Fit
 
   -- and the line is empty: its first core would take it
   nobody : AtRest (taskOf f t) (cores f) whole → (q : List ℕ) → whole .semaphore .line ≡ q → (k : ℕ) → T (inLine k q) → ⊥
+  unfolding pick
   nobody s [] e k i = i
   nobody s (y ∷ ys) e k i = go (fit .line .modes y here)
     where

@@ -33,8 +33,8 @@ unfolding canMove pick
 returns-3 c = rw (c .before .if3 .taken) (c .goes-on2 .ensures)
 
 returns-4 : tie.Need-returns-4
-unfolding canMove pick
-returns-4 c = other-modes _ _ _ _ (c .before .before .before .if1 .left) (c .before .if3 .left)
+unfolding canMove
+returns-4 c = other-modes (c .before .before .before .before .before .args .r .mode) (goesOn (semaphoreOf (c .before .before .before .before .before .args .m)) (c .before .before .before .before .before .args .k)) (c .before .before .before .before .before .args .count) (c .before .before .before .before .before .args .r .cycles) (c .before .before .before .if1 .left) (c .before .if3 .left)
 
 pub can-move-spec : {M : Type 1} → statement M
 can-move-spec =
