@@ -12,21 +12,21 @@ use Rattle.verdict.specs.Verdict.{pick}
 use Rattle.memory.specs.Memory.{byte}
 use Rattle.code.specs.Commands.{Kind, Returns, Jumps, Branches, Calls, Passes, rowOf}
 use Rattle.code.specs.Flow.{kindAt, targetAt, goesTo}
-use Rattle.code.proofs.Laws.{row-passes, without-target}
+use Rattle.code.proofs.Laws.{kind-passes, without-target}
 use Rattle.bounds.specs.Bounds.{countBy, depthBy, rises}
 
 -- ---- kinds
 
 pub kind-returns : (c : List ℕ) (p : ℕ) → byte c p ≡ 0 → kindAt c p ≡ Returns
-unfolding rowOf pick
+unfolding rowOf pick kindAt targetAt
 kind-returns c p e = rw e
 
 pub kind-jumps : (c : List ℕ) (p : ℕ) → byte c p ≡ 1 → kindAt c p ≡ Jumps
-unfolding rowOf pick
+unfolding rowOf pick kindAt targetAt
 kind-jumps c p e = rw e
 
 pub kind-branches : (c : List ℕ) (p : ℕ) → 2 ≤ byte c p → byte c p ≤ 3 → kindAt c p ≡ Branches
-unfolding rowOf pick
+unfolding rowOf pick kindAt targetAt
 kind-branches c p h k = go (eqb (byte c p) 2) refl
   where
     go : (b : Bool) → eqb (byte c p) 2 ≡ b → kindAt c p ≡ Branches
@@ -37,7 +37,7 @@ kind-branches c p h k = go (eqb (byte c p) 2) refl
         rw z
 
 pub kind-calls : (c : List ℕ) (p : ℕ) → 4 ≤ byte c p → byte c p ≤ 5 → kindAt c p ≡ Calls
-unfolding rowOf pick
+unfolding rowOf pick kindAt targetAt
 kind-calls c p h k = go (eqb (byte c p) 4) refl
   where
     go : (b : Bool) → eqb (byte c p) 4 ≡ b → kindAt c p ≡ Calls
@@ -48,9 +48,6 @@ kind-calls c p h k = go (eqb (byte c p) 4) refl
         rw z
 
 -- every other instruction goes on, and has no T
-pub kind-passes : (c : List ℕ) (p : ℕ) → 6 ≤ byte c p → kindAt c p ≡ Passes
-kind-passes c p h = row-passes (byte c p) h
-
 pub no-target : (c : List ℕ) (p : ℕ) → (byte c p ≡ 0) ⊎ (6 ≤ byte c p) → targetAt c p ≡ 0
 no-target c p (inl e) = without-target c p (ap goesTo (kind-returns c p e))
 no-target c p (inr h) = without-target c p (ap goesTo (kind-passes c p h))

@@ -70,7 +70,7 @@ either-T false b t e = t
 
 -- the commands with three addresses have eight bytes
 pub three-length : (code : ℕ) → code < 256 → three code ≡ true → lengthOf code ≡ 8
-unfolding lengthOf rowOf pick
+unfolding lengthOf rowOf pick kindAt targetAt typesAt
 three-length code h e =
     eqb→eq _ _ (either-T _ _ (below (λ k. either (not (three k)) (eqb (lengthOf k) 8)) 256 tt code h) (ap not e))
 
@@ -103,7 +103,7 @@ takes-not code t h e f =
 
 -- no instruction is longer than ten bytes, MCD's own apart
 pub short : (code : ℕ) → code < 256 → lengthOf code ≤ 10
-unfolding lengthOf rowOf pick
+unfolding lengthOf rowOf pick kindAt targetAt typesAt
 short code h = leb→le _ _ (below (λ k. leb (lengthOf k) 10) 256 tt code h)
 
 -- ---- the instruction by its code byte
@@ -148,7 +148,7 @@ typed-left c p n0 n1 n2 n3 n4 n5 n6 n7 n8 n9 n41 n42 n43 n44 n45 =
 -- only the code bytes 1 to 5 have a T
 pub no-target : (c : List ℕ) (p : ℕ) → (byte c p ≡ 1 → ⊥) → (byte c p ≡ 2 → ⊥) → (byte c p ≡ 3 → ⊥) → (byte c p ≡ 4 → ⊥) → (byte c p ≡ 5 → ⊥)
     → goesTo (kindAt c p) ≡ false
-unfolding rowOf
+unfolding rowOf kindAt targetAt typesAt
 no-target c p n1 n2 n3 n4 n5 =
     let P : Row → Type 0 = λ (r : Row). goesTo (kindOf r) ≡ false in
     by-pick P _ _ _ (λ e. refl)
@@ -169,7 +169,7 @@ no-target c p n1 n2 n3 n4 n5 =
 
 -- what the row of a command says of T and of control: without a T it has no place of one; from MCD on it goes on and has no T
 no-place : (code : ℕ) → goesTo (kindOf (rowOf code)) ≡ false → placesOf isTarget 1 (operandsIn (rowOf code)) ≡ []
-unfolding rowOf
+unfolding rowOf kindAt targetAt typesAt
 no-place code =
     let P : Row → Type 0 = λ (r : Row). goesTo (kindOf r) ≡ false → placesOf isTarget 1 (operandsIn r) ≡ [] in
     by-pick P _ _ _ (λ z e. refl)
@@ -187,10 +187,11 @@ no-place code =
 
 -- the same of the instruction at p
 pub without-target : (c : List ℕ) (p : ℕ) → goesTo (kindAt c p) ≡ false → targetAt c p ≡ 0
+unfolding kindAt targetAt
 without-target c p e = ap (firstWord c p) (no-place (byte c p) e)
 
-pub row-passes : (code : ℕ) → 6 ≤ code → kindOf (rowOf code) ≡ Passes
-unfolding rowOf
+row-passes : (code : ℕ) → 6 ≤ code → kindOf (rowOf code) ≡ Passes
+unfolding rowOf kindAt targetAt typesAt
 row-passes code h =
     let P : Row → Type 0 = λ (r : Row). kindOf r ≡ Passes in
     by-pick P _ _ _ (λ z. absurd (low 0 (eqb-true code 0 z) (omega arith)))
@@ -212,9 +213,13 @@ row-passes code h =
     branch : code ≤ 3 → ⊥
     branch l = omega arith
 
+pub kind-passes : (c : List ℕ) (p : ℕ) → 6 ≤ byte c p → kindAt c p ≡ Passes
+unfolding kindAt
+kind-passes c p h = row-passes (byte c p) h
+
 -- RETURN and JMP do not go on
 pub high : (c : List ℕ) (p : ℕ) → goesOn (kindAt c p) ≡ true → 2 ≤ byte c p
-unfolding rowOf pick
+unfolding rowOf pick kindAt targetAt typesAt
 high c p o = go (byte c p) refl
   where
     go : (b : ℕ) → byte c p ≡ b → 2 ≤ byte c p
@@ -299,11 +304,11 @@ length-unlisted c p e = length-none c p (λ w. absurd-bool (sym e ∙ w .listed)
 -- MCD: its n bytes follow its own
 module _ (c : List ℕ) (p : ℕ) (mcd : byte c p ≡ 6) where
   own-four : lengthOf (byte c p) ≡ 4
-  unfolding lengthOf rowOf pick
+  unfolding lengthOf rowOf pick kindAt targetAt typesAt
   own-four = rw mcd
 
   all-constant : instructionLength c p ≡ 4 + byte c (p + 3)
-  unfolding instructionLength lengthOf rowOf pick
+  unfolding instructionLength lengthOf rowOf pick kindAt targetAt typesAt
   all-constant = rw mcd
 
   listed-constant : operandsOk (instructionAt c p) ≡ within 1 8 (byte c (p + 3))

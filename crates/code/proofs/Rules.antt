@@ -34,7 +34,7 @@ three-low code e =
 
 -- only code bytes below 46 are known
 low : (code : ℕ) → 0 < lengthOf code → code < 46
-unfolding lengthOf rowOf
+unfolding lengthOf rowOf kindAt targetAt
 low code =
     let P : Row → Type 0 = λ (l : Row). 0 < lengthWith l → code < 46 in
     by-pick P _ _ _ (λ e h. omega (arith, eqb-true code 0 e))
@@ -70,7 +70,7 @@ none-known code e =
 
 -- the code bytes with a length are those of the table of commands
 pub known-is : (code : ℕ) → ltb 0 (lengthOf code) ≡ known code
-unfolding lengthOf rowOf pick
+unfolding lengthOf rowOf pick kindAt targetAt
 known-is code = go (ltb code 46) refl
   where
     go : (b : Bool) → ltb code 46 ≡ b → ltb 0 (lengthOf code) ≡ known code
@@ -315,14 +315,14 @@ module _ (c : List ℕ) (p : ℕ) where
   -- ---- the target
 
   pub target-is : {t : ℕ} → Target c p t → (goesTo (kindAt c p) ≡ true) × (targetAt c p ≡ t)
-  unfolding rowOf pick
+  unfolding rowOf pick kindAt targetAt
   target-is (jmp e) = (rw e, rw e)
   target-is (jz-jnz h) = is _ (byte c p) 2 (λ e. (rw e, rw e)) (λ n. let e : byte c p ≡ 3 = omega arith in (rw e, rw e))
   target-is (calb e) = (rw e, rw e)
   target-is (calf e) = (rw e, rw e)
 
   pub has-target : goesTo (kindAt c p) ≡ true → Target c p (targetAt c p)
-  unfolding rowOf pick
+  unfolding rowOf pick kindAt targetAt
   has-target o =
       is _ (byte c p) 1 (λ e. there (jmp e)) (λ n1.
       is _ (byte c p) 2 (λ e. there (jz-jnz (omega arith, omega arith))) (λ n2.

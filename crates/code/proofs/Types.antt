@@ -46,7 +46,7 @@ typing code e h n =
 
 -- they have three bytes at least
 long-typed : (code : ℕ) → code < 46 → known code ≡ true → 16 ≤ code → within 41 42 code ≡ false → 3 ≤ lengthOf code
-unfolding lengthOf rowOf pick
+unfolding lengthOf rowOf pick typesAt
 long-typed code l e h n = go (ltb code 16) refl
   where
     last : (a b c d : Bool) → a ≡ true → b ≡ false → c ≡ false → T (either (not a) (either b (either c d))) → T d
@@ -89,26 +89,26 @@ module _ (c : List ℕ) (p : ℕ) where
   bytesAt ns = map (λ (n : ℕ). byte c (p + n)) ns
 
   typed-types : instructionOk c p ≡ true → From 16 37 (byte c p) → typesAt c p ≡ byte c (p + 1) ∷ []
-  unfolding rowOf pick equal
+  unfolding rowOf pick equal typesAt
   typed-types z h =
       let k = keeps-instruction c p z .code-byte in
       ap bytesAt (stand-at (λ code. both (known code) (within 16 37 code)) (1 ∷ []) tt (byte c p) (known-low (byte c p) k) (rw (k, inside 16 37 (byte c p) (h .0) (h .1))))
 
   conversion-types : byte c p ≡ 43 → typesAt c p ≡ byte c (p + 1) ∷ byte c (p + 2) ∷ []
-  unfolding rowOf pick
+  unfolding rowOf pick typesAt
   conversion-types e = rw e
 
   packed-types : From 44 45 (byte c p) → typesAt c p ≡ byte c (p + 1) ∷ []
-  unfolding rowOf pick equal
+  unfolding rowOf pick equal typesAt
   packed-types h = ap bytesAt (stand-at (λ code. within 44 45 code) (1 ∷ []) tt (byte c p) (omega arith) (inside 44 45 (byte c p) (h .0) (h .1)))
 
   time-types : From 41 42 (byte c p) → typesAt c p ≡ []
-  unfolding rowOf pick equal
+  unfolding rowOf pick equal typesAt
   time-types h = ap bytesAt (stand-at (λ code. within 41 42 code) [] tt (byte c p) (omega arith) (inside 41 42 (byte c p) (h .0) (h .1)))
 
   -- no command before ADD names a type
   low-types : byte c p < 16 → typesAt c p ≡ []
-  unfolding rowOf pick equal
+  unfolding rowOf pick equal typesAt
   low-types h = ap bytesAt (stand-at (λ code. ltb code 16) [] tt (byte c p) (omega arith) (lt-ltb _ _ h))
 
   -- ---- the rule

@@ -40,10 +40,10 @@ goesTo Calls = true
 goesTo Passes = false
 
 -- of the instruction at place p of a core's code: its kind, its T, and the place after it
-abbrev pub kindAt : List ℕ → ℕ → Kind
+unfoldable pub kindAt : List ℕ → ℕ → Kind
 kindAt c p = kindOf (rowOf (byte c p))
 
-abbrev pub targetAt : List ℕ → ℕ → ℕ
+unfoldable pub targetAt : List ℕ → ℕ → ℕ
 targetAt c p = firstWord c p (placesOf isTarget 1 (operandsIn (rowOf (byte c p))))
 
 abbrev pub after : List ℕ → ℕ → ℕ

@@ -31,7 +31,7 @@ isType TypeByte = true
 isType SizeByte = false
 
 -- the types that the instruction at p names: its type bytes
-abbrev pub typesAt : List ℕ → ℕ → List ℕ
+unfoldable pub typesAt : List ℕ → ℕ → List ℕ
 typesAt c p = map (λ n. byte c (p + n)) (placesOf isType 1 (operandsIn (rowOf (byte c p))))
 
 abbrev pub noneWide : List ℕ → Bool

@@ -37,7 +37,7 @@ use Rattle.code.specs.Flow.{kindAt, targetAt, after}
 use Rattle.code.specs.Commands.{rowOf, lengthOf, Kind, Returns, Jumps, Branches, Calls, Passes}
 use Rattle.code.specs.Code.{judgeCode, isStart}
 use Rattle.code.specs.Instructions.{instructionAt, instructionLength}
-use Rattle.code.proofs.Laws.{is, row-passes}
+use Rattle.code.proofs.Laws.{is, kind-passes}
 use Rattle.code.proofs.Sound.{sound}
 use Rattle.processor.specs.Processor.{Decided, refused, decided, faultIf, changed, at, indexOf, elementAt, ofElement, ofConversion, dataPart, answer, controlled, executed}
 use Rattle.operands.specs.Operands.{touching, operandsOf, unlessFault, dataFootprint, dataFootprints}
@@ -205,7 +205,7 @@ WritesNone Calls ws = ws ≡ []
 WritesNone Passes ws = Unit {0}
 
 writes-none : (c : List ℕ) (p : ℕ) (r : Registers) (d : List ℕ) → WritesNone (kindAt c p) (operandsOf (instructionAt c p) c r d .writes)
-unfolding operandsOf instructionAt rowOf pick
+unfolding operandsOf instructionAt rowOf pick kindAt targetAt
 writes-none c p r d =
     is _ (byte c p) 0 (λ e. rw e refl)
     (λ n0. is _ (byte c p) 1 (λ e. rw e refl)
@@ -213,7 +213,7 @@ writes-none c p r d =
     (λ n2. is _ (byte c p) 3 (λ e. rw e refl)
     (λ n3. is _ (byte c p) 4 (λ e. rw e refl)
     (λ n4. is _ (byte c p) 5 (λ e. rw e refl)
-    (λ n5. rw (row-passes (byte c p) (omega arith)) tt))))))
+    (λ n5. rw (kind-passes c p (omega arith)) tt))))))
 
 module _ (d d′ ws : List ℕ) where
   answers-same : (o : Outcome) → ws ≡ [] → Answers d d′ ws (answer o d) (answer o d′)
@@ -355,7 +355,7 @@ module _ (limit : ℕ) (c : List ℕ) (x : Core) where
 -- ---- MCD: accepted code has all of its n bytes
 
 pub constant-whole : (c : List ℕ) (p : ℕ) → judgeCode c ≡ 0 → isStart c p ≡ true → byte c p ≡ 6 → length (part c (p + 4) (byte c (p + 3))) ≡ byte c (p + 3)
-unfolding instructionLength lengthOf rowOf pick
+unfolding instructionLength lengthOf rowOf pick kindAt targetAt
 constant-whole c p j w e =
     let l : p + (4 + byte c (p + 3)) ≤ length c = rw e at (sound c p j w .here .inside) in
     length-part c (p + 4) (byte c (p + 3)) (omega arith)

@@ -19,7 +19,7 @@ use Rattle.code.specs.declared.Instruction.the-variants.{Typed, Unknown}
 use Rattle.code.specs.Commands.{three, Passes, rowOf, lengthOf}
 use Rattle.code.specs.Flow.{kindAt}
 use Rattle.code.specs.Instructions.{typedAt, instructionAt, instructionLength}
-use Rattle.code.proofs.Laws.{three-length, typed-left, row-passes}
+use Rattle.code.proofs.Laws.{three-length, typed-left, kind-passes}
 use Rattle.values.specs.Types.{takes}
 use Rattle.code.specs.Code.{isWidth, convertible, packable, operandsOk}
 use Rattle.code.proofs.Sound.{Sound, sound}
@@ -71,7 +71,7 @@ three-here c p op e f =
     record {
       is = typed-instruction c p (omega (arith, h .0)) (λ z. omega (arith, h .1)) (λ z. omega (arith, h .1)) (λ z. omega (arith, h .1)) (λ z. omega (arith, h .1)) (λ z. omega (arith, h .1)) ∙ rw (e, f);
       long = rw (e, six, three-length op (omega (arith, h .1)) f);
-      passes = row-passes (byte c p) (omega (arith, h .0));
+      passes = kind-passes c p (omega (arith, h .0));
     }
 
 -- one that is listed and does not have three addresses is NOT
@@ -88,7 +88,7 @@ not-listed c p n h = go (three (byte c p)) refl
     go false f = also f (eqb (byte c p) 27) refl
 
 pub not-here : (c : List ℕ) (p : ℕ) → byte c p ≡ 27 → TypedAt c p 27 4
-unfolding typedAt instructionAt instructionLength lengthOf rowOf pick
+unfolding typedAt instructionAt instructionLength lengthOf rowOf pick kindAt
 not-here c p e = record { is = rw e; long = rw e; passes = rw e }
 
 -- ---- what the function of each command asks
@@ -134,7 +134,7 @@ module _ (c : List ℕ) (r : Registers) (d : List ℕ) (x : Executable c r d) wh
       record { here = e; whole = omega (arith, s .whole, ap lengthOf f ∙ l); short = x .short }
 
   pub stands-constant : byte c (r .counter) ≡ 6 → Stands 6 (4 + byte c (r .counter + 3)) c r
-  unfolding instructionLength lengthOf rowOf pick
+  unfolding instructionLength lengthOf rowOf pick kindAt
   stands-constant e =
       let l : r .counter + (4 + byte c (r .counter + 3)) ≤ length c = rw e at (here .here .inside) in
       record { here = e; whole = l; short = x .short }
@@ -145,7 +145,7 @@ module _ (c : List ℕ) (r : Registers) (d : List ℕ) (x : Executable c r d) wh
   element-size op (inr z) e = width-listed _ (both-true _ _ (rw (e, z) at (here .here .listed)) .0)
 
   pub stands-branch : (op : ℕ) → byte c (r .counter) ≡ op → op < 4 → (op ≡ 0 → ⊥) → (op ≡ 1 → ⊥) → ((op ≡ 2) ⊎ (op ≡ 3)) × Stands op 5 c r
-  unfolding lengthOf rowOf pick
+  unfolding lengthOf rowOf pick kindAt
   stands-branch op e h n m =
       let o : (op ≡ 2) ⊎ (op ≡ 3) = two-of 2 op h (omega arith) in
       let l : lengthOf op ≡ 5 = ⊎-elim (λ z. rw z) (λ z. rw z) o in
@@ -154,7 +154,7 @@ module _ (c : List ℕ) (r : Registers) (d : List ℕ) (x : Executable c r d) wh
 
   pub stands-element : (op : ℕ) → byte c (r .counter) ≡ op → 4 ≤ op → op < 10 → (op ≡ 4 → ⊥) → (op ≡ 5 → ⊥) → (op ≡ 6 → ⊥) → (op ≡ 7 → ⊥)
       → ((op ≡ 8) ⊎ (op ≡ 9)) × Stands op 10 c r × Width (byte c (r .counter + 7))
-  unfolding lengthOf rowOf pick
+  unfolding lengthOf rowOf pick kindAt
   stands-element op e k h n4 n5 n6 n7 =
       let o : (op ≡ 8) ⊎ (op ≡ 9) = two-of 8 op h (omega arith) in
       let l : lengthOf op ≡ 10 = ⊎-elim (λ z. rw z) (λ z. rw z) o in
@@ -163,7 +163,7 @@ module _ (c : List ℕ) (r : Registers) (d : List ℕ) (x : Executable c r d) wh
 
   -- a conversion: both types are numbers
   pub stands-conversion : byte c (r .counter) ≡ 43 → Stands 43 7 c r × (byte c (r .counter + 1) < 12) × (byte c (r .counter + 2) < 12)
-  unfolding instructionAt typedAt lengthOf rowOf pick
+  unfolding instructionAt typedAt lengthOf rowOf pick kindAt
   stands-conversion e =
       let l : convertible (byte c (r .counter + 1)) (byte c (r .counter + 2)) ≡ true = rw e at (here .here .listed) in
       let b = both-true (within 1 10 (byte c (r .counter + 1))) _ l in
@@ -177,11 +177,11 @@ module _ (c : List ℕ) (r : Registers) (d : List ℕ) (x : Executable c r d) wh
   packed-type {t} f = omega (arith, inside-true 2 8 t (both-true (within 2 8 t) _ f .0) .1)
 
   pub stands-packing : byte c (r .counter) ≡ 44 → Stands 44 6 c r × (byte c (r .counter + 1) < 12)
-  unfolding instructionAt typedAt lengthOf rowOf pick
+  unfolding instructionAt typedAt lengthOf rowOf pick kindAt
   stands-packing e = let l : packable (byte c (r .counter + 1)) ≡ true = rw e at (here .here .listed) in (stands 44 e, packed-type l)
 
   pub stands-unpacking : byte c (r .counter) ≡ 45 → Stands 45 6 c r × (byte c (r .counter + 1) < 12)
-  unfolding instructionAt typedAt lengthOf rowOf pick
+  unfolding instructionAt typedAt lengthOf rowOf pick kindAt
   stands-unpacking e = let l : packable (byte c (r .counter + 1)) ≡ true = rw e at (here .here .listed) in (stands 45 e, packed-type l)
 
   -- what a typed command's functions ask

@@ -17,6 +17,7 @@ use Rattle.protocol.specs.declared.Outcome.{Outcome}
 use Rattle.protocol.specs.declared.Outcome.the-variants.{Fault, Next, Call, Return as Returned}
 use Rattle.protocol.specs.Instruction.{Executed, halted}
 use Rattle.code.specs.declared.Instruction.the-variants.{Typed}
+use Rattle.code.specs.Flow.{kindAt, targetAt}
 use Rattle.code.specs.Commands.{rowOf, lengthOf}
 use Rattle.code.specs.Instructions.{typedAt, instructionAt, instructionLength}
 use Rattle.values.specs.Types.{widthOf}
@@ -56,11 +57,11 @@ module _ (c : List ℕ) (r : Registers) (d : List ℕ) where
   operandAt k = placeOf (r .offset) (wordAt k)
 
   pub return-at : byte c (r .counter) ≡ 0 → executed c r d ≡ answer Returned d
-  unfolding executed instructionAt pick rowOf
+  unfolding executed instructionAt pick rowOf kindAt targetAt
   return-at e = rw e
 
   pub jump-at : byte c (r .counter) ≡ 1 → executed c r d ≡ answer (Next (wordAt 1)) d
-  unfolding executed instructionAt pick rowOf
+  unfolding executed instructionAt pick rowOf kindAt targetAt
   jump-at e = rw e
 
   -- JZ and JNZ: the jump is made where the byte is zero as the code byte asks
@@ -69,7 +70,7 @@ module _ (c : List ℕ) (r : Registers) (d : List ℕ) where
       ≡ branched (r .counter + 5) (wordAt 3) d
       (faultIf (beyond (length d) (operandAt 1) 1) 4
       (decided (Bool·beq (eqb (byte d (operandAt 1)) 0) (eqb op 2)) (r .offset) d))
-  unfolding executed dataPart instructionAt instructionLength lengthOf rowOf pick
+  unfolding executed dataPart instructionAt instructionLength lengthOf rowOf pick kindAt targetAt
   branch-at op (inl z) e = rw (e, z, is-true)
   branch-at op (inr z) e = rw (e, z, is-false)
 
@@ -78,12 +79,12 @@ module _ (c : List ℕ) (r : Registers) (d : List ℕ) where
       ≡ pick (eqb (r .depth) 16) (halted 5 d)
       (called (r .counter + 5) (wordAt 3) d
       (faultIf (leb (length d) (operandAt 1)) 4 (decided false (operandAt 1) d)))
-  unfolding executed dataPart instructionAt instructionLength lengthOf rowOf pick
+  unfolding executed dataPart instructionAt instructionLength lengthOf rowOf pick kindAt targetAt
   call-instance-at e = rw e
 
   call-function-at : byte c (r .counter) ≡ 5
       → executed c r d ≡ pick (eqb (r .depth) 16) (halted 5 d) (answer (Call (r .counter + 3) (wordAt 1) (r .offset)) d)
-  unfolding executed dataPart instructionAt instructionLength lengthOf rowOf pick
+  unfolding executed dataPart instructionAt instructionLength lengthOf rowOf pick kindAt targetAt
   call-function-at e = rw e
 
   move-constant-at : byte c (r .counter) ≡ 6
@@ -91,7 +92,7 @@ module _ (c : List ℕ) (r : Registers) (d : List ℕ) where
       ≡ passed (r .counter + (4 + byteAt 3)) d
       (faultIf (beyond (length d) (operandAt 1) (byteAt 3)) 4
       (changed r (splice d (operandAt 1) (part c (r .counter + 4) (byteAt 3)))))
-  unfolding executed dataPart instructionAt instructionLength lengthOf rowOf pick
+  unfolding executed dataPart instructionAt instructionLength lengthOf rowOf pick kindAt targetAt
   move-constant-at e = rw e
 
   copy-memory-at : byte c (r .counter) ≡ 7
@@ -99,28 +100,28 @@ module _ (c : List ℕ) (r : Registers) (d : List ℕ) where
       ≡ passed (r .counter + 7) d
       (faultIf (anyBeyond (length d) (operandAt 1) (wordAt 5) (operandAt 3) (wordAt 5)) 4
       (changed r (splice d (operandAt 1) (part d (operandAt 3) (wordAt 5)))))
-  unfolding executed dataPart instructionAt instructionLength lengthOf rowOf pick
+  unfolding executed dataPart instructionAt instructionLength lengthOf rowOf pick kindAt targetAt
   copy-memory-at e = rw e
 
   -- 41 and 42: they differ in what is stored
   report-at : (op width value : ℕ) → Reports op r width value → byte c (r .counter) ≡ op
       → executed c r d
       ≡ passed (r .counter + 3) d (faultIf (beyond (length d) (operandAt 1) width) 4 (changed r (splice d (operandAt 1) (bytesLE width value))))
-  unfolding executed dataPart typedAt instructionAt instructionLength lengthOf rowOf pick
+  unfolding executed dataPart typedAt instructionAt instructionLength lengthOf rowOf pick kindAt targetAt
   report-at op width value (inl (z, w, v)) e = rw (e, z, w, v)
   report-at op width value (inr (z, w, v)) e = rw (e, z, w, v)
 
   conversion-at : byte c (r .counter) ≡ 43
       → executed c r d ≡ passed (r .counter + 7) d (ofConversion r (converting (byteAt 1) (byteAt 2) d (operandAt 3) (operandAt 5)))
-  unfolding executed dataPart typedAt instructionAt instructionLength lengthOf rowOf pick
+  unfolding executed dataPart typedAt instructionAt instructionLength lengthOf rowOf pick kindAt targetAt
   conversion-at e = rw e
 
   packing-at : byte c (r .counter) ≡ 44 → executed c r d ≡ passed (r .counter + 6) d (ofConversion r (packing (byteAt 1) d (operandAt 2) (operandAt 4)))
-  unfolding executed dataPart typedAt instructionAt instructionLength lengthOf rowOf pick
+  unfolding executed dataPart typedAt instructionAt instructionLength lengthOf rowOf pick kindAt targetAt
   packing-at e = rw e
 
   unpacking-at : byte c (r .counter) ≡ 45 → executed c r d ≡ passed (r .counter + 6) d (ofConversion r (unpacking (byteAt 1) d (operandAt 2) (operandAt 4)))
-  unfolding executed dataPart typedAt instructionAt instructionLength lengthOf rowOf pick
+  unfolding executed dataPart typedAt instructionAt instructionLength lengthOf rowOf pick kindAt targetAt
   unpacking-at e = rw e
 
   -- AURD and AUWD: they differ in what is copied where
@@ -134,7 +135,7 @@ module _ (c : List ℕ) (r : Registers) (d : List ℕ) where
       (part d
       (pick (eqb op 8) (elementAt r d (wordAt 3) (wordAt 5) (byteAt 7)) (operandAt 1))
       (byteAt 7)))))
-  unfolding executed dataPart instructionAt instructionLength lengthOf rowOf pick
+  unfolding executed dataPart instructionAt instructionLength lengthOf rowOf pick kindAt targetAt
   element-at op (inl z) e = rw (e, z)
   element-at op (inr z) e = rw (e, z)
 

@@ -2,8 +2,9 @@
 use mathlib.Core.Path.{refl}
 use native.Mathlib.Omega.{arith}
 use Rattle.code.specs.Commands.{Returns, Jumps, Branches, Calls, Passes}
+use Rattle.code.proofs.Laws.{kind-passes}
 use Rattle.bounds.specs.Bounds.{depthBy}
-use Rattle.bounds.proofs.Bytes.{kind-returns, kind-jumps, kind-branches, kind-calls, kind-passes, depth-caps, kept-as}
+use Rattle.bounds.proofs.Bytes.{kind-returns, kind-jumps, kind-branches, kind-calls, depth-caps, kept-as}
 use borrow.Author.Needs.{needs}
 use Rattle.bounds.proofs.depth_at.Statement.{statement}
 use Rattle.bounds.proofs.depth_at.Tie as tie

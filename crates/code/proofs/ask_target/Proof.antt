@@ -3,6 +3,7 @@ use mathlib.Core.Path.{sym}
 use native.Mathlib.Omega.{arith}
 use borrow.Author.Needs.{needs}
 use Rattle.verdict.specs.Verdict.{pick}
+use Rattle.code.specs.Flow.{kindAt, targetAt}
 use Rattle.code.specs.Commands.{rowOf, lengthOf}
 use Rattle.code.specs.Instructions.{instructionAt}
 use Rattle.code.proofs.Laws.{length-at, no-target}
@@ -67,39 +68,39 @@ same-length : tie.Need-same-length
 same-length c = search needs
 
 returns : tie.Need-returns
-unfolding rowOf pick
+unfolding kindAt targetAt rowOf pick
 returns c = target-asked _ _ _ _ _ _ (rw (c .before .before .before .before .before .match .keys1) (sym (c .before .before .before .word .ensures))) (rw (c .before .before .before .before .before .match .keys1)) (c .before .before .ask .ensures)
 
 same-length-2 : tie.Need-same-length-2
 same-length-2 c = search needs
 
 returns-2 : tie.Need-returns-2
-unfolding rowOf pick
+unfolding kindAt targetAt rowOf pick
 returns-2 c = target-asked _ _ _ _ _ _ (rw (c .before .before .before .before .before .match .keys2) (sym (c .before .before .before .word2 .ensures))) (rw (c .before .before .before .before .before .match .keys2)) (c .before .before .ask2 .ensures)
 
 same-length-3 : tie.Need-same-length-3
 same-length-3 c = search needs
 
 returns-3 : tie.Need-returns-3
-unfolding rowOf pick
+unfolding kindAt targetAt rowOf pick
 returns-3 c = target-asked _ _ _ _ _ _ (rw (c .before .before .before .before .before .match .keys3) (sym (c .before .before .before .word3 .ensures))) (rw (c .before .before .before .before .before .match .keys3)) (c .before .before .ask3 .ensures)
 
 same-length-4 : tie.Need-same-length-4
 same-length-4 c = search needs
 
 returns-4 : tie.Need-returns-4
-unfolding rowOf pick
+unfolding kindAt targetAt rowOf pick
 returns-4 c = target-asked _ _ _ _ _ _ (rw (c .before .before .before .before .before .match .keys4) (sym (c .before .before .before .word4 .ensures))) (rw (c .before .before .before .before .before .match .keys4)) (c .before .before .ask4 .ensures)
 
 same-length-5 : tie.Need-same-length-5
 same-length-5 c = search needs
 
 returns-5 : tie.Need-returns-5
-unfolding rowOf pick
+unfolding kindAt targetAt rowOf pick
 returns-5 c = target-asked _ _ _ _ _ _ (rw (c .before .before .before .before .before .match .keys5) (sym (c .before .before .before .word5 .ensures))) (rw (c .before .before .before .before .before .match .keys5)) (c .before .before .ask5 .ensures)
 
 returns-6 : tie.Need-returns-6
-returns-6 c = let n = c .match .rest in target-none _ _ _ (no-target (c .before .before .before .before .args .code .now) (c .before .before .before .before .args .p) (n .0 .0 .0 .0 .1) (n .0 .0 .0 .1) (n .0 .0 .1) (n .0 .1) (n .1))
+returns-6 c = let n = c .match .rest in target-none _ _ _ (no-target _ _ (n .0 .0 .0 .0 .1) (n .0 .0 .0 .1) (n .0 .0 .1) (n .0 .1) (n .1))
 
 pub ask-target-spec : {M : Type 1} → statement M
 ask-target-spec =

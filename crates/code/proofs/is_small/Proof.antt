@@ -17,7 +17,7 @@ inside-requires : tie.Need-inside-requires
 inside-requires c κs = search needs
 
 returns-2 : tie.Need-returns-2
-returns-2 c = sym (types-time (c .before .before .before .before .before .args .code .now) (c .before .before .before .before .before .args .p) (sym (c .before .inside .ensures) ∙ c .if2 .taken))
+returns-2 c = sym (types-time _ _ (sym (c .before .inside .ensures) ∙ c .if2 .taken))
 
 add-is-wide : tie.Need-add-is-wide
 add-is-wide c = search needs
