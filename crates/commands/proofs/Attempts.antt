@@ -47,7 +47,7 @@ unfolding beyond
 in-data size p n e = ltb-false size (p + n) e
 
 module _ (size to n a m b k : ℕ) (r : Bool) (e : r ≡ either (beyond size to n) (anyBeyond size a m b k)) (f : r ≡ false) where
-  all-in : (to + n ≤ size) × (a + m ≤ size) × (b + k ≤ size)
+  pub all-in : (to + n ≤ size) × (a + m ≤ size) × (b + k ≤ size)
   all-in =
       let x = either-false (beyond size to n) (anyBeyond size a m b k) (sym e ∙ f) in
       let y = either-false (beyond size a m) (beyond size b k) (x .1) in

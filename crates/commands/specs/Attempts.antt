@@ -1,6 +1,6 @@
 -- What a typed command of an instruction answers, and the data after it: the addresses are tried first, then the divisor.
 use Prim.Native.Nat.{ℕ, _<_}
-use mathlib.Core.Bool.{true}
+use mathlib.Core.Bool.{true, false}
 use mathlib.Core.List.{List}
 use mathlib.Core.Option.{Option, none, some}
 use mathlib.Core.Path.{_≡_}
@@ -46,3 +46,7 @@ pub record Given (code : ℕ) (o : Operands) : Type 0 where
   pub to-low : o .to < 98304
   pub first-low : o .first < 98304
   pub second-low : o .second < 98304
+
+-- every operand lies inside the data
+abbrev pub Inside : ℕ → Operands → List ℕ → Type 0
+Inside code o s = typedBeyond code (o .kind) (length s) (o .to) (o .first) (o .second) ≡ false

@@ -2,14 +2,14 @@
 // A width w is in bytes. A command leaves a value of a kind that it does not take as it is; no accepted code asks for that.
 ghost use mathlib.Core.Path.{_≡_};
 ghost use mathlib.Core.Bool.{true, false};
-ghost use Prim.Native.Nat.{_+_, _^_, _≤_, _<_};
+ghost use Prim.Native.Nat.{_+_, _-_, _^_, _≤_, _<_};
 ghost use lib.ListN.{length};
 ghost use Rattle.verdict.specs.Verdict.{either};
 ghost use Rattle.memory.specs.Memory.{splice, bytesLE, readLE};
 ghost use Rattle.values.specs.Types.{widthOf, takes};
 ghost use Rattle.values.specs.Width.{Width};
 ghost use Rattle.values.specs.Commands.{ADD, SUB, MUL, DIV, MOD, AND, OR, XOR, NOT, SHL, SHR, ROL, ROR, GT, GE, EQ, LE, LT, NE, byZero, secondWidth, command, zeroDivisor, beyond, anyBeyond};
-ghost use Rattle.commands.specs.Attempts.{attempt, attempted, Given};
+ghost use Rattle.commands.specs.Attempts.{attempt, attempted, Given, Inside};
 ghost use Rattle.commands.specs.declared.Performed.the-variants.{Done};
 use values::Value;
 use values::pattern_of;
@@ -287,6 +287,81 @@ fn beyond(size: usize, o: Operands, n: usize, m: usize, k: usize) -> bool
     size < o.second + k
 }
 
+// How many places have eight bytes of the data from them on.
+fn places_of_eight(size: usize) -> usize
+    ensures { λ r. ⌜ r ≡ size - 7 ⌝ }
+{
+    if size < 8 {
+        return 0;
+    }
+    size - 7
+}
+
+// Whether one of the operands has less than eight bytes of the data. Where none has, no type leads beyond the data, and no width is looked up.
+fn near_end(size: usize, o: Operands) -> bool
+    ensures { λ r. ⌜ r ≡ either (beyond size (o .to) 8) (anyBeyond size (o .first) 8 (o .second) 8) ⌝ }
+{
+    let places = places_of_eight(size);
+    if places <= o.to {
+        return true;
+    }
+    if places <= o.first {
+        return true;
+    }
+    if places <= o.second {
+        return true;
+    }
+    false
+}
+
+// Whether one of the operands is beyond the data, by the type: of commands whose result and sources are of the type,
+fn alike_beyond(size: usize, o: Operands) -> bool
+    requires { ⌜ (o .kind < 12) × (o .to < 98304) × (o .first < 98304) × (o .second < 98304) ⌝ }
+    ensures { λ r. ⌜ r ≡ either (beyond size (o .to) (widthOf (o .kind))) (anyBeyond size (o .first) (widthOf (o .kind)) (o .second) (widthOf (o .kind))) ⌝ }
+{
+    if near_end(size, o) {
+        let w = values::width_of(o.kind);
+        return beyond(size, o, w, w, w);
+    }
+    false
+}
+
+// of comparisons,
+fn compared_beyond(size: usize, o: Operands) -> bool
+    requires { ⌜ (o .kind < 12) × (o .to < 98304) × (o .first < 98304) × (o .second < 98304) ⌝ }
+    ensures { λ r. ⌜ r ≡ either (beyond size (o .to) 1) (anyBeyond size (o .first) (widthOf (o .kind)) (o .second) (widthOf (o .kind))) ⌝ }
+{
+    if near_end(size, o) {
+        let w = values::width_of(o.kind);
+        return beyond(size, o, 1, w, w);
+    }
+    false
+}
+
+// of shifts,
+fn shifted_beyond(size: usize, o: Operands) -> bool
+    requires { ⌜ (o .kind < 12) × (o .to < 98304) × (o .first < 98304) × (o .second < 98304) ⌝ }
+    ensures { λ r. ⌜ r ≡ either (beyond size (o .to) (widthOf (o .kind))) (anyBeyond size (o .first) (widthOf (o .kind)) (o .second) 1) ⌝ }
+{
+    if near_end(size, o) {
+        let w = values::width_of(o.kind);
+        return beyond(size, o, w, w, 1);
+    }
+    false
+}
+
+// and of NOT.
+fn single_beyond(size: usize, o: Operands) -> bool
+    requires { ⌜ (o .kind < 12) × (o .to < 98304) × (o .first < 98304) × (o .second < 98304) ⌝ }
+    ensures { λ r. ⌜ r ≡ either (beyond size (o .to) (widthOf (o .kind))) (anyBeyond size (o .first) (widthOf (o .kind)) (o .second) 0) ⌝ }
+{
+    if near_end(size, o) {
+        let w = values::width_of(o.kind);
+        return beyond(size, o, w, w, 0);
+    }
+    false
+}
+
 // Whether DIV of a whole-number type would have a zero divisor.
 fn zero_divisor(t: u8, d: &[u8], b: usize) -> bool
     requires { ⌜ (0 < secondWidth 19 t → b + secondWidth 19 t ≤ length (now d)) ⌝ }
@@ -326,8 +401,8 @@ fn put(d: &mut [u8], w: usize, to: usize, p: u64) -> Performed
     Performed::Done
 }
 
-// From memory to memory, each command by two functions. The first reads the sources and gives the pattern to be stored: each arm has its
-// type and width as constants, so that it is compiled for that type alone. The second tries the addresses, then the divisor, and stores.
+// From memory to memory, each command by three functions. The first reads the sources and gives the pattern to be stored, the second tries the divisor and
+// stores it, the third tries the addresses. It calls the second with each type as a constant, so that one jump leads to code for that type alone.
 fn add_of(d: &[u8], t: u8, a: usize, b: usize) -> u64
     requires { ⌜ (takes 16 t ≡ true) × (a + widthOf t ≤ length (now d)) × (b + widthOf t ≤ length (now d)) ⌝ }
     ensures { λ r. ⌜ r ≡ command 16 t (readLE (now (d .entry)) a (widthOf t)) (readLE (now (d .entry)) b (widthOf t)) ⌝ }
@@ -347,15 +422,39 @@ fn add_of(d: &[u8], t: u8, a: usize, b: usize) -> u64
     }
 }
 
+fn add_typed(d: &mut [u8], t: u8, o: Operands) -> Performed
+    requires { ⌜ (o .kind ≡ t) × Given 16 o × Inside 16 o (now d) ⌝ }
+    ensures { λ r. ⌜ attempt r (now (d .exit)) ≡ attempted 16 o (now (d .entry)) ⌝ }
+{
+    put(
+        d,
+        values::width_of(t),
+        o.to,
+        add_of(d, t, o.first, o.second),
+    )
+}
+
 pub fn add_at(d: &mut [u8], o: Operands) -> Performed
     requires { ⌜ Given 16 o ⌝ }
     ensures { λ r. ⌜ attempt r (now (d .exit)) ≡ attempted 16 o (now (d .entry)) ⌝ }
 {
-    let w = values::width_of(o.kind);
-    if beyond(d.len(), o, w, w, w) {
+    if alike_beyond(d.len(), o) {
         return Performed::Beyond;
     }
-    put(d, w, o.to, add_of(d, o.kind, o.first, o.second))
+    let t = o.kind;
+    match t {
+        1 => add_typed(d, 1, o),
+        2 => add_typed(d, 2, o),
+        3 => add_typed(d, 3, o),
+        4 => add_typed(d, 4, o),
+        5 => add_typed(d, 5, o),
+        6 => add_typed(d, 6, o),
+        7 => add_typed(d, 7, o),
+        8 => add_typed(d, 8, o),
+        9 => add_typed(d, 9, o),
+        10 => add_typed(d, 10, o),
+        _ => add_typed(d, 11, o),
+    }
 }
 
 fn sub_of(d: &[u8], t: u8, a: usize, b: usize) -> u64
@@ -377,15 +476,39 @@ fn sub_of(d: &[u8], t: u8, a: usize, b: usize) -> u64
     }
 }
 
+fn sub_typed(d: &mut [u8], t: u8, o: Operands) -> Performed
+    requires { ⌜ (o .kind ≡ t) × Given 17 o × Inside 17 o (now d) ⌝ }
+    ensures { λ r. ⌜ attempt r (now (d .exit)) ≡ attempted 17 o (now (d .entry)) ⌝ }
+{
+    put(
+        d,
+        values::width_of(t),
+        o.to,
+        sub_of(d, t, o.first, o.second),
+    )
+}
+
 pub fn sub_at(d: &mut [u8], o: Operands) -> Performed
     requires { ⌜ Given 17 o ⌝ }
     ensures { λ r. ⌜ attempt r (now (d .exit)) ≡ attempted 17 o (now (d .entry)) ⌝ }
 {
-    let w = values::width_of(o.kind);
-    if beyond(d.len(), o, w, w, w) {
+    if alike_beyond(d.len(), o) {
         return Performed::Beyond;
     }
-    put(d, w, o.to, sub_of(d, o.kind, o.first, o.second))
+    let t = o.kind;
+    match t {
+        1 => sub_typed(d, 1, o),
+        2 => sub_typed(d, 2, o),
+        3 => sub_typed(d, 3, o),
+        4 => sub_typed(d, 4, o),
+        5 => sub_typed(d, 5, o),
+        6 => sub_typed(d, 6, o),
+        7 => sub_typed(d, 7, o),
+        8 => sub_typed(d, 8, o),
+        9 => sub_typed(d, 9, o),
+        10 => sub_typed(d, 10, o),
+        _ => sub_typed(d, 11, o),
+    }
 }
 
 fn mul_of(d: &[u8], t: u8, a: usize, b: usize) -> u64
@@ -406,15 +529,38 @@ fn mul_of(d: &[u8], t: u8, a: usize, b: usize) -> u64
     }
 }
 
+fn mul_typed(d: &mut [u8], t: u8, o: Operands) -> Performed
+    requires { ⌜ (o .kind ≡ t) × Given 18 o × Inside 18 o (now d) ⌝ }
+    ensures { λ r. ⌜ attempt r (now (d .exit)) ≡ attempted 18 o (now (d .entry)) ⌝ }
+{
+    put(
+        d,
+        values::width_of(t),
+        o.to,
+        mul_of(d, t, o.first, o.second),
+    )
+}
+
 pub fn mul_at(d: &mut [u8], o: Operands) -> Performed
     requires { ⌜ Given 18 o ⌝ }
     ensures { λ r. ⌜ attempt r (now (d .exit)) ≡ attempted 18 o (now (d .entry)) ⌝ }
 {
-    let w = values::width_of(o.kind);
-    if beyond(d.len(), o, w, w, w) {
+    if alike_beyond(d.len(), o) {
         return Performed::Beyond;
     }
-    put(d, w, o.to, mul_of(d, o.kind, o.first, o.second))
+    let t = o.kind;
+    match t {
+        1 => mul_typed(d, 1, o),
+        2 => mul_typed(d, 2, o),
+        3 => mul_typed(d, 3, o),
+        4 => mul_typed(d, 4, o),
+        5 => mul_typed(d, 5, o),
+        6 => mul_typed(d, 6, o),
+        7 => mul_typed(d, 7, o),
+        8 => mul_typed(d, 8, o),
+        9 => mul_typed(d, 9, o),
+        _ => mul_typed(d, 10, o),
+    }
 }
 
 fn div_of(d: &[u8], t: u8, a: usize, b: usize) -> u64
@@ -435,18 +581,41 @@ fn div_of(d: &[u8], t: u8, a: usize, b: usize) -> u64
     }
 }
 
+fn div_typed(d: &mut [u8], t: u8, o: Operands) -> Performed
+    requires { ⌜ (o .kind ≡ t) × Given 19 o × Inside 19 o (now d) ⌝ }
+    ensures { λ r. ⌜ attempt r (now (d .exit)) ≡ attempted 19 o (now (d .entry)) ⌝ }
+{
+    if zero_divisor(t, d, o.second) {
+        return Performed::ByZero;
+    }
+    put(
+        d,
+        values::width_of(t),
+        o.to,
+        div_of(d, t, o.first, o.second),
+    )
+}
+
 pub fn div_at(d: &mut [u8], o: Operands) -> Performed
     requires { ⌜ Given 19 o ⌝ }
     ensures { λ r. ⌜ attempt r (now (d .exit)) ≡ attempted 19 o (now (d .entry)) ⌝ }
 {
-    let w = values::width_of(o.kind);
-    if beyond(d.len(), o, w, w, w) {
+    if alike_beyond(d.len(), o) {
         return Performed::Beyond;
     }
-    if zero_divisor(o.kind, d, o.second) {
-        return Performed::ByZero;
+    let t = o.kind;
+    match t {
+        1 => div_typed(d, 1, o),
+        2 => div_typed(d, 2, o),
+        3 => div_typed(d, 3, o),
+        4 => div_typed(d, 4, o),
+        5 => div_typed(d, 5, o),
+        6 => div_typed(d, 6, o),
+        7 => div_typed(d, 7, o),
+        8 => div_typed(d, 8, o),
+        9 => div_typed(d, 9, o),
+        _ => div_typed(d, 10, o),
     }
-    put(d, w, o.to, div_of(d, o.kind, o.first, o.second))
 }
 
 fn modulo_of(d: &[u8], t: u8, a: usize, b: usize) -> u64
@@ -465,15 +634,36 @@ fn modulo_of(d: &[u8], t: u8, a: usize, b: usize) -> u64
     }
 }
 
+fn modulo_typed(d: &mut [u8], t: u8, o: Operands) -> Performed
+    requires { ⌜ (o .kind ≡ t) × Given 20 o × Inside 20 o (now d) ⌝ }
+    ensures { λ r. ⌜ attempt r (now (d .exit)) ≡ attempted 20 o (now (d .entry)) ⌝ }
+{
+    put(
+        d,
+        values::width_of(t),
+        o.to,
+        modulo_of(d, t, o.first, o.second),
+    )
+}
+
 pub fn modulo_at(d: &mut [u8], o: Operands) -> Performed
     requires { ⌜ Given 20 o ⌝ }
     ensures { λ r. ⌜ attempt r (now (d .exit)) ≡ attempted 20 o (now (d .entry)) ⌝ }
 {
-    let w = values::width_of(o.kind);
-    if beyond(d.len(), o, w, w, w) {
+    if alike_beyond(d.len(), o) {
         return Performed::Beyond;
     }
-    put(d, w, o.to, modulo_of(d, o.kind, o.first, o.second))
+    let t = o.kind;
+    match t {
+        1 => modulo_typed(d, 1, o),
+        2 => modulo_typed(d, 2, o),
+        3 => modulo_typed(d, 3, o),
+        4 => modulo_typed(d, 4, o),
+        5 => modulo_typed(d, 5, o),
+        6 => modulo_typed(d, 6, o),
+        7 => modulo_typed(d, 7, o),
+        _ => modulo_typed(d, 8, o),
+    }
 }
 
 fn and_of(d: &[u8], t: u8, a: usize, b: usize) -> u64
@@ -489,15 +679,33 @@ fn and_of(d: &[u8], t: u8, a: usize, b: usize) -> u64
     }
 }
 
+fn and_typed(d: &mut [u8], t: u8, o: Operands) -> Performed
+    requires { ⌜ (o .kind ≡ t) × Given 24 o × Inside 24 o (now d) ⌝ }
+    ensures { λ r. ⌜ attempt r (now (d .exit)) ≡ attempted 24 o (now (d .entry)) ⌝ }
+{
+    put(
+        d,
+        values::width_of(t),
+        o.to,
+        and_of(d, t, o.first, o.second),
+    )
+}
+
 pub fn and_at(d: &mut [u8], o: Operands) -> Performed
     requires { ⌜ Given 24 o ⌝ }
     ensures { λ r. ⌜ attempt r (now (d .exit)) ≡ attempted 24 o (now (d .entry)) ⌝ }
 {
-    let w = values::width_of(o.kind);
-    if beyond(d.len(), o, w, w, w) {
+    if alike_beyond(d.len(), o) {
         return Performed::Beyond;
     }
-    put(d, w, o.to, and_of(d, o.kind, o.first, o.second))
+    let t = o.kind;
+    match t {
+        0 => and_typed(d, 0, o),
+        2 => and_typed(d, 2, o),
+        4 => and_typed(d, 4, o),
+        6 => and_typed(d, 6, o),
+        _ => and_typed(d, 8, o),
+    }
 }
 
 fn or_of(d: &[u8], t: u8, a: usize, b: usize) -> u64
@@ -513,15 +721,28 @@ fn or_of(d: &[u8], t: u8, a: usize, b: usize) -> u64
     }
 }
 
+fn or_typed(d: &mut [u8], t: u8, o: Operands) -> Performed
+    requires { ⌜ (o .kind ≡ t) × Given 25 o × Inside 25 o (now d) ⌝ }
+    ensures { λ r. ⌜ attempt r (now (d .exit)) ≡ attempted 25 o (now (d .entry)) ⌝ }
+{
+    put(d, values::width_of(t), o.to, or_of(d, t, o.first, o.second))
+}
+
 pub fn or_at(d: &mut [u8], o: Operands) -> Performed
     requires { ⌜ Given 25 o ⌝ }
     ensures { λ r. ⌜ attempt r (now (d .exit)) ≡ attempted 25 o (now (d .entry)) ⌝ }
 {
-    let w = values::width_of(o.kind);
-    if beyond(d.len(), o, w, w, w) {
+    if alike_beyond(d.len(), o) {
         return Performed::Beyond;
     }
-    put(d, w, o.to, or_of(d, o.kind, o.first, o.second))
+    let t = o.kind;
+    match t {
+        0 => or_typed(d, 0, o),
+        2 => or_typed(d, 2, o),
+        4 => or_typed(d, 4, o),
+        6 => or_typed(d, 6, o),
+        _ => or_typed(d, 8, o),
+    }
 }
 
 fn xor_of(d: &[u8], t: u8, a: usize, b: usize) -> u64
@@ -537,15 +758,33 @@ fn xor_of(d: &[u8], t: u8, a: usize, b: usize) -> u64
     }
 }
 
+fn xor_typed(d: &mut [u8], t: u8, o: Operands) -> Performed
+    requires { ⌜ (o .kind ≡ t) × Given 26 o × Inside 26 o (now d) ⌝ }
+    ensures { λ r. ⌜ attempt r (now (d .exit)) ≡ attempted 26 o (now (d .entry)) ⌝ }
+{
+    put(
+        d,
+        values::width_of(t),
+        o.to,
+        xor_of(d, t, o.first, o.second),
+    )
+}
+
 pub fn xor_at(d: &mut [u8], o: Operands) -> Performed
     requires { ⌜ Given 26 o ⌝ }
     ensures { λ r. ⌜ attempt r (now (d .exit)) ≡ attempted 26 o (now (d .entry)) ⌝ }
 {
-    let w = values::width_of(o.kind);
-    if beyond(d.len(), o, w, w, w) {
+    if alike_beyond(d.len(), o) {
         return Performed::Beyond;
     }
-    put(d, w, o.to, xor_of(d, o.kind, o.first, o.second))
+    let t = o.kind;
+    match t {
+        0 => xor_typed(d, 0, o),
+        2 => xor_typed(d, 2, o),
+        4 => xor_typed(d, 4, o),
+        6 => xor_typed(d, 6, o),
+        _ => xor_typed(d, 8, o),
+    }
 }
 
 fn not_of(d: &[u8], t: u8, a: usize) -> u64
@@ -561,15 +800,28 @@ fn not_of(d: &[u8], t: u8, a: usize) -> u64
     }
 }
 
+fn not_typed(d: &mut [u8], t: u8, o: Operands) -> Performed
+    requires { ⌜ (o .kind ≡ t) × Given 27 o × Inside 27 o (now d) ⌝ }
+    ensures { λ r. ⌜ attempt r (now (d .exit)) ≡ attempted 27 o (now (d .entry)) ⌝ }
+{
+    put(d, values::width_of(t), o.to, not_of(d, t, o.first))
+}
+
 pub fn not_at(d: &mut [u8], o: Operands) -> Performed
     requires { ⌜ Given 27 o ⌝ }
     ensures { λ r. ⌜ attempt r (now (d .exit)) ≡ attempted 27 o (now (d .entry)) ⌝ }
 {
-    let w = values::width_of(o.kind);
-    if beyond(d.len(), o, w, w, 0) {
+    if single_beyond(d.len(), o) {
         return Performed::Beyond;
     }
-    put(d, w, o.to, not_of(d, o.kind, o.first))
+    let t = o.kind;
+    match t {
+        0 => not_typed(d, 0, o),
+        2 => not_typed(d, 2, o),
+        4 => not_typed(d, 4, o),
+        6 => not_typed(d, 6, o),
+        _ => not_typed(d, 8, o),
+    }
 }
 
 fn shl_of(d: &[u8], t: u8, a: usize, b: usize) -> u64
@@ -585,15 +837,32 @@ fn shl_of(d: &[u8], t: u8, a: usize, b: usize) -> u64
     }
 }
 
+fn shl_typed(d: &mut [u8], t: u8, o: Operands) -> Performed
+    requires { ⌜ (o .kind ≡ t) × Given 28 o × Inside 28 o (now d) ⌝ }
+    ensures { λ r. ⌜ attempt r (now (d .exit)) ≡ attempted 28 o (now (d .entry)) ⌝ }
+{
+    put(
+        d,
+        values::width_of(t),
+        o.to,
+        shl_of(d, t, o.first, o.second),
+    )
+}
+
 pub fn shl_at(d: &mut [u8], o: Operands) -> Performed
     requires { ⌜ Given 28 o ⌝ }
     ensures { λ r. ⌜ attempt r (now (d .exit)) ≡ attempted 28 o (now (d .entry)) ⌝ }
 {
-    let w = values::width_of(o.kind);
-    if beyond(d.len(), o, w, w, 1) {
+    if shifted_beyond(d.len(), o) {
         return Performed::Beyond;
     }
-    put(d, w, o.to, shl_of(d, o.kind, o.first, o.second))
+    let t = o.kind;
+    match t {
+        2 => shl_typed(d, 2, o),
+        4 => shl_typed(d, 4, o),
+        6 => shl_typed(d, 6, o),
+        _ => shl_typed(d, 8, o),
+    }
 }
 
 fn shr_of(d: &[u8], t: u8, a: usize, b: usize) -> u64
@@ -609,15 +878,32 @@ fn shr_of(d: &[u8], t: u8, a: usize, b: usize) -> u64
     }
 }
 
+fn shr_typed(d: &mut [u8], t: u8, o: Operands) -> Performed
+    requires { ⌜ (o .kind ≡ t) × Given 29 o × Inside 29 o (now d) ⌝ }
+    ensures { λ r. ⌜ attempt r (now (d .exit)) ≡ attempted 29 o (now (d .entry)) ⌝ }
+{
+    put(
+        d,
+        values::width_of(t),
+        o.to,
+        shr_of(d, t, o.first, o.second),
+    )
+}
+
 pub fn shr_at(d: &mut [u8], o: Operands) -> Performed
     requires { ⌜ Given 29 o ⌝ }
     ensures { λ r. ⌜ attempt r (now (d .exit)) ≡ attempted 29 o (now (d .entry)) ⌝ }
 {
-    let w = values::width_of(o.kind);
-    if beyond(d.len(), o, w, w, 1) {
+    if shifted_beyond(d.len(), o) {
         return Performed::Beyond;
     }
-    put(d, w, o.to, shr_of(d, o.kind, o.first, o.second))
+    let t = o.kind;
+    match t {
+        2 => shr_typed(d, 2, o),
+        4 => shr_typed(d, 4, o),
+        6 => shr_typed(d, 6, o),
+        _ => shr_typed(d, 8, o),
+    }
 }
 
 fn rol_of(d: &[u8], t: u8, a: usize, b: usize) -> u64
@@ -633,15 +919,32 @@ fn rol_of(d: &[u8], t: u8, a: usize, b: usize) -> u64
     }
 }
 
+fn rol_typed(d: &mut [u8], t: u8, o: Operands) -> Performed
+    requires { ⌜ (o .kind ≡ t) × Given 30 o × Inside 30 o (now d) ⌝ }
+    ensures { λ r. ⌜ attempt r (now (d .exit)) ≡ attempted 30 o (now (d .entry)) ⌝ }
+{
+    put(
+        d,
+        values::width_of(t),
+        o.to,
+        rol_of(d, t, o.first, o.second),
+    )
+}
+
 pub fn rol_at(d: &mut [u8], o: Operands) -> Performed
     requires { ⌜ Given 30 o ⌝ }
     ensures { λ r. ⌜ attempt r (now (d .exit)) ≡ attempted 30 o (now (d .entry)) ⌝ }
 {
-    let w = values::width_of(o.kind);
-    if beyond(d.len(), o, w, w, 1) {
+    if shifted_beyond(d.len(), o) {
         return Performed::Beyond;
     }
-    put(d, w, o.to, rol_of(d, o.kind, o.first, o.second))
+    let t = o.kind;
+    match t {
+        2 => rol_typed(d, 2, o),
+        4 => rol_typed(d, 4, o),
+        6 => rol_typed(d, 6, o),
+        _ => rol_typed(d, 8, o),
+    }
 }
 
 fn ror_of(d: &[u8], t: u8, a: usize, b: usize) -> u64
@@ -657,15 +960,32 @@ fn ror_of(d: &[u8], t: u8, a: usize, b: usize) -> u64
     }
 }
 
+fn ror_typed(d: &mut [u8], t: u8, o: Operands) -> Performed
+    requires { ⌜ (o .kind ≡ t) × Given 31 o × Inside 31 o (now d) ⌝ }
+    ensures { λ r. ⌜ attempt r (now (d .exit)) ≡ attempted 31 o (now (d .entry)) ⌝ }
+{
+    put(
+        d,
+        values::width_of(t),
+        o.to,
+        ror_of(d, t, o.first, o.second),
+    )
+}
+
 pub fn ror_at(d: &mut [u8], o: Operands) -> Performed
     requires { ⌜ Given 31 o ⌝ }
     ensures { λ r. ⌜ attempt r (now (d .exit)) ≡ attempted 31 o (now (d .entry)) ⌝ }
 {
-    let w = values::width_of(o.kind);
-    if beyond(d.len(), o, w, w, 1) {
+    if shifted_beyond(d.len(), o) {
         return Performed::Beyond;
     }
-    put(d, w, o.to, ror_of(d, o.kind, o.first, o.second))
+    let t = o.kind;
+    match t {
+        2 => ror_typed(d, 2, o),
+        4 => ror_typed(d, 4, o),
+        6 => ror_typed(d, 6, o),
+        _ => ror_typed(d, 8, o),
+    }
 }
 
 // A comparison has one body, which each arm calls with its type: compiled it is the same. The other commands do not become so small
@@ -697,15 +1017,35 @@ fn gt_of(d: &[u8], t: u8, a: usize, b: usize) -> u64
     }
 }
 
+fn gt_typed(d: &mut [u8], t: u8, o: Operands) -> Performed
+    requires { ⌜ (o .kind ≡ t) × Given 32 o × Inside 32 o (now d) ⌝ }
+    ensures { λ r. ⌜ attempt r (now (d .exit)) ≡ attempted 32 o (now (d .entry)) ⌝ }
+{
+    put(d, 1, o.to, gt_of(d, t, o.first, o.second))
+}
+
 pub fn gt_at(d: &mut [u8], o: Operands) -> Performed
     requires { ⌜ Given 32 o ⌝ }
     ensures { λ r. ⌜ attempt r (now (d .exit)) ≡ attempted 32 o (now (d .entry)) ⌝ }
 {
-    let w = values::width_of(o.kind);
-    if beyond(d.len(), o, 1, w, w) {
+    if compared_beyond(d.len(), o) {
         return Performed::Beyond;
     }
-    put(d, 1, o.to, gt_of(d, o.kind, o.first, o.second))
+    let t = o.kind;
+    match t {
+        0 => gt_typed(d, 0, o),
+        1 => gt_typed(d, 1, o),
+        2 => gt_typed(d, 2, o),
+        3 => gt_typed(d, 3, o),
+        4 => gt_typed(d, 4, o),
+        5 => gt_typed(d, 5, o),
+        6 => gt_typed(d, 6, o),
+        7 => gt_typed(d, 7, o),
+        8 => gt_typed(d, 8, o),
+        9 => gt_typed(d, 9, o),
+        10 => gt_typed(d, 10, o),
+        _ => gt_typed(d, 11, o),
+    }
 }
 
 fn ge_in(d: &[u8], t: u8, a: usize, b: usize) -> u64
@@ -735,15 +1075,35 @@ fn ge_of(d: &[u8], t: u8, a: usize, b: usize) -> u64
     }
 }
 
+fn ge_typed(d: &mut [u8], t: u8, o: Operands) -> Performed
+    requires { ⌜ (o .kind ≡ t) × Given 33 o × Inside 33 o (now d) ⌝ }
+    ensures { λ r. ⌜ attempt r (now (d .exit)) ≡ attempted 33 o (now (d .entry)) ⌝ }
+{
+    put(d, 1, o.to, ge_of(d, t, o.first, o.second))
+}
+
 pub fn ge_at(d: &mut [u8], o: Operands) -> Performed
     requires { ⌜ Given 33 o ⌝ }
     ensures { λ r. ⌜ attempt r (now (d .exit)) ≡ attempted 33 o (now (d .entry)) ⌝ }
 {
-    let w = values::width_of(o.kind);
-    if beyond(d.len(), o, 1, w, w) {
+    if compared_beyond(d.len(), o) {
         return Performed::Beyond;
     }
-    put(d, 1, o.to, ge_of(d, o.kind, o.first, o.second))
+    let t = o.kind;
+    match t {
+        0 => ge_typed(d, 0, o),
+        1 => ge_typed(d, 1, o),
+        2 => ge_typed(d, 2, o),
+        3 => ge_typed(d, 3, o),
+        4 => ge_typed(d, 4, o),
+        5 => ge_typed(d, 5, o),
+        6 => ge_typed(d, 6, o),
+        7 => ge_typed(d, 7, o),
+        8 => ge_typed(d, 8, o),
+        9 => ge_typed(d, 9, o),
+        10 => ge_typed(d, 10, o),
+        _ => ge_typed(d, 11, o),
+    }
 }
 
 fn eq_in(d: &[u8], t: u8, a: usize, b: usize) -> u64
@@ -773,15 +1133,35 @@ fn eq_of(d: &[u8], t: u8, a: usize, b: usize) -> u64
     }
 }
 
+fn eq_typed(d: &mut [u8], t: u8, o: Operands) -> Performed
+    requires { ⌜ (o .kind ≡ t) × Given 34 o × Inside 34 o (now d) ⌝ }
+    ensures { λ r. ⌜ attempt r (now (d .exit)) ≡ attempted 34 o (now (d .entry)) ⌝ }
+{
+    put(d, 1, o.to, eq_of(d, t, o.first, o.second))
+}
+
 pub fn eq_at(d: &mut [u8], o: Operands) -> Performed
     requires { ⌜ Given 34 o ⌝ }
     ensures { λ r. ⌜ attempt r (now (d .exit)) ≡ attempted 34 o (now (d .entry)) ⌝ }
 {
-    let w = values::width_of(o.kind);
-    if beyond(d.len(), o, 1, w, w) {
+    if compared_beyond(d.len(), o) {
         return Performed::Beyond;
     }
-    put(d, 1, o.to, eq_of(d, o.kind, o.first, o.second))
+    let t = o.kind;
+    match t {
+        0 => eq_typed(d, 0, o),
+        1 => eq_typed(d, 1, o),
+        2 => eq_typed(d, 2, o),
+        3 => eq_typed(d, 3, o),
+        4 => eq_typed(d, 4, o),
+        5 => eq_typed(d, 5, o),
+        6 => eq_typed(d, 6, o),
+        7 => eq_typed(d, 7, o),
+        8 => eq_typed(d, 8, o),
+        9 => eq_typed(d, 9, o),
+        10 => eq_typed(d, 10, o),
+        _ => eq_typed(d, 11, o),
+    }
 }
 
 fn le_in(d: &[u8], t: u8, a: usize, b: usize) -> u64
@@ -811,15 +1191,35 @@ fn le_of(d: &[u8], t: u8, a: usize, b: usize) -> u64
     }
 }
 
+fn le_typed(d: &mut [u8], t: u8, o: Operands) -> Performed
+    requires { ⌜ (o .kind ≡ t) × Given 35 o × Inside 35 o (now d) ⌝ }
+    ensures { λ r. ⌜ attempt r (now (d .exit)) ≡ attempted 35 o (now (d .entry)) ⌝ }
+{
+    put(d, 1, o.to, le_of(d, t, o.first, o.second))
+}
+
 pub fn le_at(d: &mut [u8], o: Operands) -> Performed
     requires { ⌜ Given 35 o ⌝ }
     ensures { λ r. ⌜ attempt r (now (d .exit)) ≡ attempted 35 o (now (d .entry)) ⌝ }
 {
-    let w = values::width_of(o.kind);
-    if beyond(d.len(), o, 1, w, w) {
+    if compared_beyond(d.len(), o) {
         return Performed::Beyond;
     }
-    put(d, 1, o.to, le_of(d, o.kind, o.first, o.second))
+    let t = o.kind;
+    match t {
+        0 => le_typed(d, 0, o),
+        1 => le_typed(d, 1, o),
+        2 => le_typed(d, 2, o),
+        3 => le_typed(d, 3, o),
+        4 => le_typed(d, 4, o),
+        5 => le_typed(d, 5, o),
+        6 => le_typed(d, 6, o),
+        7 => le_typed(d, 7, o),
+        8 => le_typed(d, 8, o),
+        9 => le_typed(d, 9, o),
+        10 => le_typed(d, 10, o),
+        _ => le_typed(d, 11, o),
+    }
 }
 
 fn lt_in(d: &[u8], t: u8, a: usize, b: usize) -> u64
@@ -849,15 +1249,35 @@ fn lt_of(d: &[u8], t: u8, a: usize, b: usize) -> u64
     }
 }
 
+fn lt_typed(d: &mut [u8], t: u8, o: Operands) -> Performed
+    requires { ⌜ (o .kind ≡ t) × Given 36 o × Inside 36 o (now d) ⌝ }
+    ensures { λ r. ⌜ attempt r (now (d .exit)) ≡ attempted 36 o (now (d .entry)) ⌝ }
+{
+    put(d, 1, o.to, lt_of(d, t, o.first, o.second))
+}
+
 pub fn lt_at(d: &mut [u8], o: Operands) -> Performed
     requires { ⌜ Given 36 o ⌝ }
     ensures { λ r. ⌜ attempt r (now (d .exit)) ≡ attempted 36 o (now (d .entry)) ⌝ }
 {
-    let w = values::width_of(o.kind);
-    if beyond(d.len(), o, 1, w, w) {
+    if compared_beyond(d.len(), o) {
         return Performed::Beyond;
     }
-    put(d, 1, o.to, lt_of(d, o.kind, o.first, o.second))
+    let t = o.kind;
+    match t {
+        0 => lt_typed(d, 0, o),
+        1 => lt_typed(d, 1, o),
+        2 => lt_typed(d, 2, o),
+        3 => lt_typed(d, 3, o),
+        4 => lt_typed(d, 4, o),
+        5 => lt_typed(d, 5, o),
+        6 => lt_typed(d, 6, o),
+        7 => lt_typed(d, 7, o),
+        8 => lt_typed(d, 8, o),
+        9 => lt_typed(d, 9, o),
+        10 => lt_typed(d, 10, o),
+        _ => lt_typed(d, 11, o),
+    }
 }
 
 fn ne_in(d: &[u8], t: u8, a: usize, b: usize) -> u64
@@ -887,13 +1307,33 @@ fn ne_of(d: &[u8], t: u8, a: usize, b: usize) -> u64
     }
 }
 
+fn ne_typed(d: &mut [u8], t: u8, o: Operands) -> Performed
+    requires { ⌜ (o .kind ≡ t) × Given 37 o × Inside 37 o (now d) ⌝ }
+    ensures { λ r. ⌜ attempt r (now (d .exit)) ≡ attempted 37 o (now (d .entry)) ⌝ }
+{
+    put(d, 1, o.to, ne_of(d, t, o.first, o.second))
+}
+
 pub fn ne_at(d: &mut [u8], o: Operands) -> Performed
     requires { ⌜ Given 37 o ⌝ }
     ensures { λ r. ⌜ attempt r (now (d .exit)) ≡ attempted 37 o (now (d .entry)) ⌝ }
 {
-    let w = values::width_of(o.kind);
-    if beyond(d.len(), o, 1, w, w) {
+    if compared_beyond(d.len(), o) {
         return Performed::Beyond;
     }
-    put(d, 1, o.to, ne_of(d, o.kind, o.first, o.second))
+    let t = o.kind;
+    match t {
+        0 => ne_typed(d, 0, o),
+        1 => ne_typed(d, 1, o),
+        2 => ne_typed(d, 2, o),
+        3 => ne_typed(d, 3, o),
+        4 => ne_typed(d, 4, o),
+        5 => ne_typed(d, 5, o),
+        6 => ne_typed(d, 6, o),
+        7 => ne_typed(d, 7, o),
+        8 => ne_typed(d, 8, o),
+        9 => ne_typed(d, 9, o),
+        10 => ne_typed(d, 10, o),
+        _ => ne_typed(d, 11, o),
+    }
 }

@@ -1,10 +1,11 @@
--- Laws of operands. In order: operands inside the data; copying an element as a number. Assumes nothing.
+-- Laws of operands. In order: the place of an address; operands inside the data; copying an element as a number. Assumes nothing.
 use mathlib.Core.Path.{_≡_, refl, sym, ap, _∙_}
 use mathlib.Core.Bool.{Bool, true, false}
 use mathlib.Core.List.{List, [], _∷_}
-use Prim.Native.Nat.{ℕ, zero, suc, _+_, _≤_, _<_}
+use Prim.Native.Nat.{ℕ, zero, suc, _+_, _-_, _%_, _^_, _≤_, _<_}
 use native.Mathlib.Omega.{arith}
-use borrow.Author.Tests.{ltb-false}
+use borrow.Author.Tests.{ltb-true, ltb-false}
+use lib.Dec.{ltb}
 use lib.ListN.{length, getD, take, drop}
 use lib.Seq.{getD-drop}
 use mir.Syntax.{w8}
@@ -15,6 +16,27 @@ use Rattle.memory.specs.Memory.{splice, part, bytesLE, readLE}
 use Rattle.memory.proofs.Laws.{length-part}
 use Rattle.memory.proofs.Number.{bytes-value}
 use Rattle.values.specs.Commands.{beyond, anyBeyond}
+use Rattle.processor.specs.Processor.{placeOf}
+
+-- ---- the place of an address
+
+-- a sum at 64 bits, with the offset or with what takes 32,768 away
+pub summed : (offset address b r : ℕ) → offset < 65536 → address < 65536 → b ≡ pick (ltb address 32768) offset 18446744073709518848 → r ≡ (b + address) % 2 ^ 64
+    → (r ≡ placeOf offset address) × (r < 98304)
+unfolding placeOf pick
+summed offset address b r h l e f = go (ltb address 32768) refl
+  where
+    go : (t : Bool) → ltb address 32768 ≡ t → (r ≡ placeOf offset address) × (r < 98304)
+    go true t =
+        let k : address < 32768 = ltb-true address 32768 t in
+        let g : b ≡ offset = rw t at e in
+        let s : r ≡ offset + address = omega (arith, f, g) in
+        (rw t s, omega arith)
+    go false t =
+        let k : 32768 ≤ address = ltb-false address 32768 t in
+        let g : b ≡ 18446744073709518848 = rw t at e in
+        let s : r ≡ address - 32768 = omega (arith, f, g) in
+        (rw t s, omega arith)
 
 -- ---- operands inside the data
 

@@ -9,6 +9,7 @@ ghost use mathlib.Core.Path.{_≡_};
 ghost use mathlib.Core.Logic.{_⊎_};
 ghost use Prim.Native.Nat.{_+_, _*_, _≤_, _<_};
 ghost use lib.ListN.{length};
+ghost use lib.Dec.{ltb};
 ghost use Rattle.memory.specs.Memory.{byte, splice, part, word};
 ghost use Rattle.verdict.specs.Verdict.{pick};
 ghost use Rattle.values.specs.Width.{Width};
@@ -45,14 +46,24 @@ const PACKED: u16 = code::LENGTHS[44] as u16;
 // From here on an address is absolute.
 const ABSOLUTE: u16 = 32768;
 
-// The place of an address, for a core with this data offset.
+// What the sum with an address wraps at: it takes 32,768 away.
+const BACK: u64 = u64::MAX - 32767;
+
+// What an address is added to.
+fn base(offset: u16, address: u16) -> u64
+    ensures { λ r. ⌜ r ≡ pick (ltb address 32768) offset 18446744073709518848 ⌝ }
+{
+    if address < ABSOLUTE {
+        return offset as u64;
+    }
+    BACK
+}
+
+// The place of an address, for a core with this data offset. One sum for both kinds of address: of a sum and a difference the compiler makes both.
 fn place(offset: u16, address: u16) -> usize
     ensures { λ r. ⌜ (r ≡ placeOf offset address) × (r < 98304) ⌝ }
 {
-    if address < ABSOLUTE {
-        return (offset as usize) + (address as usize);
-    }
-    (address - ABSOLUTE) as usize
+    std::num::wrapping_add_u64(base(offset, address), address as u64) as usize
 }
 
 // The place of the address that stands in the code at `at`.

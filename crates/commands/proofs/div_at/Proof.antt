@@ -1,25 +1,48 @@
--- `commands::div_at` meets its contract. The addresses are tried, then the divisor; what is stored is the command's effect (`was-done`). Assumes nothing.
+-- `commands::div_at` meets its contract. The addresses are tried; then each arm is the command at its type. Assumes nothing.
 use Rattle.verdict.specs.Verdict.{pick}
-use Rattle.values.specs.Types.{widthOf}
+use Rattle.values.specs.Types.{widthOf, takes}
 use Rattle.values.specs.Commands.{resultType, resultWidth, secondWidth}
-use mathlib.Core.Path.{sym, _∙_}
-use Rattle.commands.proofs.Attempts.{given-taken, given-type, place-fits, first-in, second-in, given-width, result-in, was-beyond, was-done, divisor-in, not-zero, was-zero}
+use Rattle.values.proofs.Commands.{last-float}
+use Rattle.commands.proofs.Attempts.{given-type, was-beyond}
+use Rattle.commands.proofs.Known.{not-beyond}
 use borrow.Author.Needs.{needs}
 use Rattle.commands.proofs.div_at.Statement.{statement}
 use Rattle.commands.proofs.div_at.Tie as tie
 
 pub div-at-spec : {M : Type 1} → statement M
-unfolding resultType resultWidth secondWidth widthOf pick
+unfolding takes resultType resultWidth secondWidth widthOf pick
 div-at-spec =
     tie.close
     (tie.spec
-    (λ c κs. search given-type)
-    (λ c κs. search (needs, place-fits))
+    (λ c κs. search (given-type, needs))
     (λ c. search was-beyond)
-    (λ c κs. search divisor-in)
+    (λ c κs. search (needs, not-beyond))
+    (λ c κs. search (needs, not-beyond))
+    (λ c κs. search (needs, not-beyond))
+    (λ c κs. search (needs, not-beyond))
+    (λ c κs. search (needs, not-beyond))
+    (λ c κs. search (needs, not-beyond))
+    (λ c κs. search (needs, not-beyond))
+    (λ c κs. search (needs, not-beyond))
+    (λ c κs. search (needs, not-beyond))
+    (λ c κs. search (needs, not-beyond, last-float))
     (λ c. search needs)
-    (λ c. search was-zero)
-    (λ c κs. (search given-taken, search first-in, search second-in, sym (c .before .before .before .zero-divisor .ensures) ∙ c .before .before .if2 .left))
-    (λ c κs. search (given-width, result-in))
     (λ c. search needs)
-    (λ c. search (was-done, not-zero)))
+    (λ c. search needs)
+    (λ c. search needs)
+    (λ c. search needs)
+    (λ c. search needs)
+    (λ c. search needs)
+    (λ c. search needs)
+    (λ c. search needs)
+    (λ c. search needs)
+    (λ c. search needs)
+    (λ c. search needs)
+    (λ c. search needs)
+    (λ c. search needs)
+    (λ c. search needs)
+    (λ c. search needs)
+    (λ c. search needs)
+    (λ c. search needs)
+    (λ c. search needs)
+    (λ c. search needs))
