@@ -144,14 +144,6 @@ module _ (c : List ℕ) (r : Registers) (d : List ℕ) (x : Executable c r d) wh
   element-size op (inl z) e = width-listed _ (both-true _ _ (rw (e, z) at (here .here .listed)) .0)
   element-size op (inr z) e = width-listed _ (both-true _ _ (rw (e, z) at (here .here .listed)) .0)
 
-  pub stands-branch : (op : ℕ) → byte c (r .counter) ≡ op → op < 4 → (op ≡ 0 → ⊥) → (op ≡ 1 → ⊥) → ((op ≡ 2) ⊎ (op ≡ 3)) × Stands op 5 c r
-  unfolding lengthOf rowOf pick kindAt
-  stands-branch op e h n m =
-      let o : (op ≡ 2) ⊎ (op ≡ 3) = two-of 2 op h (omega arith) in
-      let l : lengthOf op ≡ 5 = ⊎-elim (λ z. rw z) (λ z. rw z) o in
-      let s = stands op e in
-      (o, record { here = e; whole = omega (arith, s .whole); short = x .short })
-
   pub stands-element : (op : ℕ) → byte c (r .counter) ≡ op → 4 ≤ op → op < 10 → (op ≡ 4 → ⊥) → (op ≡ 5 → ⊥) → (op ≡ 6 → ⊥) → (op ≡ 7 → ⊥)
       → ((op ≡ 8) ⊎ (op ≡ 9)) × Stands op 10 c r × Width (byte c (r .counter + 7))
   unfolding lengthOf rowOf pick kindAt

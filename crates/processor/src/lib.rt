@@ -373,7 +373,8 @@ pub fn execute(r: Registers, code: &[u8], d: &mut [u8]) -> Outcome
     match op {
         0 => Outcome::Return,
         1 => Outcome::Next(code::word(code, p + 1)),
-        2 | 3 => branch(op, r, code, d),
+        2 => branch(2, r, code, d),
+        3 => branch(3, r, code, d),
         4 => call_instance(r, code, d),
         5 => call_function(r, code, d),
         6 => move_constant(r, code, d),
