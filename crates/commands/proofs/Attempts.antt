@@ -10,10 +10,8 @@ use borrow.Author.Tests.{ltb-false}
 use Rattle.verdict.specs.Verdict.{either}
 use Rattle.verdict.proofs.Verdict.{absurd-bool, pick-true, pick-false}
 use Rattle.memory.specs.Memory.{splice, part, bytesLE, readLE}
-use Rattle.values.specs.Types.{widthOf, takes}
-use Rattle.values.specs.Width.{Width}
+use Rattle.values.specs.Types.{widthOf}
 use Rattle.values.specs.Commands.{resultWidth, secondWidth, command, zeroDivisor, beyond, anyBeyond, performed}
-use Rattle.values.proofs.Types.{width-ok}
 use Rattle.values.proofs.Commands.{taken-type, width-room}
 use Rattle.commands.specs.Attempts.{attempt, attempted, Given}
 use Rattle.commands.specs.declared.Operands.{Operands}
@@ -23,14 +21,8 @@ use Rattle.commands.specs.declared.Performed.the-variants.{Done, Beyond,
 -- ---- what is given
 
 module _ {code : ℕ} {o : Operands} (g : Given code o) where
-  pub given-taken : takes code (o .kind) ≡ true
-  given-taken = g .taken
-
   pub given-type : o .kind < 12
   given-type = taken-type code (o .kind) (g .taken)
-
-  pub given-width : {w : ℕ} → w ≡ widthOf (o .kind) → Width w
-  given-width e = subst Width (sym e) (width-ok (o .kind) given-type)
 
 -- a place of an address with the bytes of a type fits a machine word
 pub place-fits : (p w t : ℕ) → p < 98304 → w ≡ widthOf t → p + w < 2 ^ 64
@@ -52,26 +44,6 @@ module _ (size to n a m b k : ℕ) (r : Bool) (e : r ≡ either (beyond size to 
       let x = either-false (beyond size to n) (anyBeyond size a m b k) (sym e ∙ f) in
       let y = either-false (beyond size a m) (beyond size b k) (x .1) in
       (in-data size to n (x .0), in-data size a m (y .0), in-data size b k (y .1))
-
-  pub result-in : to + n ≤ size
-  result-in = all-in .0
-
-  pub first-in : (t : ℕ) → m ≡ widthOf t → a + widthOf t ≤ size
-  first-in t l = subst (λ (x : ℕ). a + x ≤ size) l (all-in .1)
-
-  pub second-in : (t : ℕ) → k ≡ widthOf t → b + widthOf t ≤ size
-  second-in t l = subst (λ (x : ℕ). b + x ≤ size) l (all-in .2)
-
-  -- the same, as the test of the divisor asks it
-  pub divisor-in : (t : ℕ) → k ≡ widthOf t → (0 < widthOf t → b + widthOf t ≤ size)
-  divisor-in t l h = second-in t l
-
-  -- the count of a shift
-  pub count-in : k ≡ 1 → b < size
-  count-in l = omega (arith, all-in .2)
-
-pub not-zero : (code t q : ℕ) (z : Bool) → z ≡ zeroDivisor code t q → z ≡ false → zeroDivisor code t q ≡ false
-not-zero code t q z e f = sym e ∙ f
 
 -- ---- a store by the width w that a `match` found to be k
 
