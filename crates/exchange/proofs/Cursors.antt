@@ -1,4 +1,4 @@
--- Laws of the cursor. In order: the exchanges by their bit; the variable under way; one byte further; the byte to copy. Assumes nothing.
+-- Laws of the cursor. In order: the exchanges by their bit; the variable under way; n bytes further; the byte to copy. Assumes nothing.
 use mathlib.Core.Path.{_≡_, sym, ap, ap₂, subst, subst⁻¹, _∙_}
 use mathlib.Core.Logic.{_⊎_}
 use mathlib.Core.Bool.{Bool, true}
@@ -13,13 +13,13 @@ use Rattle.verdict.specs.Verdict.{both}
 use Rattle.memory.specs.Memory.{byte, word}
 use Rattle.protocol.specs.State.{Move}
 use Rattle.protocol.specs.Step.{copy}
-use Rattle.protocol.specs.Variables.{Variable, local, readsIt, writesIt, moves, readsOf, writesOf}
+use Rattle.protocol.specs.Variables.{Variable, local, readsIt, writesIt, span, moves, readsOf, writesOf}
 use Rattle.records.specs.File.{cores, dataSize, variables, recordPlace, variableIn, variableAt}
 use Rattle.taskset.specs.Task.{variablesOf}
 use Rattle.exchange.specs.declared.Cursor.{Cursor}
 use Rattle.exchange.specs.Exchange.{namedBy, At}
 use Rattle.exchange.specs.Laid.{Laid, named, exchangeBytes, Place, Passed}
-use Rattle.exchange.proofs.Moves.{length-moves, moves-whole, moves-next, moves-same}
+use Rattle.exchange.proofs.Moves.{length-moves, moves-whole, moves-stretch, moves-next, moves-same}
 use Rattle.exchange.proofs.Records.{place-of, variables-from, variables-end, record-there, passed-moves}
 
 -- ---- the exchanges by their bit
@@ -106,28 +106,34 @@ module _ (f : List ℕ) where
           ap (moves (namedBy bit) from to) (variables-from f (a .index) at-variable)
           ∙ ap (λ (p : ℕ). moves (namedBy bit) from to (variableIn f p ∷ drop (a .index + 1) (variablesOf f))) (sym (a .place))
 
-      -- ---- one byte further
+      -- ---- n bytes further
 
-      further : (from to : Variable → ℕ) → drop (x + 1) (bytesFrom from to 0) ≡ drop (c .byte + 1) (bytesFrom from to (a .index))
-      further from to = sym (drop-drop 1 x (bytesFrom from to 0)) ∙ ap (drop 1) (a .rest from to) ∙ drop-drop 1 (c .byte) (bytesFrom from to (a .index))
+      pub further : (n : ℕ) (from to : Variable → ℕ) → drop (x + n) (bytesFrom from to 0) ≡ drop (c .byte + n) (bytesFrom from to (a .index))
+      further n from to = sym (drop-drop n x (bytesFrom from to 0)) ∙ ap (drop n) (a .rest from to) ∙ drop-drop n (c .byte) (bytesFrom from to (a .index))
 
       -- within the variable
-      pub at-within : c .byte + 1 < byte f (c .record + 2) → At f bit (x + 1) record { «record» = c .record; byte = c .byte + 1 }
-      at-within h = record {
+      pub at-within : (n : ℕ) → c .byte + n < byte f (c .record + 2) → At f bit (x + n) record { «record» = c .record; byte = c .byte + n }
+      at-within n h = record {
         index = a .index;
         place = a .place;
         inside = a .inside;
-        rest = further;
-        chosen = λ l. (a .chosen l .0, subst (λ (p : ℕ). c .byte + 1 < byte f (p + 2)) (a .place) h);
+        rest = further n;
+        chosen = λ l. (a .chosen l .0, subst (λ (p : ℕ). c .byte + n < byte f (p + 2)) (a .place) h);
       }
 
       -- past the variable: its bytes are all copied
-      pub at-whole : byte f (c .record + 2) ≤ c .byte + 1 → (from to : Variable → ℕ) → drop (x + 1) (bytesFrom from to 0) ≡ bytesFrom from to (a .index + 1)
-      at-whole h from to =
-          let e : c .byte + 1 ≡ byte f (c .record + 2) = omega (arith, at-chosen .1) in
-          further from to
+      pub at-whole : (n : ℕ) → c .byte + n ≡ byte f (c .record + 2) → (from to : Variable → ℕ) → drop (x + n) (bytesFrom from to 0) ≡ bytesFrom from to (a .index + 1)
+      at-whole n e from to =
+          further n from to
           ∙ ap₂ (λ (n : ℕ) (l : List Move). drop n l) e (from-here from to)
           ∙ moves-whole (namedBy bit) from to (variableIn f (c .record)) (drop (a .index + 1) (variablesOf f)) (at-chosen .0)
+
+      -- the n bytes that are next, within the variable
+      pub at-stretch : (n : ℕ) → c .byte + n ≤ byte f (c .record + 2) → (from to : Variable → ℕ)
+          → take n (drop x (bytesFrom from to 0)) ≡ span n (from (variableIn f (c .record)) + c .byte) (to (variableIn f (c .record)) + c .byte)
+      at-stretch n h from to =
+          ap (take n) (a .rest from to ∙ ap (drop (c .byte)) (from-here from to))
+          ∙ moves-stretch (namedBy bit) from to (variableIn f (c .record)) (drop (a .index + 1) (variablesOf f)) (c .byte) n (at-chosen .0) h
 
       -- ---- the byte to copy
 

@@ -3,3 +3,4 @@ pub mod Records
 pub mod Cursors
 pub mod Accepted
 pub mod Stretches
+pub mod Carrying

@@ -7,7 +7,7 @@ use Prim.Native.Nat.{ℕ, zero, suc, _+_, _≤_, _<_}
 use native.Mathlib.Nat.{add-zero, add-suc, suc-add, not-suc-le-zero}
 use native.Mathlib.Numerals.{add-one}
 use native.Mathlib.Omega.{arith}
-use lib.ListN.{length, drop, length-append, length-drop, drop-of-length-le}
+use lib.ListN.{length, take, drop, length-append, length-drop, drop-of-length-le}
 use lib.Seq.{drop-at, drop-drop}
 use Rattle.verdict.specs.Verdict.{pick}
 use Rattle.verdict.proofs.Verdict.{pick-true, pick-false, pick-ap}
@@ -54,6 +54,19 @@ drop-span zero a b i ms h = absurd (not-suc-le-zero h)
 drop-span (suc n) a b zero ms h = rw (add-zero a, add-zero b)
 drop-span (suc n) a b (suc i) ms h =
     rw (add-suc a i, add-suc b i, ← suc-add a i, ← suc-add b i) (drop-span n (suc a) (suc b) i ms (omega arith))
+
+take-span : (n w a b i : ℕ) (ms : List Move) → i + n ≤ w → take n (drop i (span w a b ++ ms)) ≡ span n (a + i) (b + i)
+take-span zero w a b i ms h = refl
+take-span (suc n) w a b i ms h =
+    ap (take (suc n)) (drop-span w a b i ms (omega arith))
+    ∙ ap (λ (l : List Move). record { source = a + i; target = b + i } ∷ l)
+    (take-span n w a b (suc i) ms (omega arith) ∙ ap₂ (span n) (add-suc a i) (add-suc b i))
+
+-- n bytes of the first variable from its byte i on
+pub moves-stretch : (named : Variable → Bool) (from to : Variable → ℕ) (v : Variable) (vs : List Variable) (i n : ℕ) → named v ≡ true → i + n ≤ v .width
+    → take n (drop i (moves named from to (v ∷ vs))) ≡ span n (from v + i) (to v + i)
+moves-stretch named from to v vs i n e h =
+    ap (λ (l : List Move). take n (drop i l)) (moves-named named from to v vs e) ∙ take-span n (v .width) (from v) (to v) i (moves named from to vs) h
 
 -- byte i of the first variable is next
 pub moves-next : (named : Variable → Bool) (from to : Variable → ℕ) (v : Variable) (vs : List Variable) (i : ℕ) → named v ≡ true → i < v .width

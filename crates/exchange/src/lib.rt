@@ -1,19 +1,20 @@
 // Document 01, exchanges byte by byte: where an exchange under way stands, without a walk over all variables for each byte. Only the
 // semaphore's holder exchanges, so one cursor serves the whole machine.
-// In order: the search for a variable; the cursor; the bytes of an exchange; the copy of one byte; the copy of all.
+// In order: the search for a variable; the cursor; the bytes of an exchange; the copy of one byte; the copy of a stretch of bytes; the copy of all.
 // `first` and `end` are the places of the first variable's record and past the last; `bit` picks the exchange: k for the writing of
 // core k, 4 + k for its reading; x is the exchange number.
 ghost use mathlib.Core.Path.{_≡_};
 ghost use mathlib.Core.Bool.{true};
 ghost use Prim.Native.Nat.{_+_, _*_, _≤_, _<_};
 ghost use lib.ListN.{length, take, drop};
-ghost use Rattle.memory.specs.Memory.{word};
+ghost use Rattle.memory.specs.Memory.{word, splice, part};
 ghost use Rattle.protocol.specs.Step.{copy};
 ghost use Rattle.protocol.specs.Variables.{readsOf, writesOf};
 ghost use Rattle.records.specs.File.{cores, dataSize, variables, recordPlace};
 ghost use Rattle.taskset.specs.Task.{variablesOf};
 ghost use Rattle.exchange.specs.Exchange.{At};
 ghost use Rattle.exchange.specs.Laid.{Laid, named, exchangeBytes, Place, Passed};
+ghost use Rattle.exchange.specs.Carried.{Lies, Carried};
 
 // The variable's record in the file, and the byte within the variable.
 pub struct Cursor {
@@ -149,6 +150,124 @@ pub fn publish(file: &[u8], k: usize, x: u16, cursor: Cursor, d: &[u8], shared: 
     let from = byte_place(file, place + LOCAL + 2 * k, byte);
     let to = byte_place(file, place, byte);
     shared[to] = d[from];
+}
+
+// ---- the copy of a stretch of bytes, a variable at a time
+
+// The smaller of two numbers.
+fn smaller(a: usize, b: usize) -> usize
+    ensures { λ r. ⌜ (r ≤ a) × (r ≤ b) × ((0 < a) → (0 < b) → 0 < r) ⌝ }
+{
+    if a < b {
+        return a;
+    }
+    b
+}
+
+// Eight bytes in one move.
+fn copy_word(dst: &mut [u8], to: usize, src: &[u8], from: usize)
+    requires { ⌜ (to + 8 ≤ length (now dst)) × (from + 8 ≤ length (now src)) ⌝ }
+    ensures { λ _. ⌜ now (dst .exit) ≡ splice (now (dst .entry)) to (part (now (src .entry)) from 8) ⌝ }
+{
+    let mut bytes: [u8; 8] = [0; 8];
+    memory::copy(&mut bytes, 0, src, from, 8);
+    memory::copy(dst, to, &bytes, 0, 8);
+}
+
+// n bytes of a variable; most variables have eight, and are copied whole.
+fn copy_bytes(dst: &mut [u8], to: usize, src: &[u8], from: usize, n: usize)
+    requires { ⌜ (to + n ≤ length (now dst)) × (from + n ≤ length (now src)) ⌝ }
+    ensures { λ _. ⌜ now (dst .exit) ≡ splice (now (dst .entry)) to (part (now (src .entry)) from n) ⌝ }
+{
+    if n == 8 {
+        copy_word(dst, to, src, from);
+    } else {
+        memory::copy(dst, to, src, from, n);
+    }
+}
+
+// The bytes of the exchange of this bit from number x on, `count` of them, from src to dst; a variable's record has at `source` and at `target` where
+// its bytes lie in each. One function for both directions.
+fn carry(
+    file: &[u8],
+    end: usize,
+    bit: usize,
+    source: usize,
+    target: usize,
+    x: u16,
+    cursor: Cursor,
+    count: usize,
+    src: &[u8],
+    dst: &mut [u8],
+) -> Cursor
+    requires { ⌜ Laid (now file) × (end ≡ recordPlace (now file) (variables (now file))) × (bit < 8) × (source ≤ 10) × (target ≤ 10) × At (now file) bit x cursor × (x + count ≤ exchangeBytes (now file) bit) × Lies (now file) bit source (length (now src)) × Lies (now file) bit target (length (now dst)) ⌝ }
+    ensures { λ r. ⌜ At (now (file .entry)) bit (x + count) r × Carried (now (file .entry)) bit source target x count (now (src .entry)) (now (dst .entry)) (now (dst .exit)) ⌝ }
+{
+    let mut place = cursor.record;
+    let mut byte = cursor.byte;
+    let mut left = count;
+    while 0 < left {
+        let width = file[place + WIDTH] as usize;
+        let n = smaller(width - byte, left);
+        let from = byte_place(file, place + source, byte);
+        let to = byte_place(file, place + target, byte);
+        copy_bytes(dst, to, src, from, n);
+        byte += n;
+        left -= n;
+        if byte == width {
+            place = seek(file, place + records::VARIABLE_RECORD, end, bit);
+            byte = 0;
+        }
+    }
+    Cursor {
+        record: place,
+        byte,
+    }
+}
+
+// Bytes of core k's reading.
+pub fn bring_bytes(
+    file: &[u8],
+    end: usize,
+    k: usize,
+    x: u16,
+    cursor: Cursor,
+    count: usize,
+    d: &mut [u8],
+    shared: &[u8],
+) -> Cursor
+    requires { ⌜ Laid (now file) × (k < cores (now file)) × (end ≡ recordPlace (now file) (variables (now file))) × At (now file) (4 + k) x cursor × (x + count ≤ exchangeBytes (now file) (4 + k)) × (length (now d) ≡ dataSize (now file) k) × (length (now shared) ≡ 1024) ⌝ }
+    ensures { λ r. ⌜ At (now (file .entry)) (4 + k) (x + count) r × (now (d .exit) ≡ copy (take count (drop x (readsOf (variablesOf (now (file .entry))) k))) (now (shared .entry)) (now (d .entry))) ⌝ }
+{
+    carry(
+        file,
+        end,
+        4 + k,
+        0,
+        LOCAL + 2 * k,
+        x,
+        cursor,
+        count,
+        shared,
+        d,
+    )
+}
+
+// Bytes of core k's writing.
+pub fn publish_bytes(
+    file: &[u8],
+    end: usize,
+    k: usize,
+    x: u16,
+    cursor: Cursor,
+    count: usize,
+    d: &[u8],
+    shared: &mut [u8],
+) -> Cursor
+    requires { ⌜ Laid (now file) × (k < cores (now file)) × (end ≡ recordPlace (now file) (variables (now file))) × At (now file) k x cursor × (x + count ≤ exchangeBytes (now file) k) × (length (now d) ≡ dataSize (now file) k) × (length (now shared) ≡ 1024) ⌝ }
+    ensures { λ r. ⌜ At (now (file .entry)) k (x + count) r × (now (shared .exit) ≡ copy (take count (drop x (writesOf (variablesOf (now (file .entry))) k))) (now (d .entry)) (now (shared .entry))) ⌝ }
+{
+    carry(file, end, k, LOCAL + 2 * k, 0, x, cursor, count, d, shared)
 }
 
 // ---- the copy of all bytes, a variable at a time

@@ -4,3 +4,4 @@ pub mod Arms
 pub mod End
 pub mod Carrying
 pub mod Executing
+pub mod Bytes

@@ -163,7 +163,7 @@ kept-line {x} {y} l e = record { is = ap (λ (u : Line). semaphoreOf (u .semapho
 -- ---- the cursor
 
 -- what holds of core k's new registers and of the other cores' holds of every core
-aimed-on : (f : List ℕ) (cs : List Registers) (k : ℕ) (r : Registers) (h : ℕ) (cursor : Cursor) → k < length cs → (h ≡ suc k → Aimed f k r cursor)
+pub aimed-on : (f : List ℕ) (cs : List Registers) (k : ℕ) (r : Registers) (h : ℕ) (cursor : Cursor) → k < length cs → (h ≡ suc k → Aimed f k r cursor)
     → ((j : ℕ) → j ≢ k → j < cores f → h ≡ suc j → Aimed f j (getD cs j none) cursor)
     → (j : ℕ) → j < cores f → h ≡ suc j → Aimed f j (getD (set cs k r) j none) cursor
 aimed-on f cs k r h cursor i mine others j l e = go (ℕ-discrete j k)

@@ -1,4 +1,4 @@
--- Where a run stands between two of its steps, and what its parts promise of it. In order: the order; a place of execution; the invariant;
+-- Where a run stands between two of its steps, and what its parts promise of it. In order: the order; a place of execution, and of an exchange; the invariant;
 -- steps that carry a run on.
 use mathlib.Core.Path.{_≡_}
 use mathlib.Core.Bool.{Bool}
@@ -26,7 +26,11 @@ use Rattle.steps.specs.Moving.{Aimed}
 abbrev pub stepsOn : List ℕ → ℕ → ℕ → Bool
 stepsOn order i k = both (ltb i (length order)) (eqb (getD order i 0) k)
 
--- ---- a place of execution
+-- the m steps from i on are of core k
+abbrev pub AllOn : List ℕ → ℕ → ℕ → ℕ → Type 0
+AllOn order k i m = (j : ℕ) → i ≤ j → j < i + m → getD order j 0 ≡ k
+
+-- ---- a place of execution, and of an exchange
 
 -- the registers r with another one
 abbrev pub executingAt : Registers → ℕ → ℕ → ℕ → ℕ → Registers
@@ -37,6 +41,20 @@ executingAt r counter offset depth count = record {
   depth = depth;
   count = count;
   exchange = r .exchange;
+  cycles = r .cycles;
+  flags = r .flags;
+  time = r .time;
+}
+
+-- the registers r with more bytes of an exchange copied
+abbrev pub bytesOn : Registers → ℕ → Registers
+bytesOn r count = record {
+  mode = r .mode;
+  counter = r .counter;
+  offset = r .offset;
+  depth = r .depth;
+  count = r .count;
+  exchange = r .exchange + count;
   cycles = r .cycles;
   flags = r .flags;
   time = r .time;

@@ -14,8 +14,9 @@ ghost use lib.ListN.{length, getD, set};
 ghost use Rattle.records.specs.File.{cores};
 ghost use Rattle.runner.specs.Runs.{allBelow, left, ranCall};
 ghost use Rattle.states.specs.Tasks.{coreTask};
+ghost use Rattle.steps.specs.Bytes.{Ahead};
 ghost use Rattle.runner.specs.Going.{Going};
-ghost use Rattle.runner.specs.Running.{stepsOn, executingAt, Stands, Carries};
+ghost use Rattle.runner.specs.Running.{stepsOn, AllOn, executingAt, bytesOn, Stands, Carries};
 ghost use Rattle.runner.specs.Executing.{Executing, Executes};
 
 // What a call that moves the machine answers: the refusal number, 0 for none; how many takings it wrote; the state.
@@ -92,6 +93,57 @@ fn stays(order: &[u8], i: usize, k: usize) -> bool
         return false;
     }
     order[i] as usize == k
+}
+
+// Eight bytes of 1 each: times k, eight steps of core k.
+const ONES: u64 = 0x0101010101010101;
+
+// Whether at least eight steps are left from step i on, `room` in all, and the next eight are of core k.
+fn eight_on(order: &[u8], i: usize, room: usize, k: usize) -> bool
+    requires { ⌜ (i + room ≤ length (now order)) × (k < 4) ⌝ }
+    ensures { λ b. ⌜ (b ≡ true → (8 ≤ room) × AllOn (now (order .entry)) k i 8) ⌝ }
+{
+    if room < 8 {
+        return false;
+    }
+    memory::load(order, i, 8) == k as u64 * ONES
+}
+
+// How many of the steps from i on are of core k, with the registers r and the task c, and copy bytes of its exchange that leave one; 0 where the next
+// step is of another core, so that a single step is told at once.
+fn steps_ahead(order: &[u8], i: usize, k: usize, r: Registers, c: CoreTask) -> usize
+    requires { ⌜ (i < length (now order)) × (k < 4) ⌝ }
+    ensures { λ m. ⌜ (0 < m → Ahead c r m) × (i + m ≤ length (now (order .entry))) × AllOn (now (order .entry)) k i m ⌝ }
+{
+    if !stays(order, i + 1, k) {
+        return 0;
+    }
+    let most = steps::bytes_ahead(r, c);
+    let mut room = order.len() - i;
+    if most < room {
+        room = most;
+    }
+    let mut m: usize = 0;
+    while eight_on(order, i + m, room - m, k) {
+        m += 8;
+    }
+    while m < room {
+        if order[i + m] as usize != k {
+            return m;
+        }
+        m += 1;
+    }
+    m
+}
+
+// The registers of a core that has copied `count` more bytes.
+fn bytes_on(r: Registers, count: usize) -> Registers
+    requires { ⌜ r .exchange + count < 65536 ⌝ }
+    ensures { λ s. ⌜ s ≡ bytesOn r count ⌝ }
+{
+    let mut s = r;
+    s.exchange = r.exchange + count as u16;
+    s
 }
 
 // What a stretch of instructions leaves: the step after them, and the registers.
@@ -250,56 +302,75 @@ pub fn run_order(
                 }
             }
         } else {
-            let turn = semaphore::turn(line.semaphore, k as u8);
-            let z = steps::exchange_of(
-                cores[k],
-                k,
-                tasks[k],
-                file,
-                trace,
-                buffer,
-                shared,
-                end,
-                cursor,
-                turn,
-            );
-            match z {
-                Exchange::Rests => {}
-                Exchange::Joins => {
-                    line = semaphore::joined(line, k);
+            let m = steps_ahead(order, i, k, cores[k], tasks[k]);
+            if 0 < m {
+                // all but the last of the bytes that follow one another, in one go
+                cursor = steps::move_bytes(
+                    cores[k],
+                    k,
+                    tasks[k],
+                    file,
+                    trace,
+                    buffer,
+                    shared,
+                    end,
+                    cursor,
+                    m,
+                );
+                cores[k] = bytes_on(cores[k], m);
+                i += m;
+            } else {
+                let turn = semaphore::turn(line.semaphore, k as u8);
+                let z = steps::exchange_of(
+                    cores[k],
+                    k,
+                    tasks[k],
+                    file,
+                    trace,
+                    buffer,
+                    shared,
+                    end,
+                    cursor,
+                    turn,
+                );
+                match z {
+                    Exchange::Rests => {}
+                    Exchange::Joins => {
+                        line = semaphore::joined(line, k);
+                    }
+                    Exchange::ReadBegun(time) => {
+                        cores[k] = protocol::read_acquired(cores[k], time);
+                        line = semaphore::acquired(line, k);
+                        cursor = exchange::start(file, first, end, 4 + k);
+                        list[taken] = k as u8;
+                        taken = taken + 1;
+                    }
+                    Exchange::ReadOn(next) => {
+                        cores[k] = protocol::byte_copied(cores[k]);
+                        cursor = next;
+                    }
+                    Exchange::ReadEnded => {
+                        cores[k] = protocol::read_released(cores[k]);
+                        line = semaphore::released(line);
+                    }
+                    Exchange::WriteBegun => {
+                        cores[k] = protocol::write_acquired(cores[k]);
+                        line = semaphore::acquired(line, k);
+                        cursor = exchange::start(file, first, end, k);
+                        list[taken] = 16 + k as u8;
+                        taken = taken + 1;
+                    }
+                    Exchange::WriteOn(next) => {
+                        cores[k] = protocol::byte_copied(cores[k]);
+                        cursor = next;
+                    }
+                    Exchange::WriteEnded => {
+                        cores[k] = protocol::write_released(cores[k]);
+                        line = semaphore::released(line);
+                    }
                 }
-                Exchange::ReadBegun(time) => {
-                    cores[k] = protocol::read_acquired(cores[k], time);
-                    line = semaphore::acquired(line, k);
-                    cursor = exchange::start(file, first, end, 4 + k);
-                    list[taken] = k as u8;
-                    taken = taken + 1;
-                }
-                Exchange::ReadOn(next) => {
-                    cores[k] = protocol::byte_copied(cores[k]);
-                    cursor = next;
-                }
-                Exchange::ReadEnded => {
-                    cores[k] = protocol::read_released(cores[k]);
-                    line = semaphore::released(line);
-                }
-                Exchange::WriteBegun => {
-                    cores[k] = protocol::write_acquired(cores[k]);
-                    line = semaphore::acquired(line, k);
-                    cursor = exchange::start(file, first, end, k);
-                    list[taken] = 16 + k as u8;
-                    taken = taken + 1;
-                }
-                Exchange::WriteOn(next) => {
-                    cores[k] = protocol::byte_copied(cores[k]);
-                    cursor = next;
-                }
-                Exchange::WriteEnded => {
-                    cores[k] = protocol::write_released(cores[k]);
-                    line = semaphore::released(line);
-                }
+                i += 1;
             }
-            i += 1;
         }
     }
     let semaphore = line.semaphore;

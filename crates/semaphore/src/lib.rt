@@ -103,7 +103,9 @@ pub fn waits(x: Line, k: usize) -> bool
     requires { ⌜ Lined x × (k < 4) ⌝ }
     ensures { λ r. ⌜ r ≡ waitsAt (semaphoreOf (x .semaphore)) k ⌝ }
 {
-    if !x.standing[k] {
+    // a copy of its own: an index into the whole structure would keep all of it in memory
+    let standing = x.standing;
+    if !standing[k] {
         return false;
     }
     let m = x.semaphore;

@@ -2,7 +2,7 @@
 -- answers; the cases with the core's task: the record of a cycle, the bytes of an exchange, the instruction; the data of
 -- core k in the buffer of all. Assumes nothing.
 use mathlib.Core.Path.{_≡_, refl, sym, ap, ap₂, _∙_, subst, subst⁻¹}
-use mathlib.Core.Logic.{_≢_}
+use mathlib.Core.Logic.{_≢_, inl, inr}
 use mathlib.Core.Bool.{true, false}
 use mathlib.Core.List.{List, [], _∷_, _++_}
 use Prim.Native.Nat.{ℕ, zero, suc, _+_, _-_, _*_, _≤_, _<_}
@@ -40,6 +40,7 @@ use Rattle.states.specs.declared.CoreTask.{CoreTask}
 use Rattle.states.specs.Task.{taskOf}
 use Rattle.states.specs.Tasks.{coreTask}
 use Rattle.steps.specs.Effects.{Effect, Idle, Joined, ReadAcquired, ByteRead, ReadReleased, ByteWritten, WriteReleased, backAt, effectOf, Takes, Does, Alone, Steps}
+use Rattle.steps.specs.Bytes.{Ahead, BytesRead, BytesWritten}
 use Rattle.steps.specs.Moving.{Ready}
 use Rattle.steps.proofs.Does.{does-spent, does-joined-0, does-read-acquired, does-byte-read, does-read-released, does-byte-written, does-write-released, Leaves, does-instruction}
 
@@ -166,6 +167,21 @@ module _ {f t : List ℕ} {k : ℕ} {c : CoreTask} {r : Registers} {d : List ℕ
 
   pub writes-left : r .exchange < c .writes → r .exchange < exchangeBytes f k
   writes-left h = omega (arith, writes-are, length-writes f k core-few)
+
+  pub reads-bytes : c .reads ≡ exchangeBytes f (4 + k)
+  reads-bytes = reads-are ∙ length-reads f k core-few
+
+  pub writes-bytes : c .writes ≡ exchangeBytes f k
+  writes-bytes = writes-are ∙ length-writes f k core-few
+
+  -- bytes that leave one are bytes of the exchange
+  pub reading-ahead : (n : ℕ) → Ahead c r n → r .mode ≡ 1 → r .exchange + n ≤ exchangeBytes f (4 + k)
+  reading-ahead n (inl a) m = omega (arith, a .1, reads-bytes)
+  reading-ahead n (inr a) m = absurd (omega (arith, a .0))
+
+  pub writing-ahead : (n : ℕ) → Ahead c r n → r .mode ≢ 1 → (r .mode ≡ 4) × (r .exchange + n ≤ exchangeBytes f k)
+  writing-ahead n (inl a) m = absurd (m (a .0))
+  writing-ahead n (inr a) m = (a .0, omega (arith, a .1, writes-bytes))
 
   cycles-few : r .mode ≡ 4 → r .cycles < 65535
   cycles-few m = omega (arith, w .fit .under-way (omega arith) (omega arith), w .accepted .counts k)
@@ -318,3 +334,13 @@ module _ {f t : List ℕ} {k : ℕ} {c : CoreTask} {r : Registers} (d : List ℕ
       does = subst (λ (u : List ℕ). Does (taskOf f t) k r u sh h z m sh′) stretch-is q;
       kept = stretch-kept m l;
     }
+
+    -- several bytes in the stretch are those in the buffer
+    pub bytes-read-in : (x count : ℕ) (m sh : List ℕ) → m ≡ copy (take count (drop x (readsOf (variablesOf f) k))) sh (take (e - c .base) (drop (c .base) d))
+        → length m ≡ length (take (e - c .base) (drop (c .base) d)) → BytesRead f k x count sh d (take (c .base) d ++ (m ++ drop (e - c .base) (drop (c .base) d)))
+    bytes-read-in x count m sh q l =
+        stretch-kept m l ∙ ap (set (split (sizesOf f) d) k) (q ∙ ap (copy (take count (drop x (readsOf (variablesOf f) k))) sh) stretch-is)
+
+    pub bytes-written-in : (x count : ℕ) (sh sh′ : List ℕ) → sh′ ≡ copy (take count (drop x (writesOf (variablesOf f) k))) (take (e - c .base) (drop (c .base) d)) sh
+        → BytesWritten f k x count d sh sh′
+    bytes-written-in x count sh sh′ q = q ∙ ap (λ (l : List ℕ). copy (take count (drop x (writesOf (variablesOf f) k))) l sh) stretch-is

@@ -3,7 +3,9 @@
 use exchange::Cursor;
 use protocol::LIMIT;
 use protocol::Outcome;
+use protocol::READING;
 use protocol::Registers;
+use protocol::WRITING;
 use states::CoreTask;
 ghost use mathlib.Core.Path.{_≡_};
 ghost use mathlib.Core.List.{[]};
@@ -18,6 +20,7 @@ ghost use Rattle.steps.specs.Effects.{Instructs, Exchanges, ExchangesAlo
 ghost use Rattle.steps.specs.declared.Exchange.the-variants.{Joins, WriteBegun};
 ghost use Rattle.verdict.specs.Verdict.{pick};
 ghost use Rattle.steps.specs.Moving.{Ready, Aimed, Moving};
+ghost use Rattle.steps.specs.Bytes.{Ahead, BytesMoved};
 
 // What one step besides the instructions changes, apart from memory; the run applies it to the core in its table.
 pub enum Exchange {
@@ -242,5 +245,67 @@ pub fn exchange_of(
         end,
         cursor,
         turn,
+    )
+}
+
+// ---- several bytes of an exchange, none of them its last
+
+// How many bytes a core can copy and leave one of its exchange to copy; 0 where it is in none.
+pub fn bytes_ahead(r: Registers, c: CoreTask) -> usize
+    ensures { λ n. ⌜ (0 < n → Ahead c r n) ⌝ }
+{
+    let next = r.exchange as usize + 1;
+    let mode = r.mode;
+    if mode == READING {
+        if next < c.reads {
+            return c.reads - next;
+        }
+    } else if mode == WRITING {
+        if next < c.writes {
+            return c.writes - next;
+        }
+    }
+    0
+}
+
+// `count` bytes, a variable at a time; the answer is where the next one stands.
+pub fn move_bytes(
+    r: Registers,
+    k: usize,
+    c: CoreTask,
+    file: &[u8],
+    trace: &[u8],
+    buffer: &mut [u8],
+    shared: &mut [u8],
+    end: usize,
+    cursor: Cursor,
+    count: usize,
+) -> Cursor
+    requires { ⌜ Moving (now file) (now trace) k c r (now buffer) (now shared) end cursor × Ahead c r count ⌝ }
+    ensures { λ z. ⌜ BytesMoved (now (file .entry)) k r count z (now (buffer .entry)) (now (shared .entry)) (now (buffer .exit)) (now (shared .exit)) ⌝ }
+{
+    let a = c.base;
+    let e = a + c.size;
+    if r.mode == READING {
+        return exchange::bring_bytes(
+            file,
+            end,
+            k,
+            r.exchange,
+            cursor,
+            count,
+            &mut buffer[a..e],
+            shared,
+        );
+    }
+    exchange::publish_bytes(
+        file,
+        end,
+        k,
+        r.exchange,
+        cursor,
+        count,
+        &buffer[a..e],
+        shared,
     )
 }

@@ -3,7 +3,7 @@ use Prim.Native.Nat.{_+_}
 use native.Mathlib.Omega.{arith}
 use borrow.Author.Needs.{needs}
 use Rattle.exchange.proofs.Records.{place-next}
-use Rattle.exchange.proofs.Cursors.{at-found, at-place, at-before, at-within, at-whole, record-whole, byte-few}
+use Rattle.exchange.proofs.Cursors.{at-found, at-place, at-before, at-chosen, at-within, at-whole, record-whole, byte-few}
 use Rattle.exchange.proofs.onward.Statement.{statement}
 use Rattle.exchange.proofs.onward.Tie as tie
 
@@ -26,7 +26,7 @@ cast-if1 c = omega (arith, c .shared-slice-known2 .given (c .before .before .bef
 returns : tie.Need-returns
 returns c =
     let p = c .before .before .before .before .pre in
-    at-within _ _ (p .3) (p .4) (c .if1 .taken)
+    at-within _ _ (p .3) (p .4) 1 (c .if1 .taken)
 
 add-seek : tie.Need-add-seek
 add-seek c = search needs
@@ -39,7 +39,7 @@ seek-requires c κs =
 returns-2 : tie.Need-returns-2
 returns-2 c =
     let p = c .before .before .before .before .before .pre in
-    at-found _ _ (p .0) _ (place-next _ (at-place _ _ (p .3) (p .4)) (at-before _ _ (p .3) (p .4))) (at-whole _ _ (p .3) (p .4) (c .before .if1 .left)) (c .seek .ensures .0)
+    at-found _ _ (p .0) _ (place-next _ (at-place _ _ (p .3) (p .4)) (at-before _ _ (p .3) (p .4))) (at-whole _ _ (p .3) (p .4) 1 (omega (arith, c .before .if1 .left, at-chosen _ _ (p .3) (p .4) .1))) (c .seek .ensures .0)
     (λ h. c .seek .ensures .1 (omega arith))
 
 pub onward-spec : {M : Type 1} → statement M

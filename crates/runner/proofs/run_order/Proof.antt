@@ -17,6 +17,7 @@ use Rattle.runner.specs.Running.{Looping}
 use Rattle.runner.proofs.Running.{below-at}
 use Rattle.runner.proofs.Loop.{looping-start, moving, takes-of, read-on, write-on, shared-length, joins-out, reads-in, writes-in, joining, line-once}
 use Rattle.runner.proofs.Carrying.{steps-on, stands, Idles, idle}
+use Rattle.runner.proofs.Bytes.{ahead-few, bytes-arm}
 use Rattle.runner.proofs.End.{looping-end}
 use Rattle.semaphore.specs.Line.{semaphoreOf, waitsAt, Lined}
 use Rattle.runner.proofs.Arms.{rests-arm, joins-arm, reading-arm, byte-read-arm, read-arm, writing-arm, byte-written-arm, written-arm}
@@ -121,6 +122,60 @@ loop2-less-2 c = omega (arith, c .before .before .loop2 .inv .2 (c .before .loop
 loop2-again-2 : tie.Need-loop2-again-2 Inv-loop2 μ-loop2 Inv-loop μ-loop
 loop2-again-2 c = (omega (arith, c .before .before .loop2 .inv .0), (λ e. omega (arith, c .before .before .loop2 .inv .0)), (λ e. absurd-bool e), (λ a b d e g w. idle (c .before .before .before .before .before .before .before .before .before .before .before .before .before .before .before .before .before .before .before .pre .accepted) (c .before .before .loop2 .inv .3 a b d e g w) (c .before .before .loop2 .inv .2 (c .before .loop2-test .taken) .0) refl (below-at (coreCount (c .before .before .before .before .before .before .before .before .before .before .before .before .before .before .before .before .before .before .before .args .file .now)) (c .before .before .before .before .before .before .before .before .before .before .before .before .before .before .before .before .before .before .before .args .order .now) (c .before .before .loop2 .i) (c .before .before .before .before .before .before .before .before .before .before .before .before .before .before .before .before .before .before .before .pre .below) (c .before .before .loop2 .inv .2 (c .before .loop2-test .taken) .0)) (c .before .before .loop2 .inv .2 (c .before .loop2-test .taken) .1)))
 
+mul-steps-ahead : tie.Need-mul-steps-ahead Inv-loop2 μ-loop2 Inv-loop μ-loop
+mul-steps-ahead c = search needs
+
+array-copy-out-steps-ahead : tie.Need-array-copy-out-steps-ahead Inv-loop2 μ-loop2 Inv-loop μ-loop
+array-copy-out-steps-ahead c = search needs
+
+mul-steps-ahead-2 : tie.Need-mul-steps-ahead-2 Inv-loop2 μ-loop2 Inv-loop μ-loop
+mul-steps-ahead-2 c = search needs
+
+array-copy-out-steps-ahead-2 : tie.Need-array-copy-out-steps-ahead-2 Inv-loop2 μ-loop2 Inv-loop μ-loop
+array-copy-out-steps-ahead-2 c = search needs
+
+steps-ahead-requires : tie.Need-steps-ahead-requires Inv-loop2 μ-loop2 Inv-loop μ-loop
+steps-ahead-requires c κs = (c .before .before .before .before .before .before .loop-test .taken, c .before .before .before .before .before .core-at .ensures .2)
+
+mul-move-bytes : tie.Need-mul-move-bytes Inv-loop2 μ-loop2 Inv-loop μ-loop
+mul-move-bytes c = search needs
+
+array-copy-out-move-bytes : tie.Need-array-copy-out-move-bytes Inv-loop2 μ-loop2 Inv-loop μ-loop
+array-copy-out-move-bytes c = search needs
+
+mul-move-bytes-2 : tie.Need-mul-move-bytes-2 Inv-loop2 μ-loop2 Inv-loop μ-loop
+mul-move-bytes-2 c = search needs
+
+array-copy-out-move-bytes-2 : tie.Need-array-copy-out-move-bytes-2 Inv-loop2 μ-loop2 Inv-loop μ-loop
+array-copy-out-move-bytes-2 c = search needs
+
+move-bytes-requires : tie.Need-move-bytes-requires Inv-loop2 μ-loop2 Inv-loop μ-loop
+move-bytes-requires c κs = (moving (c .before .before .before .before .before .before .before .before .before .before .before .before .before .before .before .before .before .before .before .before .before .before .before .before .pre) (c .before .before .before .before .before .before .before .before .before .before .before .before .before .loop .inv .0) (c .before .before .before .before .before .before .before .before .before .before .before .core-at .ensures .1), c .before .before .before .before .before .steps-ahead .ensures .0 (c .before .before .before .before .if4 .taken))
+
+mul-bytes-on : tie.Need-mul-bytes-on Inv-loop2 μ-loop2 Inv-loop μ-loop
+mul-bytes-on c = search needs
+
+array-copy-out-bytes-on : tie.Need-array-copy-out-bytes-on Inv-loop2 μ-loop2 Inv-loop μ-loop
+array-copy-out-bytes-on c = search needs
+
+bytes-on-requires : tie.Need-bytes-on-requires Inv-loop2 μ-loop2 Inv-loop μ-loop
+bytes-on-requires c κs = ahead-few (moving (c .before .before .before .before .before .before .before .before .before .before .before .before .before .before .before .before .before .before .before .before .before .before .before .before .before .before .before .before .before .before .pre) (c .before .before .before .before .before .before .before .before .before .before .before .before .before .before .before .before .before .before .before .loop .inv .0) (c .before .before .before .before .before .before .before .before .before .before .before .before .before .before .before .before .before .core-at .ensures .1) .ready) _ (c .before .before .before .before .before .before .before .before .before .before .before .steps-ahead .ensures .0 (c .before .before .before .before .before .before .before .before .before .before .if4 .taken))
+
+mul-cores-2 : tie.Need-mul-cores-2 Inv-loop2 μ-loop2 Inv-loop μ-loop
+mul-cores-2 c = search (needs, c .before .before .before .before .before .before .before .before .before .before .before .before .before .before .before .before .before .before .core-at .ensures .2)
+
+array-set-from-cores-2 : tie.Need-array-set-from-cores-2 Inv-loop2 μ-loop2 Inv-loop μ-loop
+array-set-from-cores-2 c = search (needs, c .before .before .before .before .before .before .before .before .before .before .before .before .before .before .before .before .before .before .core-at .ensures .2)
+
+add-i-2 : tie.Need-add-i-2 Inv-loop2 μ-loop2 Inv-loop μ-loop
+add-i-2 c = omega (arith, c .before .before .before .before .before .before .before .before .before .before .before .before .before .before .before .before .before .before .before .before .before .before .before .before .before .before .before .before .before .before .before .good, c .before .before .before .before .before .before .before .before .before .before .before .before .steps-ahead .ensures .1)
+
+loop-less-3 : tie.Need-loop-less-3 Inv-loop2 μ-loop2 Inv-loop μ-loop
+loop-less-3 c = omega (arith, c .before .before .before .before .before .before .before .before .before .before .before .before .before .before .before .before .before .before .before .loop-test .taken, c .before .before .before .before .before .before .before .before .before .before .before .if4 .taken)
+
+loop-again-3 : tie.Need-loop-again-3 Inv-loop2 μ-loop2 Inv-loop μ-loop
+loop-again-3 c = (bytes-arm (c .before .before .before .before .before .before .before .before .before .before .before .before .before .before .before .before .before .before .before .before .loop .inv .0) (c .before .before .before .before .before .before .before .before .before .before .before .before .before .before .before .before .before .before .before .before .before .before .before .before .before .before .before .before .before .before .before .pre .accepted) (c .before .before .before .before .before .before .before .before .before .before .before .before .before .before .before .before .before .before .core-at .ensures .1) (c .before .before .before .before .before .before .before .before .before .before .before .before .before .before .before .before .before .before .before .before .before .before .before .before .before .before .before .before .before .before .before .pre .tasked _ (c .before .before .before .before .before .before .before .before .before .before .before .before .before .before .before .before .before .before .core-at .ensures .1)) (c .before .before .before .before .before .before .before .before .before .before .before .before .steps-ahead .ensures .0 (c .before .before .before .before .before .before .before .before .before .before .before .if4 .taken)) (c .before .before .before .before .before .before .before .before .before .before .before .before .steps-ahead .ensures .1) (c .before .before .before .before .before .before .before .before .before .before .before .before .steps-ahead .ensures .2) (c .before .before .before .before .before .before .move-bytes .ensures) (search (needs, c .before .before .before .before .before .buffer2 .given)) (c .bytes-on .ensures) refl refl, c .before .before .before .before .before .before .before .before .before .before .before .before .before .before .before .before .before .before .before .before .loop .inv .1)
+
 cast-turn : tie.Need-cast-turn Inv-loop2 μ-loop2 Inv-loop μ-loop
 cast-turn c = search needs
 
@@ -141,7 +196,7 @@ array-copy-out-exchange-of-2 :
 array-copy-out-exchange-of-2 c = search needs
 
 exchange-of-requires : tie.Need-exchange-of-requires Inv-loop2 μ-loop2 Inv-loop μ-loop
-exchange-of-requires c κs = (moving (c .before .before .before .before .before .before .before .before .before .before .before .before .before .before .before .before .before .before .before .before .before .pre) (c .before .before .before .before .before .before .before .before .before .before .loop .inv .0) (c .before .before .before .before .before .before .before .before .core-at .ensures .1), c .before .before .before .before .before .before .before .if1 .left)
+exchange-of-requires c κs = (moving (c .before .before .before .before .before .before .before .before .before .before .before .before .before .before .before .before .before .before .before .before .before .before .before .before .before .pre) (c .before .before .before .before .before .before .before .before .before .before .before .before .before .before .loop .inv .0) (c .before .before .before .before .before .before .before .before .before .before .before .before .core-at .ensures .1), c .before .before .before .before .before .before .before .before .before .before .before .if1 .left)
 
 enum-told : tie.Need-enum-told Inv-loop2 μ-loop2 Inv-loop μ-loop
 enum-told c = search needs
@@ -150,7 +205,7 @@ enum-told-2 : tie.Need-enum-told-2 Inv-loop2 μ-loop2 Inv-loop μ-loop
 enum-told-2 c = search needs
 
 joined-requires : tie.Need-joined-requires Inv-loop2 μ-loop2 Inv-loop μ-loop
-joined-requires c κs = (c .before .before .before .before .before .before .before .before .before .before .before .before .before .before .before .before .before .loop .inv .1, c .before .before .before .before .before .before .before .before .before .before .before .before .before .before .before .core-at .ensures .2, joining (c .before .before .before .before .before .before .before .before .before .before .before .before .before .before .before .before .before .loop .inv .0) (c .before .before .before .before .before .before .before .before .before .before .before .before .before .before .before .before .before .before .before .before .before .before .before .before .before .before .before .before .pre .accepted) (c .before .before .before .before .before .before .before .before .before .before .before .before .before .before .before .core-at .ensures .1) (sym (c .before .before .before .before .before .before .before .before .before .before .before .before .before .waits .ensures) ∙ c .before .before .before .before .before .before .before .before .before .before .before .before .if2 .left) (sym (c .before .before .before .before .before .before .before .before .before .before .before .turn .ensures) ∙ joins-out (c .before .before .before .before .before .before .before .before .before .before .before .before .before .before .before .before .before .before .before .before .before .before .before .before .before .before .before .before .args .file .now) (c .before .before .before .before .before .before .before .before .before .before .before .before .before .before .before .core-at .result) (getD (c .before .before .before .before .before .before .before .before .before .before .before .before .before .before .before .before .before .loop .cores) (c .before .before .before .before .before .before .before .before .before .before .before .before .before .before .before .core-at .result) none) (c .before .before .before .before .before .before .before .before .before .before .before .turn .result) (c .enum-told2 .given .1) (c .before .before .before .before .before .before .exchange-of .ensures .1)) .0, joining (c .before .before .before .before .before .before .before .before .before .before .before .before .before .before .before .before .before .loop .inv .0) (c .before .before .before .before .before .before .before .before .before .before .before .before .before .before .before .before .before .before .before .before .before .before .before .before .before .before .before .before .pre .accepted) (c .before .before .before .before .before .before .before .before .before .before .before .before .before .before .before .core-at .ensures .1) (sym (c .before .before .before .before .before .before .before .before .before .before .before .before .before .waits .ensures) ∙ c .before .before .before .before .before .before .before .before .before .before .before .before .if2 .left) (sym (c .before .before .before .before .before .before .before .before .before .before .before .turn .ensures) ∙ joins-out (c .before .before .before .before .before .before .before .before .before .before .before .before .before .before .before .before .before .before .before .before .before .before .before .before .before .before .before .before .args .file .now) (c .before .before .before .before .before .before .before .before .before .before .before .before .before .before .before .core-at .result) (getD (c .before .before .before .before .before .before .before .before .before .before .before .before .before .before .before .before .before .loop .cores) (c .before .before .before .before .before .before .before .before .before .before .before .before .before .before .before .core-at .result) none) (c .before .before .before .before .before .before .before .before .before .before .before .turn .result) (c .enum-told2 .given .1) (c .before .before .before .before .before .before .exchange-of .ensures .1)) .1)
+joined-requires c κs = (c .before .before .before .before .before .before .before .before .before .before .before .before .before .before .before .before .before .before .before .before .before .loop .inv .1, c .before .before .before .before .before .before .before .before .before .before .before .before .before .before .before .before .before .before .before .core-at .ensures .2, joining (c .before .before .before .before .before .before .before .before .before .before .before .before .before .before .before .before .before .before .before .before .before .loop .inv .0) (c .before .before .before .before .before .before .before .before .before .before .before .before .before .before .before .before .before .before .before .before .before .before .before .before .before .before .before .before .before .before .before .before .pre .accepted) (c .before .before .before .before .before .before .before .before .before .before .before .before .before .before .before .before .before .before .before .core-at .ensures .1) (sym (c .before .before .before .before .before .before .before .before .before .before .before .before .before .before .before .before .before .waits .ensures) ∙ c .before .before .before .before .before .before .before .before .before .before .before .before .before .before .before .before .if2 .left) (sym (c .before .before .before .before .before .before .before .before .before .before .before .turn .ensures) ∙ joins-out (c .before .before .before .before .before .before .before .before .before .before .before .before .before .before .before .before .before .before .before .before .before .before .before .before .before .before .before .before .before .before .before .before .args .file .now) (c .before .before .before .before .before .before .before .before .before .before .before .before .before .before .before .before .before .before .before .core-at .result) (getD (c .before .before .before .before .before .before .before .before .before .before .before .before .before .before .before .before .before .before .before .before .before .loop .cores) (c .before .before .before .before .before .before .before .before .before .before .before .before .before .before .before .before .before .before .before .core-at .result) none) (c .before .before .before .before .before .before .before .before .before .before .before .turn .result) (c .enum-told2 .given .1) (c .before .before .before .before .before .before .exchange-of .ensures .1)) .0, joining (c .before .before .before .before .before .before .before .before .before .before .before .before .before .before .before .before .before .before .before .before .before .loop .inv .0) (c .before .before .before .before .before .before .before .before .before .before .before .before .before .before .before .before .before .before .before .before .before .before .before .before .before .before .before .before .before .before .before .before .pre .accepted) (c .before .before .before .before .before .before .before .before .before .before .before .before .before .before .before .before .before .before .before .core-at .ensures .1) (sym (c .before .before .before .before .before .before .before .before .before .before .before .before .before .before .before .before .before .waits .ensures) ∙ c .before .before .before .before .before .before .before .before .before .before .before .before .before .before .before .before .if2 .left) (sym (c .before .before .before .before .before .before .before .before .before .before .before .turn .ensures) ∙ joins-out (c .before .before .before .before .before .before .before .before .before .before .before .before .before .before .before .before .before .before .before .before .before .before .before .before .before .before .before .before .before .before .before .before .args .file .now) (c .before .before .before .before .before .before .before .before .before .before .before .before .before .before .before .before .before .before .before .core-at .result) (getD (c .before .before .before .before .before .before .before .before .before .before .before .before .before .before .before .before .before .before .before .before .before .loop .cores) (c .before .before .before .before .before .before .before .before .before .before .before .before .before .before .before .before .before .before .before .core-at .result) none) (c .before .before .before .before .before .before .before .before .before .before .before .turn .result) (c .enum-told2 .given .1) (c .before .before .before .before .before .before .exchange-of .ensures .1)) .1)
 
 enum-known-z : tie.Need-enum-known-z Inv-loop2 μ-loop2 Inv-loop μ-loop
 enum-known-z c = search needs
@@ -165,29 +220,29 @@ array-copy-out-read-acquired c = search needs
 read-acquired-requires : tie.Need-read-acquired-requires Inv-loop2 μ-loop2 Inv-loop μ-loop
 read-acquired-requires c κs = search needs
 
-mul-cores-2 : tie.Need-mul-cores-2 Inv-loop2 μ-loop2 Inv-loop μ-loop
-mul-cores-2 c = search needs
+mul-cores-3 : tie.Need-mul-cores-3 Inv-loop2 μ-loop2 Inv-loop μ-loop
+mul-cores-3 c = search (needs, c .before .before .before .before .before .before .before .before .before .before .before .before .before .before .before .before .before .before .before .before .before .before .core-at .ensures .2)
 
-array-set-from-cores-2 : tie.Need-array-set-from-cores-2 Inv-loop2 μ-loop2 Inv-loop μ-loop
-array-set-from-cores-2 c = search needs
+array-set-from-cores-3 : tie.Need-array-set-from-cores-3 Inv-loop2 μ-loop2 Inv-loop μ-loop
+array-set-from-cores-3 c = search (needs, c .before .before .before .before .before .before .before .before .before .before .before .before .before .before .before .before .before .before .before .before .before .before .core-at .ensures .2)
 
 acquired-requires : tie.Need-acquired-requires Inv-loop2 μ-loop2 Inv-loop μ-loop
-acquired-requires c κs = (c .before .before .before .before .before .before .before .before .before .before .before .before .before .before .before .before .before .before .before .before .loop .inv .1, c .before .before .before .before .before .before .before .before .before .before .before .before .before .before .before .before .before .before .core-at .ensures .2, sym (c .before .before .before .before .before .before .before .before .before .before .before .before .before .before .turn .ensures) ∙ reads-in (c .before .before .before .before .before .before .before .before .before .before .before .before .before .before .before .before .before .before .before .before .before .before .before .before .before .before .before .before .before .before .before .args .file .now) (c .before .before .before .before .before .before .before .before .before .before .before .before .before .before .before .before .before .before .core-at .result) (getD (c .before .before .before .before .before .before .before .before .before .before .before .before .before .before .before .before .before .before .before .before .loop .cores) (c .before .before .before .before .before .before .before .before .before .before .before .before .before .before .before .before .before .before .core-at .result) none) (c .before .before .before .before .before .before .before .before .before .before .before .before .before .before .turn .result) (c .before .before .before .z .given .1) (c .before .before .before .before .before .before .before .before .before .exchange-of .ensures .1), line-once (c .before .before .before .before .before .before .before .before .before .before .before .before .before .before .before .before .before .before .before .before .loop .inv .0))
+acquired-requires c κs = (c .before .before .before .before .before .before .before .before .before .before .before .before .before .before .before .before .before .before .before .before .before .before .before .before .loop .inv .1, c .before .before .before .before .before .before .before .before .before .before .before .before .before .before .before .before .before .before .before .before .before .before .core-at .ensures .2, sym (c .before .before .before .before .before .before .before .before .before .before .before .before .before .before .turn .ensures) ∙ reads-in (c .before .before .before .before .before .before .before .before .before .before .before .before .before .before .before .before .before .before .before .before .before .before .before .before .before .before .before .before .before .before .before .before .before .before .before .args .file .now) (c .before .before .before .before .before .before .before .before .before .before .before .before .before .before .before .before .before .before .before .before .before .before .core-at .result) (getD (c .before .before .before .before .before .before .before .before .before .before .before .before .before .before .before .before .before .before .before .before .before .before .before .before .loop .cores) (c .before .before .before .before .before .before .before .before .before .before .before .before .before .before .before .before .before .before .before .before .before .before .core-at .result) none) (c .before .before .before .before .before .before .before .before .before .before .before .before .before .before .turn .result) (c .before .before .before .z .given .1) (c .before .before .before .before .before .before .before .before .before .exchange-of .ensures .1), line-once (c .before .before .before .before .before .before .before .before .before .before .before .before .before .before .before .before .before .before .before .before .before .before .before .before .loop .inv .0))
 
 add-start : tie.Need-add-start Inv-loop2 μ-loop2 Inv-loop μ-loop
-add-start c = record { fits = omega (arith, c .before .before .before .before .before .before .before .before .before .before .before .before .before .before .before .before .before .before .before .core-at .ensures .2) }
+add-start c = record { fits = omega (arith, c .before .before .before .before .before .before .before .before .before .before .before .before .before .before .before .before .before .before .before .before .before .before .before .core-at .ensures .2) }
 
 start-requires : tie.Need-start-requires Inv-loop2 μ-loop2 Inv-loop μ-loop
-start-requires c κs = (c .before .before .before .before .before .before .before .before .before .before .before .before .before .before .before .before .before .before .before .before .before .before .before .before .before .before .before .before .before .before .before .before .pre .accepted .laid, c .before .before .before .before .before .before .before .before .before .before .before .before .before .before .before .before .before .before .before .before .before .before .before .before .before .before .before .before .before .before .before .before .pre .from, c .before .before .before .before .before .before .before .before .before .before .before .before .before .before .before .before .before .before .before .before .before .before .before .before .before .before .before .before .before .before .before .before .pre .upto, omega (arith, c .before .before .before .before .before .before .before .before .before .before .before .before .before .before .before .before .before .before .before .core-at .ensures .2))
+start-requires c κs = (c .before .before .before .before .before .before .before .before .before .before .before .before .before .before .before .before .before .before .before .before .before .before .before .before .before .before .before .before .before .before .before .before .before .before .before .before .pre .accepted .laid, c .before .before .before .before .before .before .before .before .before .before .before .before .before .before .before .before .before .before .before .before .before .before .before .before .before .before .before .before .before .before .before .before .before .before .before .before .pre .from, c .before .before .before .before .before .before .before .before .before .before .before .before .before .before .before .before .before .before .before .before .before .before .before .before .before .before .before .before .before .before .before .before .before .before .before .before .pre .upto, omega (arith, c .before .before .before .before .before .before .before .before .before .before .before .before .before .before .before .before .before .before .before .before .before .before .before .core-at .ensures .2))
 
 cast-list : tie.Need-cast-list Inv-loop2 μ-loop2 Inv-loop μ-loop
-cast-list c = omega (arith, c .before .before .before .before .before .before .before .before .before .before .before .before .before .before .before .before .before .before .before .before .core-at .ensures .2)
+cast-list c = omega (arith, c .before .before .before .before .before .before .before .before .before .before .before .before .before .before .before .before .before .before .before .before .before .before .before .before .core-at .ensures .2)
 
 slice-write-list : tie.Need-slice-write-list Inv-loop2 μ-loop2 Inv-loop μ-loop
-slice-write-list c = omega (arith, c .before .before .before .before .before .before .before .before .before .before .before .before .before .before .before .before .before .before .before .before .before .before .before .before .before .before .before .before .before .before .before .before .before .good, c .before .before .before .before .before .before .before .before .before .before .before .before .before .before .before .before .before .before .before .before .before .before .loop .inv .0 .running .room, c .before .before .before .before .before .before .before .before .before .before .before .before .before .before .before .before .before .before .before .before .before .before .loop .inv .0 .running .list-length, c .before .before .before .before .before .before .before .before .before .before .before .before .before .before .before .before .before .before .before .before .before .before .before .before .before .before .before .before .before .before .before .before .before .pre .room, c .before .before .before .before .before .before .before .before .before .before .before .before .before .before .before .before .before .before .before .before .before .loop-test .taken)
+slice-write-list c = omega (arith, c .before .before .before .before .before .before .before .before .before .before .before .before .before .before .before .before .before .before .before .before .before .before .before .before .before .before .before .before .before .before .before .before .before .before .before .before .before .good, c .before .before .before .before .before .before .before .before .before .before .before .before .before .before .before .before .before .before .before .before .before .before .before .before .before .before .loop .inv .0 .running .room, c .before .before .before .before .before .before .before .before .before .before .before .before .before .before .before .before .before .before .before .before .before .before .before .before .before .before .loop .inv .0 .running .list-length, c .before .before .before .before .before .before .before .before .before .before .before .before .before .before .before .before .before .before .before .before .before .before .before .before .before .before .before .before .before .before .before .before .before .before .before .before .before .pre .room, c .before .before .before .before .before .before .before .before .before .before .before .before .before .before .before .before .before .before .before .before .before .before .before .before .before .loop-test .taken)
 
 add-taken : tie.Need-add-taken Inv-loop2 μ-loop2 Inv-loop μ-loop
-add-taken c = omega (arith, c .before .before .before .before .before .before .before .before .before .before .before .before .before .before .before .before .before .before .before .before .before .before .before .before .before .before .before .before .before .before .before .before .before .good, c .before .before .before .before .before .before .before .before .before .before .before .before .before .before .before .before .before .before .before .before .before .before .loop .inv .0 .running .room, c .before .before .before .before .before .before .before .before .before .before .before .before .before .before .before .before .before .before .before .before .before .before .loop .inv .0 .running .list-length, c .before .before .before .before .before .before .before .before .before .before .before .before .before .before .before .before .before .before .before .before .before .before .before .before .before .before .before .before .before .before .before .before .before .pre .room, c .before .before .before .before .before .before .before .before .before .before .before .before .before .before .before .before .before .before .before .before .before .loop-test .taken)
+add-taken c = omega (arith, c .before .before .before .before .before .before .before .before .before .before .before .before .before .before .before .before .before .before .before .before .before .before .before .before .before .before .before .before .before .before .before .before .before .before .before .before .before .good, c .before .before .before .before .before .before .before .before .before .before .before .before .before .before .before .before .before .before .before .before .before .before .before .before .before .before .loop .inv .0 .running .room, c .before .before .before .before .before .before .before .before .before .before .before .before .before .before .before .before .before .before .before .before .before .before .before .before .before .before .loop .inv .0 .running .list-length, c .before .before .before .before .before .before .before .before .before .before .before .before .before .before .before .before .before .before .before .before .before .before .before .before .before .before .before .before .before .before .before .before .before .before .before .before .before .pre .room, c .before .before .before .before .before .before .before .before .before .before .before .before .before .before .before .before .before .before .before .before .before .before .before .before .before .loop-test .taken)
 
 enum-known-z-2 : tie.Need-enum-known-z-2 Inv-loop2 μ-loop2 Inv-loop μ-loop
 enum-known-z-2 c = search needs
@@ -199,13 +254,13 @@ array-copy-out-byte-copied : tie.Need-array-copy-out-byte-copied Inv-loop2 μ-lo
 array-copy-out-byte-copied c = search needs
 
 byte-copied-requires : tie.Need-byte-copied-requires Inv-loop2 μ-loop2 Inv-loop μ-loop
-byte-copied-requires c κs = takes-of (c .before .before .before .before .before .before .before .before .exchange-of .ensures .0 (semaphoreOf (c .before .before .before .before .before .before .before .before .before .before .before .before .before .before .before .before .before .before .before .loop .line .semaphore)) (sym (c .before .before .before .before .before .before .before .before .before .before .before .before .before .turn .ensures))) ByteRead (ap exchanged (c .before .before .z2 .given .1))
+byte-copied-requires c κs = takes-of (c .before .before .before .before .before .before .before .before .exchange-of .ensures .0 (semaphoreOf (c .before .before .before .before .before .before .before .before .before .before .before .before .before .before .before .before .before .before .before .before .before .before .before .loop .line .semaphore)) (sym (c .before .before .before .before .before .before .before .before .before .before .before .before .before .turn .ensures))) ByteRead (ap exchanged (c .before .before .z2 .given .1))
 
-mul-cores-3 : tie.Need-mul-cores-3 Inv-loop2 μ-loop2 Inv-loop μ-loop
-mul-cores-3 c = search needs
+mul-cores-4 : tie.Need-mul-cores-4 Inv-loop2 μ-loop2 Inv-loop μ-loop
+mul-cores-4 c = search (needs, c .before .before .before .before .before .before .before .before .before .before .before .before .before .before .before .before .before .before .before .before .before .before .core-at .ensures .2)
 
-array-set-from-cores-3 : tie.Need-array-set-from-cores-3 Inv-loop2 μ-loop2 Inv-loop μ-loop
-array-set-from-cores-3 c = search needs
+array-set-from-cores-4 : tie.Need-array-set-from-cores-4 Inv-loop2 μ-loop2 Inv-loop μ-loop
+array-set-from-cores-4 c = search (needs, c .before .before .before .before .before .before .before .before .before .before .before .before .before .before .before .before .before .before .before .before .before .before .core-at .ensures .2)
 
 enum-told-3 : tie.Need-enum-told-3 Inv-loop2 μ-loop2 Inv-loop μ-loop
 enum-told-3 c = search needs
@@ -220,14 +275,14 @@ array-copy-out-read-released c = search needs
 read-released-requires : tie.Need-read-released-requires Inv-loop2 μ-loop2 Inv-loop μ-loop
 read-released-requires c κs = search needs
 
-mul-cores-4 : tie.Need-mul-cores-4 Inv-loop2 μ-loop2 Inv-loop μ-loop
-mul-cores-4 c = search needs
+mul-cores-5 : tie.Need-mul-cores-5 Inv-loop2 μ-loop2 Inv-loop μ-loop
+mul-cores-5 c = search (needs, c .before .before .before .before .before .before .before .before .before .before .before .before .before .before .before .before .before .before .before .before .before .core-at .ensures .2)
 
-array-set-from-cores-4 : tie.Need-array-set-from-cores-4 Inv-loop2 μ-loop2 Inv-loop μ-loop
-array-set-from-cores-4 c = search needs
+array-set-from-cores-5 : tie.Need-array-set-from-cores-5 Inv-loop2 μ-loop2 Inv-loop μ-loop
+array-set-from-cores-5 c = search (needs, c .before .before .before .before .before .before .before .before .before .before .before .before .before .before .before .before .before .before .before .before .before .core-at .ensures .2)
 
 released-requires : tie.Need-released-requires Inv-loop2 μ-loop2 Inv-loop μ-loop
-released-requires c κs = c .before .before .before .before .before .before .before .before .before .before .before .before .before .before .before .before .before .before .before .loop .inv .1
+released-requires c κs = c .before .before .before .before .before .before .before .before .before .before .before .before .before .before .before .before .before .before .before .before .before .before .before .loop .inv .1
 
 enum-told-4 : tie.Need-enum-told-4 Inv-loop2 μ-loop2 Inv-loop μ-loop
 enum-told-4 c = search needs
@@ -242,29 +297,29 @@ array-copy-out-write-acquired c = search needs
 write-acquired-requires : tie.Need-write-acquired-requires Inv-loop2 μ-loop2 Inv-loop μ-loop
 write-acquired-requires c κs = search needs
 
-mul-cores-5 : tie.Need-mul-cores-5 Inv-loop2 μ-loop2 Inv-loop μ-loop
-mul-cores-5 c = search needs
+mul-cores-6 : tie.Need-mul-cores-6 Inv-loop2 μ-loop2 Inv-loop μ-loop
+mul-cores-6 c = search (needs, c .before .before .before .before .before .before .before .before .before .before .before .before .before .before .before .before .before .before .before .before .before .core-at .ensures .2)
 
-array-set-from-cores-5 : tie.Need-array-set-from-cores-5 Inv-loop2 μ-loop2 Inv-loop μ-loop
-array-set-from-cores-5 c = search needs
+array-set-from-cores-6 : tie.Need-array-set-from-cores-6 Inv-loop2 μ-loop2 Inv-loop μ-loop
+array-set-from-cores-6 c = search (needs, c .before .before .before .before .before .before .before .before .before .before .before .before .before .before .before .before .before .before .before .before .before .core-at .ensures .2)
 
 acquired-requires-2 : tie.Need-acquired-requires-2 Inv-loop2 μ-loop2 Inv-loop μ-loop
-acquired-requires-2 c κs = (c .before .before .before .before .before .before .before .before .before .before .before .before .before .before .before .before .before .before .before .loop .inv .1, c .before .before .before .before .before .before .before .before .before .before .before .before .before .before .before .before .before .core-at .ensures .2, sym (c .before .before .before .before .before .before .before .before .before .before .before .before .before .turn .ensures) ∙ writes-in (c .before .before .before .before .before .before .before .before .before .before .before .before .before .before .before .before .before .before .before .before .before .before .before .before .before .before .before .before .before .before .args .file .now) (c .before .before .before .before .before .before .before .before .before .before .before .before .before .before .before .before .before .core-at .result) (getD (c .before .before .before .before .before .before .before .before .before .before .before .before .before .before .before .before .before .before .before .loop .cores) (c .before .before .before .before .before .before .before .before .before .before .before .before .before .before .before .before .before .core-at .result) none) (c .before .before .before .before .before .before .before .before .before .before .before .before .before .turn .result) (c .before .before .enum-told4 .given .1) (c .before .before .before .before .before .before .before .before .exchange-of .ensures .1), line-once (c .before .before .before .before .before .before .before .before .before .before .before .before .before .before .before .before .before .before .before .loop .inv .0))
+acquired-requires-2 c κs = (c .before .before .before .before .before .before .before .before .before .before .before .before .before .before .before .before .before .before .before .before .before .before .before .loop .inv .1, c .before .before .before .before .before .before .before .before .before .before .before .before .before .before .before .before .before .before .before .before .before .core-at .ensures .2, sym (c .before .before .before .before .before .before .before .before .before .before .before .before .before .turn .ensures) ∙ writes-in (c .before .before .before .before .before .before .before .before .before .before .before .before .before .before .before .before .before .before .before .before .before .before .before .before .before .before .before .before .before .before .before .before .before .before .args .file .now) (c .before .before .before .before .before .before .before .before .before .before .before .before .before .before .before .before .before .before .before .before .before .core-at .result) (getD (c .before .before .before .before .before .before .before .before .before .before .before .before .before .before .before .before .before .before .before .before .before .before .before .loop .cores) (c .before .before .before .before .before .before .before .before .before .before .before .before .before .before .before .before .before .before .before .before .before .core-at .result) none) (c .before .before .before .before .before .before .before .before .before .before .before .before .before .turn .result) (c .before .before .enum-told4 .given .1) (c .before .before .before .before .before .before .before .before .exchange-of .ensures .1), line-once (c .before .before .before .before .before .before .before .before .before .before .before .before .before .before .before .before .before .before .before .before .before .before .before .loop .inv .0))
 
 start-requires-2 : tie.Need-start-requires-2 Inv-loop2 μ-loop2 Inv-loop μ-loop
-start-requires-2 c κs = (c .before .before .before .before .before .before .before .before .before .before .before .before .before .before .before .before .before .before .before .before .before .before .before .before .before .before .before .before .before .before .before .pre .accepted .laid, c .before .before .before .before .before .before .before .before .before .before .before .before .before .before .before .before .before .before .before .before .before .before .before .before .before .before .before .before .before .before .before .pre .from, c .before .before .before .before .before .before .before .before .before .before .before .before .before .before .before .before .before .before .before .before .before .before .before .before .before .before .before .before .before .before .before .pre .upto, omega (arith, c .before .before .before .before .before .before .before .before .before .before .before .before .before .before .before .before .before .before .core-at .ensures .2))
+start-requires-2 c κs = (c .before .before .before .before .before .before .before .before .before .before .before .before .before .before .before .before .before .before .before .before .before .before .before .before .before .before .before .before .before .before .before .before .before .before .before .pre .accepted .laid, c .before .before .before .before .before .before .before .before .before .before .before .before .before .before .before .before .before .before .before .before .before .before .before .before .before .before .before .before .before .before .before .before .before .before .before .pre .from, c .before .before .before .before .before .before .before .before .before .before .before .before .before .before .before .before .before .before .before .before .before .before .before .before .before .before .before .before .before .before .before .before .before .before .before .pre .upto, omega (arith, c .before .before .before .before .before .before .before .before .before .before .before .before .before .before .before .before .before .before .before .before .before .before .core-at .ensures .2))
 
 cast-list-2 : tie.Need-cast-list-2 Inv-loop2 μ-loop2 Inv-loop μ-loop
-cast-list-2 c = omega (arith, c .before .before .before .before .before .before .before .before .before .before .before .before .before .before .before .before .before .before .before .core-at .ensures .2)
+cast-list-2 c = omega (arith, c .before .before .before .before .before .before .before .before .before .before .before .before .before .before .before .before .before .before .before .before .before .before .before .core-at .ensures .2)
 
 add-list : tie.Need-add-list Inv-loop2 μ-loop2 Inv-loop μ-loop
-add-list c = record { fits = omega (arith, c .before .before .before .before .before .before .before .before .before .before .before .before .before .before .before .before .before .before .before .core-at .ensures .2) }
+add-list c = record { fits = omega (arith, c .before .before .before .before .before .before .before .before .before .before .before .before .before .before .before .before .before .before .before .before .before .before .before .core-at .ensures .2) }
 
 slice-write-list-2 : tie.Need-slice-write-list-2 Inv-loop2 μ-loop2 Inv-loop μ-loop
-slice-write-list-2 c = omega (arith, c .before .before .before .before .before .before .before .before .before .before .before .before .before .before .before .before .before .before .before .before .before .before .before .before .before .before .before .before .before .before .before .before .good, c .before .before .before .before .before .before .before .before .before .before .before .before .before .before .before .before .before .before .before .before .before .loop .inv .0 .running .room, c .before .before .before .before .before .before .before .before .before .before .before .before .before .before .before .before .before .before .before .before .before .loop .inv .0 .running .list-length, c .before .before .before .before .before .before .before .before .before .before .before .before .before .before .before .before .before .before .before .before .before .before .before .before .before .before .before .before .before .before .before .before .pre .room, c .before .before .before .before .before .before .before .before .before .before .before .before .before .before .before .before .before .before .before .before .loop-test .taken)
+slice-write-list-2 c = omega (arith, c .before .before .before .before .before .before .before .before .before .before .before .before .before .before .before .before .before .before .before .before .before .before .before .before .before .before .before .before .before .before .before .before .before .before .before .before .good, c .before .before .before .before .before .before .before .before .before .before .before .before .before .before .before .before .before .before .before .before .before .before .before .before .before .loop .inv .0 .running .room, c .before .before .before .before .before .before .before .before .before .before .before .before .before .before .before .before .before .before .before .before .before .before .before .before .before .loop .inv .0 .running .list-length, c .before .before .before .before .before .before .before .before .before .before .before .before .before .before .before .before .before .before .before .before .before .before .before .before .before .before .before .before .before .before .before .before .before .before .before .before .pre .room, c .before .before .before .before .before .before .before .before .before .before .before .before .before .before .before .before .before .before .before .before .before .before .before .before .loop-test .taken)
 
 add-taken-2 : tie.Need-add-taken-2 Inv-loop2 μ-loop2 Inv-loop μ-loop
-add-taken-2 c = omega (arith, c .before .before .before .before .before .before .before .before .before .before .before .before .before .before .before .before .before .before .before .before .before .before .before .before .before .before .before .before .before .before .before .before .good, c .before .before .before .before .before .before .before .before .before .before .before .before .before .before .before .before .before .before .before .before .before .loop .inv .0 .running .room, c .before .before .before .before .before .before .before .before .before .before .before .before .before .before .before .before .before .before .before .before .before .loop .inv .0 .running .list-length, c .before .before .before .before .before .before .before .before .before .before .before .before .before .before .before .before .before .before .before .before .before .before .before .before .before .before .before .before .before .before .before .before .pre .room, c .before .before .before .before .before .before .before .before .before .before .before .before .before .before .before .before .before .before .before .before .loop-test .taken)
+add-taken-2 c = omega (arith, c .before .before .before .before .before .before .before .before .before .before .before .before .before .before .before .before .before .before .before .before .before .before .before .before .before .before .before .before .before .before .before .before .before .before .before .before .good, c .before .before .before .before .before .before .before .before .before .before .before .before .before .before .before .before .before .before .before .before .before .before .before .before .before .loop .inv .0 .running .room, c .before .before .before .before .before .before .before .before .before .before .before .before .before .before .before .before .before .before .before .before .before .before .before .before .before .loop .inv .0 .running .list-length, c .before .before .before .before .before .before .before .before .before .before .before .before .before .before .before .before .before .before .before .before .before .before .before .before .before .before .before .before .before .before .before .before .before .before .before .before .pre .room, c .before .before .before .before .before .before .before .before .before .before .before .before .before .before .before .before .before .before .before .before .before .before .before .before .loop-test .taken)
 
 enum-known-z-3 : tie.Need-enum-known-z-3 Inv-loop2 μ-loop2 Inv-loop μ-loop
 enum-known-z-3 c = search needs
@@ -277,13 +332,13 @@ array-copy-out-byte-copied-2 :
 array-copy-out-byte-copied-2 c = search needs
 
 byte-copied-requires-2 : tie.Need-byte-copied-requires-2 Inv-loop2 μ-loop2 Inv-loop μ-loop
-byte-copied-requires-2 c κs = takes-of (c .before .before .before .before .before .before .before .before .exchange-of .ensures .0 (semaphoreOf (c .before .before .before .before .before .before .before .before .before .before .before .before .before .before .before .before .before .before .before .loop .line .semaphore)) (sym (c .before .before .before .before .before .before .before .before .before .before .before .before .before .turn .ensures))) ByteWritten (ap exchanged (c .before .before .z3 .given .1))
+byte-copied-requires-2 c κs = takes-of (c .before .before .before .before .before .before .before .before .exchange-of .ensures .0 (semaphoreOf (c .before .before .before .before .before .before .before .before .before .before .before .before .before .before .before .before .before .before .before .before .before .before .before .loop .line .semaphore)) (sym (c .before .before .before .before .before .before .before .before .before .before .before .before .before .turn .ensures))) ByteWritten (ap exchanged (c .before .before .z3 .given .1))
 
-mul-cores-6 : tie.Need-mul-cores-6 Inv-loop2 μ-loop2 Inv-loop μ-loop
-mul-cores-6 c = search needs
+mul-cores-7 : tie.Need-mul-cores-7 Inv-loop2 μ-loop2 Inv-loop μ-loop
+mul-cores-7 c = search (needs, c .before .before .before .before .before .before .before .before .before .before .before .before .before .before .before .before .before .before .before .before .before .before .core-at .ensures .2)
 
-array-set-from-cores-6 : tie.Need-array-set-from-cores-6 Inv-loop2 μ-loop2 Inv-loop μ-loop
-array-set-from-cores-6 c = search needs
+array-set-from-cores-7 : tie.Need-array-set-from-cores-7 Inv-loop2 μ-loop2 Inv-loop μ-loop
+array-set-from-cores-7 c = search (needs, c .before .before .before .before .before .before .before .before .before .before .before .before .before .before .before .before .before .before .before .before .before .before .core-at .ensures .2)
 
 enum-told-5 : tie.Need-enum-told-5 Inv-loop2 μ-loop2 Inv-loop μ-loop
 enum-told-5 c = search needs
@@ -296,40 +351,40 @@ array-copy-out-write-released :
 array-copy-out-write-released c = search needs
 
 write-released-requires : tie.Need-write-released-requires Inv-loop2 μ-loop2 Inv-loop μ-loop
-write-released-requires c κs = takes-of (c .before .before .before .before .before .before .before .exchange-of .ensures .0 (semaphoreOf (c .before .before .before .before .before .before .before .before .before .before .before .before .before .before .before .before .before .before .loop .line .semaphore)) (sym (c .before .before .before .before .before .before .before .before .before .before .before .before .turn .ensures))) WriteReleased (ap exchanged (c .before .enum-told5 .given .1))
+write-released-requires c κs = takes-of (c .before .before .before .before .before .before .before .exchange-of .ensures .0 (semaphoreOf (c .before .before .before .before .before .before .before .before .before .before .before .before .before .before .before .before .before .before .before .before .before .before .loop .line .semaphore)) (sym (c .before .before .before .before .before .before .before .before .before .before .before .before .turn .ensures))) WriteReleased (ap exchanged (c .before .enum-told5 .given .1))
 
-mul-cores-7 : tie.Need-mul-cores-7 Inv-loop2 μ-loop2 Inv-loop μ-loop
-mul-cores-7 c = search needs
+mul-cores-8 : tie.Need-mul-cores-8 Inv-loop2 μ-loop2 Inv-loop μ-loop
+mul-cores-8 c = search (needs, c .before .before .before .before .before .before .before .before .before .before .before .before .before .before .before .before .before .before .before .before .before .core-at .ensures .2)
 
-array-set-from-cores-7 : tie.Need-array-set-from-cores-7 Inv-loop2 μ-loop2 Inv-loop μ-loop
-array-set-from-cores-7 c = search needs
+array-set-from-cores-8 : tie.Need-array-set-from-cores-8 Inv-loop2 μ-loop2 Inv-loop μ-loop
+array-set-from-cores-8 c = search (needs, c .before .before .before .before .before .before .before .before .before .before .before .before .before .before .before .before .before .before .before .before .before .core-at .ensures .2)
 
 released-requires-2 : tie.Need-released-requires-2 Inv-loop2 μ-loop2 Inv-loop μ-loop
-released-requires-2 c κs = c .before .before .before .before .before .before .before .before .before .before .before .before .before .before .before .before .before .before .before .loop .inv .1
+released-requires-2 c κs = c .before .before .before .before .before .before .before .before .before .before .before .before .before .before .before .before .before .before .before .before .before .before .before .loop .inv .1
 
-add-i-2 : tie.Need-add-i-2 Inv-loop2 μ-loop2 Inv-loop μ-loop
-add-i-2 c = omega (arith, c .before .before .before .before .before .before .before .before .before .before .before .before .before .before .before .before .before .before .before .before .before .before .before .before .before .before .before .good, c .before .before .before .before .before .before .before .before .before .before .before .before .before .before .before .loop-test .taken)
+add-i-3 : tie.Need-add-i-3 Inv-loop2 μ-loop2 Inv-loop μ-loop
+add-i-3 c = omega (arith, c .before .before .before .before .before .before .before .before .before .before .before .before .before .before .before .before .before .before .before .before .before .before .before .before .before .before .before .before .before .before .before .good, c .before .before .before .before .before .before .before .before .before .before .before .before .before .before .before .before .before .before .before .loop-test .taken)
 
-loop-less-3 : tie.Need-loop-less-3 Inv-loop2 μ-loop2 Inv-loop μ-loop
-loop-less-3 c = omega (arith, c .before .before .before .before .before .before .before .before .before .before .before .before .before .before .before .loop-test .taken)
+loop-less-4 : tie.Need-loop-less-4 Inv-loop2 μ-loop2 Inv-loop μ-loop
+loop-less-4 c = omega (arith, c .before .before .before .before .before .before .before .before .before .before .before .before .before .before .before .before .before .before .before .loop-test .taken)
 
-loop-again-3 : tie.Need-loop-again-3 Inv-loop2 μ-loop2 Inv-loop μ-loop
-loop-again-3 c =
+loop-again-4 : tie.Need-loop-again-4 Inv-loop2 μ-loop2 Inv-loop μ-loop
+loop-again-4 c =
     ⊎-elim
-    (λ w. rests-arm (c .before .before .before .before .before .before .before .before .before .before .before .before .before .before .before .before .loop .inv .0) (c .before .before .before .before .before .before .before .before .before .before .before .before .before .before .before .before .loop .inv .1) (c .before .before .before .before .before .before .before .before .before .before .before .before .before .before .before .before .before .before .before .before .before .before .before .before .before .before .before .pre .accepted) (c .before .before .before .before .before .before .before .before .before .before .before .before .before .before .before .loop-test .taken) (c .before .before .before .before .before .before .before .before .before .before .before .before .before .before .core-at .ensures .0) (c .before .before .before .before .before .before .before .before .before .before .before .before .before .before .core-at .ensures .1) (c .before .before .before .before .before .exchange-of .ensures .0 (semaphoreOf (c .before .before .before .before .before .before .before .before .before .before .before .before .before .before .before .before .loop .line .semaphore)) (sym (c .before .before .before .before .before .before .before .before .before .before .turn .ensures))) (search (needs, c .before .before .before .before .buffer2 .given)) (ap exchanged (w .1 .given .1)) (w .2) (w .3) (w .4) (w .5) (w .6))
+    (λ w. rests-arm (c .before .before .before .before .before .before .before .before .before .before .before .before .before .before .before .before .before .before .before .before .loop .inv .0) (c .before .before .before .before .before .before .before .before .before .before .before .before .before .before .before .before .before .before .before .before .loop .inv .1) (c .before .before .before .before .before .before .before .before .before .before .before .before .before .before .before .before .before .before .before .before .before .before .before .before .before .before .before .before .before .before .before .pre .accepted) (c .before .before .before .before .before .before .before .before .before .before .before .before .before .before .before .before .before .before .before .loop-test .taken) (c .before .before .before .before .before .before .before .before .before .before .before .before .before .before .before .before .before .before .core-at .ensures .0) (c .before .before .before .before .before .before .before .before .before .before .before .before .before .before .before .before .before .before .core-at .ensures .1) (c .before .before .before .before .before .exchange-of .ensures .0 (semaphoreOf (c .before .before .before .before .before .before .before .before .before .before .before .before .before .before .before .before .before .before .before .before .loop .line .semaphore)) (sym (c .before .before .before .before .before .before .before .before .before .before .turn .ensures))) (search (needs, c .before .before .before .before .buffer3 .given)) (ap exchanged (w .1 .given .1)) (w .2) (w .3) (w .4) (w .5) (w .6))
     (⊎-elim
-    (λ w. joins-arm (c .before .before .before .before .before .before .before .before .before .before .before .before .before .before .before .before .loop .inv .0) (c .before .before .before .before .before .before .before .before .before .before .before .before .before .before .before .before .loop .inv .1) (c .before .before .before .before .before .before .before .before .before .before .before .before .before .before .before .before .before .before .before .before .before .before .before .before .before .before .before .pre .accepted) (c .before .before .before .before .before .before .before .before .before .before .before .before .before .before .before .loop-test .taken) (c .before .before .before .before .before .before .before .before .before .before .before .before .before .before .core-at .ensures .0) (c .before .before .before .before .before .before .before .before .before .before .before .before .before .before .core-at .ensures .1) (c .before .before .before .before .before .exchange-of .ensures .0 (semaphoreOf (c .before .before .before .before .before .before .before .before .before .before .before .before .before .before .before .before .loop .line .semaphore)) (sym (c .before .before .before .before .before .before .before .before .before .before .turn .ensures))) (search (needs, c .before .before .before .before .buffer2 .given)) (ap exchanged (w .1 .given .1)) (joining (c .before .before .before .before .before .before .before .before .before .before .before .before .before .before .before .before .loop .inv .0) (c .before .before .before .before .before .before .before .before .before .before .before .before .before .before .before .before .before .before .before .before .before .before .before .before .before .before .before .pre .accepted) (c .before .before .before .before .before .before .before .before .before .before .before .before .before .before .core-at .ensures .1) (sym (c .before .before .before .before .before .before .before .before .before .before .before .before .waits .ensures) ∙ c .before .before .before .before .before .before .before .before .before .before .before .if2 .left) (sym (c .before .before .before .before .before .before .before .before .before .before .turn .ensures) ∙ joins-out (c .before .before .before .before .before .before .before .before .before .before .before .before .before .before .before .before .before .before .before .before .before .before .before .before .before .before .before .args .file .now) (c .before .before .before .before .before .before .before .before .before .before .before .before .before .before .core-at .result) (getD (c .before .before .before .before .before .before .before .before .before .before .before .before .before .before .before .before .loop .cores) (c .before .before .before .before .before .before .before .before .before .before .before .before .before .before .core-at .result) none) (c .before .before .before .before .before .before .before .before .before .before .turn .result) (w .1 .given .1) (c .before .before .before .before .before .exchange-of .ensures .1))) (w .3) (w .4) (w .5 ∙ w .2 .ensures) (w .6) (w .7))
+    (λ w. joins-arm (c .before .before .before .before .before .before .before .before .before .before .before .before .before .before .before .before .before .before .before .before .loop .inv .0) (c .before .before .before .before .before .before .before .before .before .before .before .before .before .before .before .before .before .before .before .before .loop .inv .1) (c .before .before .before .before .before .before .before .before .before .before .before .before .before .before .before .before .before .before .before .before .before .before .before .before .before .before .before .before .before .before .before .pre .accepted) (c .before .before .before .before .before .before .before .before .before .before .before .before .before .before .before .before .before .before .before .loop-test .taken) (c .before .before .before .before .before .before .before .before .before .before .before .before .before .before .before .before .before .before .core-at .ensures .0) (c .before .before .before .before .before .before .before .before .before .before .before .before .before .before .before .before .before .before .core-at .ensures .1) (c .before .before .before .before .before .exchange-of .ensures .0 (semaphoreOf (c .before .before .before .before .before .before .before .before .before .before .before .before .before .before .before .before .before .before .before .before .loop .line .semaphore)) (sym (c .before .before .before .before .before .before .before .before .before .before .turn .ensures))) (search (needs, c .before .before .before .before .buffer3 .given)) (ap exchanged (w .1 .given .1)) (joining (c .before .before .before .before .before .before .before .before .before .before .before .before .before .before .before .before .before .before .before .before .loop .inv .0) (c .before .before .before .before .before .before .before .before .before .before .before .before .before .before .before .before .before .before .before .before .before .before .before .before .before .before .before .before .before .before .before .pre .accepted) (c .before .before .before .before .before .before .before .before .before .before .before .before .before .before .before .before .before .before .core-at .ensures .1) (sym (c .before .before .before .before .before .before .before .before .before .before .before .before .before .before .before .before .waits .ensures) ∙ c .before .before .before .before .before .before .before .before .before .before .before .before .before .before .before .if2 .left) (sym (c .before .before .before .before .before .before .before .before .before .before .turn .ensures) ∙ joins-out (c .before .before .before .before .before .before .before .before .before .before .before .before .before .before .before .before .before .before .before .before .before .before .before .before .before .before .before .before .before .before .before .args .file .now) (c .before .before .before .before .before .before .before .before .before .before .before .before .before .before .before .before .before .before .core-at .result) (getD (c .before .before .before .before .before .before .before .before .before .before .before .before .before .before .before .before .before .before .before .before .loop .cores) (c .before .before .before .before .before .before .before .before .before .before .before .before .before .before .before .before .before .before .core-at .result) none) (c .before .before .before .before .before .before .before .before .before .before .turn .result) (w .1 .given .1) (c .before .before .before .before .before .exchange-of .ensures .1))) (w .3) (w .4) (w .5 ∙ w .2 .ensures) (w .6) (w .7))
     (⊎-elim
-    (λ w. reading-arm (c .before .before .before .before .before .before .before .before .before .before .before .before .before .before .before .before .loop .inv .0) (c .before .before .before .before .before .before .before .before .before .before .before .before .before .before .before .before .loop .inv .1) (c .before .before .before .before .before .before .before .before .before .before .before .before .before .before .before .before .before .before .before .before .before .before .before .before .before .before .before .pre .accepted) (c .before .before .before .before .before .before .before .before .before .before .before .before .before .before .before .loop-test .taken) (c .before .before .before .before .before .before .before .before .before .before .before .before .before .before .core-at .ensures .0) (c .before .before .before .before .before .before .before .before .before .before .before .before .before .before .core-at .ensures .1) (c .before .before .before .before .before .exchange-of .ensures .0 (semaphoreOf (c .before .before .before .before .before .before .before .before .before .before .before .before .before .before .before .before .loop .line .semaphore)) (sym (c .before .before .before .before .before .before .before .before .before .before .turn .ensures))) (search (needs, c .before .before .before .before .buffer2 .given)) (ap exchanged (w .1 .given .1)) (w .4 .ensures) (w .7) (w .8) (w .9 ∙ w .5 .ensures) (w .6 .ensures) (w .10) (w .11))
+    (λ w. reading-arm (c .before .before .before .before .before .before .before .before .before .before .before .before .before .before .before .before .before .before .before .before .loop .inv .0) (c .before .before .before .before .before .before .before .before .before .before .before .before .before .before .before .before .before .before .before .before .loop .inv .1) (c .before .before .before .before .before .before .before .before .before .before .before .before .before .before .before .before .before .before .before .before .before .before .before .before .before .before .before .before .before .before .before .pre .accepted) (c .before .before .before .before .before .before .before .before .before .before .before .before .before .before .before .before .before .before .before .loop-test .taken) (c .before .before .before .before .before .before .before .before .before .before .before .before .before .before .before .before .before .before .core-at .ensures .0) (c .before .before .before .before .before .before .before .before .before .before .before .before .before .before .before .before .before .before .core-at .ensures .1) (c .before .before .before .before .before .exchange-of .ensures .0 (semaphoreOf (c .before .before .before .before .before .before .before .before .before .before .before .before .before .before .before .before .before .before .before .before .loop .line .semaphore)) (sym (c .before .before .before .before .before .before .before .before .before .before .turn .ensures))) (search (needs, c .before .before .before .before .buffer3 .given)) (ap exchanged (w .1 .given .1)) (w .4 .ensures) (w .7) (w .8) (w .9 ∙ w .5 .ensures) (w .6 .ensures) (w .10) (w .11))
     (⊎-elim
-    (λ w. byte-read-arm (c .before .before .before .before .before .before .before .before .before .before .before .before .before .before .before .before .loop .inv .0) (c .before .before .before .before .before .before .before .before .before .before .before .before .before .before .before .before .loop .inv .1) (c .before .before .before .before .before .before .before .before .before .before .before .before .before .before .before .before .before .before .before .before .before .before .before .before .before .before .before .pre .accepted) (c .before .before .before .before .before .before .before .before .before .before .before .before .before .before .before .loop-test .taken) (c .before .before .before .before .before .before .before .before .before .before .before .before .before .before .core-at .ensures .0) (c .before .before .before .before .before .before .before .before .before .before .before .before .before .before .core-at .ensures .1) (c .before .before .before .before .before .exchange-of .ensures .0 (semaphoreOf (c .before .before .before .before .before .before .before .before .before .before .before .before .before .before .before .before .loop .line .semaphore)) (sym (c .before .before .before .before .before .before .before .before .before .before .turn .ensures))) (search (needs, c .before .before .before .before .buffer2 .given)) (ap exchanged (w .1 .given .1)) (read-on (c .before .before .before .before .before .before .before .before .before .before .before .before .before .before .before .before .before .before .before .before .before .before .before .before .before .before .before .args .file .now) (c .before .before .before .before .before .before .before .before .before .before .before .before .before .before .core-at .result) (getD (c .before .before .before .before .before .before .before .before .before .before .before .before .before .before .before .before .loop .cores) (c .before .before .before .before .before .before .before .before .before .before .before .before .before .before .core-at .result) none) (c .before .before .before .before .before .before .before .before .before .before .turn .result) (w .1 .given .1) (c .before .before .before .before .before .exchange-of .ensures .1)) (w .4 .ensures) (w .5) (w .6) (w .7) (w .8) (w .9))
+    (λ w. byte-read-arm (c .before .before .before .before .before .before .before .before .before .before .before .before .before .before .before .before .before .before .before .before .loop .inv .0) (c .before .before .before .before .before .before .before .before .before .before .before .before .before .before .before .before .before .before .before .before .loop .inv .1) (c .before .before .before .before .before .before .before .before .before .before .before .before .before .before .before .before .before .before .before .before .before .before .before .before .before .before .before .before .before .before .before .pre .accepted) (c .before .before .before .before .before .before .before .before .before .before .before .before .before .before .before .before .before .before .before .loop-test .taken) (c .before .before .before .before .before .before .before .before .before .before .before .before .before .before .before .before .before .before .core-at .ensures .0) (c .before .before .before .before .before .before .before .before .before .before .before .before .before .before .before .before .before .before .core-at .ensures .1) (c .before .before .before .before .before .exchange-of .ensures .0 (semaphoreOf (c .before .before .before .before .before .before .before .before .before .before .before .before .before .before .before .before .before .before .before .before .loop .line .semaphore)) (sym (c .before .before .before .before .before .before .before .before .before .before .turn .ensures))) (search (needs, c .before .before .before .before .buffer3 .given)) (ap exchanged (w .1 .given .1)) (read-on (c .before .before .before .before .before .before .before .before .before .before .before .before .before .before .before .before .before .before .before .before .before .before .before .before .before .before .before .before .before .before .before .args .file .now) (c .before .before .before .before .before .before .before .before .before .before .before .before .before .before .before .before .before .before .core-at .result) (getD (c .before .before .before .before .before .before .before .before .before .before .before .before .before .before .before .before .before .before .before .before .loop .cores) (c .before .before .before .before .before .before .before .before .before .before .before .before .before .before .before .before .before .before .core-at .result) none) (c .before .before .before .before .before .before .before .before .before .before .turn .result) (w .1 .given .1) (c .before .before .before .before .before .exchange-of .ensures .1)) (w .4 .ensures) (w .5) (w .6) (w .7) (w .8) (w .9))
     (⊎-elim
-    (λ w. read-arm (c .before .before .before .before .before .before .before .before .before .before .before .before .before .before .before .before .loop .inv .0) (c .before .before .before .before .before .before .before .before .before .before .before .before .before .before .before .before .loop .inv .1) (c .before .before .before .before .before .before .before .before .before .before .before .before .before .before .before .before .before .before .before .before .before .before .before .before .before .before .before .pre .accepted) (c .before .before .before .before .before .before .before .before .before .before .before .before .before .before .before .loop-test .taken) (c .before .before .before .before .before .before .before .before .before .before .before .before .before .before .core-at .ensures .0) (c .before .before .before .before .before .before .before .before .before .before .before .before .before .before .core-at .ensures .1) (c .before .before .before .before .before .exchange-of .ensures .0 (semaphoreOf (c .before .before .before .before .before .before .before .before .before .before .before .before .before .before .before .before .loop .line .semaphore)) (sym (c .before .before .before .before .before .before .before .before .before .before .turn .ensures))) (search (needs, c .before .before .before .before .buffer2 .given)) (ap exchanged (w .1 .given .1)) (w .3 .ensures) (w .5) (w .6) (w .7 ∙ w .4 .ensures) (w .9))
+    (λ w. read-arm (c .before .before .before .before .before .before .before .before .before .before .before .before .before .before .before .before .before .before .before .before .loop .inv .0) (c .before .before .before .before .before .before .before .before .before .before .before .before .before .before .before .before .before .before .before .before .loop .inv .1) (c .before .before .before .before .before .before .before .before .before .before .before .before .before .before .before .before .before .before .before .before .before .before .before .before .before .before .before .before .before .before .before .pre .accepted) (c .before .before .before .before .before .before .before .before .before .before .before .before .before .before .before .before .before .before .before .loop-test .taken) (c .before .before .before .before .before .before .before .before .before .before .before .before .before .before .before .before .before .before .core-at .ensures .0) (c .before .before .before .before .before .before .before .before .before .before .before .before .before .before .before .before .before .before .core-at .ensures .1) (c .before .before .before .before .before .exchange-of .ensures .0 (semaphoreOf (c .before .before .before .before .before .before .before .before .before .before .before .before .before .before .before .before .before .before .before .before .loop .line .semaphore)) (sym (c .before .before .before .before .before .before .before .before .before .before .turn .ensures))) (search (needs, c .before .before .before .before .buffer3 .given)) (ap exchanged (w .1 .given .1)) (w .3 .ensures) (w .5) (w .6) (w .7 ∙ w .4 .ensures) (w .9))
     (⊎-elim
-    (λ w. writing-arm (c .before .before .before .before .before .before .before .before .before .before .before .before .before .before .before .before .loop .inv .0) (c .before .before .before .before .before .before .before .before .before .before .before .before .before .before .before .before .loop .inv .1) (c .before .before .before .before .before .before .before .before .before .before .before .before .before .before .before .before .before .before .before .before .before .before .before .before .before .before .before .pre .accepted) (c .before .before .before .before .before .before .before .before .before .before .before .before .before .before .before .loop-test .taken) (c .before .before .before .before .before .before .before .before .before .before .before .before .before .before .core-at .ensures .0) (c .before .before .before .before .before .before .before .before .before .before .before .before .before .before .core-at .ensures .1) (c .before .before .before .before .before .exchange-of .ensures .0 (semaphoreOf (c .before .before .before .before .before .before .before .before .before .before .before .before .before .before .before .before .loop .line .semaphore)) (sym (c .before .before .before .before .before .before .before .before .before .before .turn .ensures))) (search (needs, c .before .before .before .before .buffer2 .given)) (ap exchanged (w .1 .given .1)) (w .3 .ensures) (w .6) (w .7) (w .8 ∙ w .4 .ensures) (w .5 .ensures) (w .9) (w .10))
+    (λ w. writing-arm (c .before .before .before .before .before .before .before .before .before .before .before .before .before .before .before .before .before .before .before .before .loop .inv .0) (c .before .before .before .before .before .before .before .before .before .before .before .before .before .before .before .before .before .before .before .before .loop .inv .1) (c .before .before .before .before .before .before .before .before .before .before .before .before .before .before .before .before .before .before .before .before .before .before .before .before .before .before .before .before .before .before .before .pre .accepted) (c .before .before .before .before .before .before .before .before .before .before .before .before .before .before .before .before .before .before .before .loop-test .taken) (c .before .before .before .before .before .before .before .before .before .before .before .before .before .before .before .before .before .before .core-at .ensures .0) (c .before .before .before .before .before .before .before .before .before .before .before .before .before .before .before .before .before .before .core-at .ensures .1) (c .before .before .before .before .before .exchange-of .ensures .0 (semaphoreOf (c .before .before .before .before .before .before .before .before .before .before .before .before .before .before .before .before .before .before .before .before .loop .line .semaphore)) (sym (c .before .before .before .before .before .before .before .before .before .before .turn .ensures))) (search (needs, c .before .before .before .before .buffer3 .given)) (ap exchanged (w .1 .given .1)) (w .3 .ensures) (w .6) (w .7) (w .8 ∙ w .4 .ensures) (w .5 .ensures) (w .9) (w .10))
     (⊎-elim
-    (λ w. byte-written-arm (c .before .before .before .before .before .before .before .before .before .before .before .before .before .before .before .before .loop .inv .0) (c .before .before .before .before .before .before .before .before .before .before .before .before .before .before .before .before .loop .inv .1) (c .before .before .before .before .before .before .before .before .before .before .before .before .before .before .before .before .before .before .before .before .before .before .before .before .before .before .before .pre .accepted) (c .before .before .before .before .before .before .before .before .before .before .before .before .before .before .before .loop-test .taken) (c .before .before .before .before .before .before .before .before .before .before .before .before .before .before .core-at .ensures .0) (c .before .before .before .before .before .before .before .before .before .before .before .before .before .before .core-at .ensures .1) (c .before .before .before .before .before .exchange-of .ensures .0 (semaphoreOf (c .before .before .before .before .before .before .before .before .before .before .before .before .before .before .before .before .loop .line .semaphore)) (sym (c .before .before .before .before .before .before .before .before .before .before .turn .ensures))) (search (needs, c .before .before .before .before .buffer2 .given)) (ap exchanged (w .1 .given .1)) (write-on (c .before .before .before .before .before .before .before .before .before .before .before .before .before .before .before .before .before .before .before .before .before .before .before .before .before .before .before .args .file .now) (c .before .before .before .before .before .before .before .before .before .before .before .before .before .before .core-at .result) (getD (c .before .before .before .before .before .before .before .before .before .before .before .before .before .before .before .before .loop .cores) (c .before .before .before .before .before .before .before .before .before .before .before .before .before .before .core-at .result) none) (c .before .before .before .before .before .before .before .before .before .before .turn .result) (w .1 .given .1) (c .before .before .before .before .before .exchange-of .ensures .1)) (w .4 .ensures) (w .5) (w .6) (w .7) (w .8) (w .9))
-    (λ w. written-arm (c .before .before .before .before .before .before .before .before .before .before .before .before .before .before .before .before .loop .inv .0) (c .before .before .before .before .before .before .before .before .before .before .before .before .before .before .before .before .loop .inv .1) (c .before .before .before .before .before .before .before .before .before .before .before .before .before .before .before .before .before .before .before .before .before .before .before .before .before .before .before .pre .accepted) (c .before .before .before .before .before .before .before .before .before .before .before .before .before .before .before .loop-test .taken) (c .before .before .before .before .before .before .before .before .before .before .before .before .before .before .core-at .ensures .0) (c .before .before .before .before .before .before .before .before .before .before .before .before .before .before .core-at .ensures .1) (c .before .before .before .before .before .exchange-of .ensures .0 (semaphoreOf (c .before .before .before .before .before .before .before .before .before .before .before .before .before .before .before .before .loop .line .semaphore)) (sym (c .before .before .before .before .before .before .before .before .before .before .turn .ensures))) (search (needs, c .before .before .before .before .buffer2 .given)) (ap exchanged (w .1 .given .1)) (w .3 .ensures) (w .5) (w .6) (w .7 ∙ w .4 .ensures) (w .9))))))))
+    (λ w. byte-written-arm (c .before .before .before .before .before .before .before .before .before .before .before .before .before .before .before .before .before .before .before .before .loop .inv .0) (c .before .before .before .before .before .before .before .before .before .before .before .before .before .before .before .before .before .before .before .before .loop .inv .1) (c .before .before .before .before .before .before .before .before .before .before .before .before .before .before .before .before .before .before .before .before .before .before .before .before .before .before .before .before .before .before .before .pre .accepted) (c .before .before .before .before .before .before .before .before .before .before .before .before .before .before .before .before .before .before .before .loop-test .taken) (c .before .before .before .before .before .before .before .before .before .before .before .before .before .before .before .before .before .before .core-at .ensures .0) (c .before .before .before .before .before .before .before .before .before .before .before .before .before .before .before .before .before .before .core-at .ensures .1) (c .before .before .before .before .before .exchange-of .ensures .0 (semaphoreOf (c .before .before .before .before .before .before .before .before .before .before .before .before .before .before .before .before .before .before .before .before .loop .line .semaphore)) (sym (c .before .before .before .before .before .before .before .before .before .before .turn .ensures))) (search (needs, c .before .before .before .before .buffer3 .given)) (ap exchanged (w .1 .given .1)) (write-on (c .before .before .before .before .before .before .before .before .before .before .before .before .before .before .before .before .before .before .before .before .before .before .before .before .before .before .before .before .before .before .before .args .file .now) (c .before .before .before .before .before .before .before .before .before .before .before .before .before .before .before .before .before .before .core-at .result) (getD (c .before .before .before .before .before .before .before .before .before .before .before .before .before .before .before .before .before .before .before .before .loop .cores) (c .before .before .before .before .before .before .before .before .before .before .before .before .before .before .before .before .before .before .core-at .result) none) (c .before .before .before .before .before .before .before .before .before .before .turn .result) (w .1 .given .1) (c .before .before .before .before .before .exchange-of .ensures .1)) (w .4 .ensures) (w .5) (w .6) (w .7) (w .8) (w .9))
+    (λ w. written-arm (c .before .before .before .before .before .before .before .before .before .before .before .before .before .before .before .before .before .before .before .before .loop .inv .0) (c .before .before .before .before .before .before .before .before .before .before .before .before .before .before .before .before .before .before .before .before .loop .inv .1) (c .before .before .before .before .before .before .before .before .before .before .before .before .before .before .before .before .before .before .before .before .before .before .before .before .before .before .before .before .before .before .before .pre .accepted) (c .before .before .before .before .before .before .before .before .before .before .before .before .before .before .before .before .before .before .before .loop-test .taken) (c .before .before .before .before .before .before .before .before .before .before .before .before .before .before .before .before .before .before .core-at .ensures .0) (c .before .before .before .before .before .before .before .before .before .before .before .before .before .before .before .before .before .before .core-at .ensures .1) (c .before .before .before .before .before .exchange-of .ensures .0 (semaphoreOf (c .before .before .before .before .before .before .before .before .before .before .before .before .before .before .before .before .before .before .before .before .loop .line .semaphore)) (sym (c .before .before .before .before .before .before .before .before .before .before .turn .ensures))) (search (needs, c .before .before .before .before .buffer3 .given)) (ap exchanged (w .1 .given .1)) (w .3 .ensures) (w .5) (w .6) (w .7 ∙ w .4 .ensures) (w .9))))))))
     (c .match .came)
 
 same-length : tie.Need-same-length Inv-loop2 μ-loop2 Inv-loop μ-loop
@@ -380,6 +435,24 @@ run-order-spec =
     loop2-again
     loop2-less-2
     loop2-again-2
+    mul-steps-ahead
+    array-copy-out-steps-ahead
+    mul-steps-ahead-2
+    array-copy-out-steps-ahead-2
+    steps-ahead-requires
+    mul-move-bytes
+    array-copy-out-move-bytes
+    mul-move-bytes-2
+    array-copy-out-move-bytes-2
+    move-bytes-requires
+    mul-bytes-on
+    array-copy-out-bytes-on
+    bytes-on-requires
+    mul-cores-2
+    array-set-from-cores-2
+    add-i-2
+    loop-less-3
+    loop-again-3
     cast-turn
     turn-requires
     mul-exchange-of
@@ -394,8 +467,8 @@ run-order-spec =
     mul-read-acquired
     array-copy-out-read-acquired
     read-acquired-requires
-    mul-cores-2
-    array-set-from-cores-2
+    mul-cores-3
+    array-set-from-cores-3
     acquired-requires
     add-start
     start-requires
@@ -406,21 +479,21 @@ run-order-spec =
     mul-byte-copied
     array-copy-out-byte-copied
     byte-copied-requires
-    mul-cores-3
-    array-set-from-cores-3
+    mul-cores-4
+    array-set-from-cores-4
     enum-told-3
     mul-read-released
     array-copy-out-read-released
     read-released-requires
-    mul-cores-4
-    array-set-from-cores-4
+    mul-cores-5
+    array-set-from-cores-5
     released-requires
     enum-told-4
     mul-write-acquired
     array-copy-out-write-acquired
     write-acquired-requires
-    mul-cores-5
-    array-set-from-cores-5
+    mul-cores-6
+    array-set-from-cores-6
     acquired-requires-2
     start-requires-2
     cast-list-2
@@ -431,18 +504,18 @@ run-order-spec =
     mul-byte-copied-2
     array-copy-out-byte-copied-2
     byte-copied-requires-2
-    mul-cores-6
-    array-set-from-cores-6
+    mul-cores-7
+    array-set-from-cores-7
     enum-told-5
     mul-write-released
     array-copy-out-write-released
     write-released-requires
-    mul-cores-7
-    array-set-from-cores-7
+    mul-cores-8
+    array-set-from-cores-8
     released-requires-2
-    add-i-2
-    loop-less-3
-    loop-again-3
+    add-i-3
+    loop-less-4
+    loop-again-4
     same-length
     same-length-2
     same-length-3
