@@ -349,11 +349,11 @@ fn rising_in(f: &[u8], m: u8, k: usize) -> bool
     while i < m {
         let p = record_place(f, i);
         if is_named(f, p, k) {
-            let place = local_place(f, p, k) as usize;
-            if place < end {
+            let local = local_place(f, p, k) as usize;
+            if local < end {
                 return false;
             }
-            end = place + width(f, p) as usize;
+            end = local + width(f, p) as usize;
         }
         i = i + 1;
     }

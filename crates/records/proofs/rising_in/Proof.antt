@@ -26,8 +26,8 @@ is-named-requires c κs = (omega (arith, c .record-place .ensures .0, c .before 
 local-place-requires : tie.Need-local-place-requires Inv-loop μ-loop
 local-place-requires c κs = (omega (arith, c .before .before .record-place .ensures .0, c .before .before .before .loop-test .taken, c .before .before .before .before .before .before .pre .0), c .before .before .before .before .before .before .pre .1)
 
-cast-place : tie.Need-cast-place Inv-loop μ-loop
-cast-place c = search needs
+cast-local : tie.Need-cast-local Inv-loop μ-loop
+cast-local c = search needs
 
 returns : tie.Need-returns Inv-loop μ-loop
 returns c = λ e. absurd-bool e
@@ -67,7 +67,7 @@ rising-in-spec =
     record-place-requires
     is-named-requires
     local-place-requires
-    cast-place
+    cast-local
     returns
     width-requires
     cast-end
