@@ -15,7 +15,8 @@ use Rattle.memory.specs.Memory.{byte}
 use Rattle.code.specs.Commands.{lengthOf, Kind}
 use Rattle.code.specs.Flow.{kindAt, goesTo, after, targetAt}
 use Rattle.code.specs.declared.Profile.the-variants.{Full}
-use Rattle.code.specs.Code.{laid, startFrom, isStart, allFrom, judgeCode, Marked}
+use Rattle.code.specs.Code.{laid, startFrom, isStart, allFrom, judgeCode}
+use Rattle.code.specs.Judging.{Marked}
 use Rattle.code.proofs.Laws.{without-target}
 use Rattle.code.proofs.Sound.{Sound, sound, start-zero, inside-code, each-passes, judged, next-starts}
 use Rattle.code.proofs.Passes.{all-one, all-end}

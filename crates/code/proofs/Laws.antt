@@ -16,7 +16,8 @@ use Rattle.code.specs.Commands.{three, Row, Passes, rowOf, operandsIn, p
 use Rattle.code.specs.Instructions.{typedAt, instructionAt, instructionLength}
 use Rattle.code.specs.Flow.{kindOf, isTarget, firstWord, goesOn, goesTo, kindAt, targetAt}
 use Rattle.code.specs.Profiles.{typesAt, carries}
-use Rattle.code.specs.Code.{operandsOk, instructionOk, instructionRefusal, acceptedLength, Sized}
+use Rattle.code.specs.Code.{operandsOk, instructionOk, instructionRefusal, acceptedLength}
+use Rattle.code.specs.Judging.{Sized}
 use Rattle.code.specs.declared.Profile.{Profile}
 use Rattle.code.specs.declared.Profile.the-variants.{Full, Small}
 use Rattle.code.specs.declared.Instruction.{Instruction}

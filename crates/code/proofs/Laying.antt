@@ -17,7 +17,8 @@ use Rattle.code.specs.Flow.{kindAt, goesTo, targetAt, after}
 use Rattle.code.specs.declared.Profile.{Profile}
 use Rattle.code.specs.Instructions.{instructionAt}
 use Rattle.code.specs.Profiles.{typesAt, carries}
-use Rattle.code.specs.Code.{instructionRefusal, laid, startFrom, isStart, allFrom, targetOk, lastFrom, acceptedLength, judgeCodeFor, Asked, TargetAsked, Pass, AllMet}
+use Rattle.code.specs.Code.{instructionRefusal, laid, startFrom, isStart, allFrom, targetOk, lastFrom, acceptedLength, judgeCodeFor}
+use Rattle.code.specs.Judging.{Asked, TargetAsked, Pass, AllMet}
 use Rattle.code.proofs.Laws.{whole, accepted, carried-none, length-taken}
 use Rattle.code.proofs.Passes.{laid-one, start-one, all-one, last-one, laid-end, start-end, all-end, last-end, start-here, start-beyond}
 use Rattle.code.proofs.Sound.{each-passes}

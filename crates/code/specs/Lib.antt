@@ -3,4 +3,5 @@ pub mod Instructions
 pub mod Flow
 pub mod Profiles
 pub mod Code
+pub mod Judging
 pub mod Rules

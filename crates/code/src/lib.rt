@@ -13,7 +13,8 @@ ghost use Rattle.values.specs.Types.{takes};
 ghost use Rattle.code.specs.Commands.{three, lengthOf, Lengths};
 ghost use Rattle.code.specs.Instructions.{instructionAt, instructionLength, typedAt};
 ghost use Rattle.code.specs.Profiles.{wide, typesAt, carries};
-ghost use Rattle.code.specs.Code.{isWidth, elementOk, convertible, packable, operandsOk, instructionOk, acceptedLength, Sized, isStart, judgeCode, judgeCodeFor, Marked, Asked, TargetAsked, Cleared, Pass, AllMet};
+ghost use Rattle.code.specs.Code.{isWidth, elementOk, convertible, packable, operandsOk, instructionOk, acceptedLength, isStart, judgeCode, judgeCodeFor};
+ghost use Rattle.code.specs.Judging.{Sized, Marked, Asked, TargetAsked, Cleared, Pass, AllMet};
 
 // The entries that the arms of a judging pass use. An arm that adds a constant goes ahead on the predicted branch; a pass that adds a number read
 // from the table waits for two loads at each instruction.

@@ -4,7 +4,8 @@ use mathlib.Core.Path.{_≡_}
 use mathlib.Core.Bool.{true}
 use mathlib.Core.List.{List}
 use lib.ListN.{length}
-use Rattle.code.specs.Code.{judgeCode, isStart, Marked}
+use Rattle.code.specs.Code.{judgeCode, isStart}
+use Rattle.code.specs.Judging.{Marked}
 
 -- code that was judged and accepted
 pub record AcceptedCode (c : List ℕ) : Type 0 where
