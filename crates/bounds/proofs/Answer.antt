@@ -24,7 +24,7 @@ use Rattle.taskset.specs.Task.{sizesOf}
 use Rattle.taskset.proofs.Accepted.{core-facts}
 use Rattle.taskset.proofs.Exact.{keeps-rules}
 use Rattle.machine.specs.Calls.{bufferSize}
-use Rattle.bounds.specs.Bounds.{countBy, depthBy, along, longest, deepest, boundsRefusal, coresRefusal, takesRefusal, countOf, depthOf, noTakes, takesIn, takesOf, Measured, Found}
+use Rattle.bounds.specs.Bounds.{countBy, depthBy, along, longest, deepest, boundsRefusal, coresRefusal, takesRefusal, longestOf, deepestOf, noTakes, takesIn, takesOf, Measured, Found}
 
 -- ---- one core
 
@@ -205,13 +205,13 @@ buffer-is f z = sym (pick-true _ _ _ (eq-eqb _ _ z))
 
 pub answered : (f : List ℕ) (k b : ℕ) (count depth : List ℕ) → judge f ≡ 0 → Counted f k count depth → cores f ≤ k → k ≤ cores f → b ≡ total (sizesOf f)
     → record { refusal = 0; buffer = b; shared = 1024; table = cores f; count = count; depth = depth } ≡ takesOf f
-unfolding takesOf takesRefusal coresRefusal countOf depthOf
+unfolding takesOf takesRefusal coresRefusal longestOf deepestOf
 answered f k b count depth z c h i e =
     let n : k ≡ cores f = omega arith in
     let y : next (judge f) (first (ofCore f) (cores f - 0) 0) ≡ 0 = next-none _ _ z (sym (going-end (ofCore f) 0 (cores f) k (c .going) h)) in
     let o : b ≡ bufferSize f = e ∙ buffer-is f z in
-    let p : count ≡ countOf f 0 ∷ countOf f 1 ∷ countOf f 2 ∷ countOf f 3 ∷ [] = column-end _ (countOf f) (cores f) count (rw (sym n) (c .counts)) (λ i. refl) in
-    let q : depth ≡ depthOf f 0 ∷ depthOf f 1 ∷ depthOf f 2 ∷ depthOf f 3 ∷ [] = column-end _ (depthOf f) (cores f) depth (rw (sym n) (c .depths)) (λ i. refl) in
+    let p : count ≡ longestOf f 0 ∷ longestOf f 1 ∷ longestOf f 2 ∷ longestOf f 3 ∷ [] = column-end _ (longestOf f) (cores f) count (rw (sym n) (c .counts)) (λ i. refl) in
+    let q : depth ≡ deepestOf f 0 ∷ deepestOf f 1 ∷ deepestOf f 2 ∷ deepestOf f 3 ∷ [] = column-end _ (deepestOf f) (cores f) depth (rw (sym n) (c .depths)) (λ i. refl) in
     rw (o, p, q) (sym (pick-true (eqb (takesRefusal f) 0) (takesIn f) (noTakes (takesRefusal f)) (eq-eqb (takesRefusal f) 0 y)))
 
 -- ---- an answer that is no refusal

@@ -23,7 +23,7 @@ use Rattle.code.specs.declared.Instruction.{Instruction}
 use Rattle.code.specs.declared.Instruction.the-variants.{Return, Jump, JumpZero, JumpNotZero, CallInstance, CallFunction, MoveConstant, CopyMemory, ReadElement, WriteElement, Typed, CycleTime, FlagByte, Convert, Pack, Unpack, Unknown}
 use Rattle.code.specs.Commands.{Kind, Returns, Jumps, Branches, Calls, Passes}
 use Rattle.code.specs.Flow.{kindAt, after, targetAt}
-use Rattle.processor.specs.Processor.{Decided, refused, decided, faultIf, at, endedBy, ofConversion, ofElement, dataPart, called, controlled, executed}
+use Rattle.processor.specs.Processor.{Decided, refused, decided, faultIf, at, endedBy, ofConversion, ofElement, dataPart, callMade, controlled, executed}
 use Rattle.bounds.specs.Paths.{Goes, passes, jumps, stays, leaves, calls}
 
 -- ---- the faults of the data part: neither the limit nor the seventeenth call
@@ -121,7 +121,7 @@ module _ (c : List ℕ) (p depth : ℕ) (d : List ℕ) where
       (λ z. (omega arith, omega arith, λ _. (e, eqb-true depth 16 z)))
       (λ z. go (eqb-false depth 16 z) x f)
     where
-      go : depth ≢ 16 → (x : Decided) → Fair x → Fits c p depth (called (after c p) (targetAt c p) d x .outcome)
+      go : depth ≢ 16 → (x : Decided) → Fair x → Fits c p depth (callMade (after c p) (targetAt c p) d x .outcome)
       go n (refused b) f = ordinary-fits c p depth b f
       go n (decided made offset m) f = (n, λ s. calls e)
   by-kind Passes e (refused b) f = ordinary-fits c p depth b f

@@ -22,7 +22,7 @@ use Rattle.calls.specs.Calling.{Call, stepsOf}
 use Rattle.calls.proofs.Calling.{calls-interleaved}
 use Rattle.bounds.specs.declared.Taken.{Taken}
 use Rattle.bounds.specs.Paths.{Greatest}
-use Rattle.bounds.specs.Bounds.{longest, deepest, allRise, boundsRefusal, coresRefusal, takesRefusal, countOf, depthOf, takesIn, takesOf}
+use Rattle.bounds.specs.Bounds.{longest, deepest, allRise, boundsRefusal, coresRefusal, takesRefusal, longestOf, deepestOf, takesIn, takesOf}
 use Rattle.bounds.specs.Promised.{countIn, depthIn, Spared, Promised, CallsPromised}
 use Rattle.bounds.proofs.Rising.{Rising, rising}
 use Rattle.bounds.proofs.Greatest.{greatest}
@@ -46,12 +46,12 @@ module _ (f : List ℕ) (z : takesOf f .refusal ≡ 0) where
     few = omega (arith, keeps-rules f (file-accepted f z) .most-cores)
 
     pub count-is : countIn f k ≡ longest (codeOf f k)
-    unfolding countOf
-    count-is = ap (λ (x : Taken). getD (x .count) k 0) (answer-is f z) ∙ four (countOf f) k 0 few ∙ pick-true _ _ _ (lt-ltb _ _ h)
+    unfolding longestOf
+    count-is = ap (λ (x : Taken). getD (x .count) k 0) (answer-is f z) ∙ four (longestOf f) k 0 few ∙ pick-true _ _ _ (lt-ltb _ _ h)
 
     pub depth-is : depthIn f k ≡ deepest (codeOf f k)
-    unfolding depthOf
-    depth-is = ap (λ (x : Taken). getD (x .depth) k 0) (answer-is f z) ∙ four (depthOf f) k 0 few ∙ pick-true _ _ _ (lt-ltb _ _ h)
+    unfolding deepestOf
+    depth-is = ap (λ (x : Taken). getD (x .depth) k 0) (answer-is f z) ∙ four (deepestOf f) k 0 few ∙ pick-true _ _ _ (lt-ltb _ _ h)
 
     numbers : Greatest (codeOf f k) (countIn f k) (depthIn f k)
     numbers = rw (count-is, depth-is) (greatest (codeOf f k) rises)

@@ -6,7 +6,7 @@ use mathlib.Core.Bool.{Bool, true}
 use mathlib.Core.List.{List, [], _∷_}
 use lib.Dec.{ltb, leb, eqb}
 use lib.ListN.{length}
-use Rattle.verdict.specs.Numbers.{notAbove, tooLong}
+use Rattle.verdict.specs.Numbers.{notAbove, overCount}
 use Rattle.verdict.specs.Verdict.{pick, next, unless, first}
 use Rattle.code.specs.Commands.{Kind, Returns, Jumps, Branches, Calls, Passes}
 use Rattle.code.specs.Flow.{kindAt, goesTo, after, targetAt}
@@ -55,7 +55,7 @@ allRise c = allFrom (rises c) (length c) c 0
 
 -- "25, a targetAt not above its own instruction; 26, a count above 65,535"
 unfoldable pub boundsRefusal : List ℕ → ℕ
-boundsRefusal c = next (unless (allRise c) notAbove) (unless (leb (longest c) 65535) tooLong)
+boundsRefusal c = next (unless (allRise c) notAbove) (unless (leb (longest c) 65535) overCount)
 
 -- "for each core in turn"
 unfoldable pub coresRefusal : List ℕ → ℕ
@@ -67,11 +67,11 @@ takesRefusal f = next (judge f) (coresRefusal f)
 -- ---- the answer
 
 -- of core k; 0 for a core number from n on
-unfoldable pub countOf : List ℕ → ℕ → ℕ
-countOf f k = pick (ltb k (cores f)) (longest (codeOf f k)) 0
+unfoldable pub longestOf : List ℕ → ℕ → ℕ
+longestOf f k = pick (ltb k (cores f)) (longest (codeOf f k)) 0
 
-unfoldable pub depthOf : List ℕ → ℕ → ℕ
-depthOf f k = pick (ltb k (cores f)) (deepest (codeOf f k)) 0
+unfoldable pub deepestOf : List ℕ → ℕ → ℕ
+deepestOf f k = pick (ltb k (cores f)) (deepest (codeOf f k)) 0
 
 -- "Turned away, lengths included"
 abbrev pub noTakes : ℕ → Taken
@@ -84,8 +84,8 @@ takesIn f = record {
   buffer = bufferSize f;
   shared = 1024;
   table = cores f;
-  count = countOf f 0 ∷ countOf f 1 ∷ countOf f 2 ∷ countOf f 3 ∷ [];
-  depth = depthOf f 0 ∷ depthOf f 1 ∷ depthOf f 2 ∷ depthOf f 3 ∷ [];
+  count = longestOf f 0 ∷ longestOf f 1 ∷ longestOf f 2 ∷ longestOf f 3 ∷ [];
+  depth = deepestOf f 0 ∷ deepestOf f 1 ∷ deepestOf f 2 ∷ deepestOf f 3 ∷ [];
 }
 
 unfoldable pub takesOf : List ℕ → Taken

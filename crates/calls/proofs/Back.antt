@@ -26,7 +26,7 @@ use Rattle.semaphore.specs.declared.Semaphore.{Semaphore as HeldSemaphore}
 use Rattle.semaphore.specs.Line.{semaphoreOf, semaphoreBack}
 use Rattle.semaphore.proofs.Laws.{of-back}
 use Rattle.states.specs.declared.State.{State as Held}
-use Rattle.states.specs.Machine.{none, stackIn, coreIn, stateIn, stateOf, registersBack, entryBack, heldAfter, dataOf, Sized}
+use Rattle.states.specs.Machine.{noRegisters, stackIn, coreIn, stateIn, stateOf, registersBack, entryBack, heldAfter, dataOf, Sized}
 use Rattle.states.specs.Fit.{Fit}
 use Rattle.states.proofs.Tables.{listed-same}
 use Rattle.states.proofs.Fresh.{map-at}
@@ -59,8 +59,8 @@ module _ (f t : List ℕ) (few : cores f ≤ 4) (h : Held) (s : State) (fit : Fi
   abbrev at : ℕ → Core
   at k = core (s .plant) k
 
-  registers-at : (k : ℕ) → k < cores f → getD (listed (registersBack (cores f) (h .cores) s) 4 0) k none ≡ at k .registers
-  registers-at k i = listed-at (registersBack (cores f) (h .cores) s) 4 k none (omega arith) ∙ pick-true _ _ _ (lt-ltb k (cores f) i)
+  registers-at : (k : ℕ) → k < cores f → getD (listed (registersBack (cores f) (h .cores) s) 4 0) k noRegisters ≡ at k .registers
+  registers-at k i = listed-at (registersBack (cores f) (h .cores) s) 4 k noRegisters (omega arith) ∙ pick-true _ _ _ (lt-ltb k (cores f) i)
 
   entry-at : (field : Stack → List ℕ) (old : List ℕ) (k j : ℕ) → k < cores f → j < 16 → entryBack field (cores f) old s (16 * k + j) ≡ getD (field (at k .stack)) j 0
   entry-at field old k j i l =
@@ -138,11 +138,11 @@ module _ (f t : List ℕ) (few : cores f ≤ 4) (h : Held) (s : State) (fit : Fi
 -- ---- back from a caller's state h
 
 module _ (f : List ℕ) (h : Held) (d sh : List ℕ) (four : length (h .cores) ≡ 4) (places : length (h .places) ≡ 64) (offsets : length (h .offsets) ≡ 64) where
-  registers-same : (k : ℕ) → k < 4 → registersBack (cores f) (h .cores) (stateOf f h d sh) k ≡ getD (h .cores) k none
+  registers-same : (k : ℕ) → k < 4 → registersBack (cores f) (h .cores) (stateOf f h d sh) k ≡ getD (h .cores) k noRegisters
   unfolding pick
   registers-same k j = go (ltb k (cores f)) refl
     where
-      go : (b : Bool) → ltb k (cores f) ≡ b → pick b (core (stateOf f h d sh .plant) k .registers) (getD (h .cores) k none) ≡ getD (h .cores) k none
+      go : (b : Bool) → ltb k (cores f) ≡ b → pick b (core (stateOf f h d sh .plant) k .registers) (getD (h .cores) k noRegisters) ≡ getD (h .cores) k noRegisters
       go true e = ap (λ (c : Core). c .registers) (core-in f (h .cores) (h .places) (h .offsets) (semaphoreOf (h .semaphore)) d sh k (ltb-true k (cores f) e))
       go false e = refl
 
@@ -162,7 +162,7 @@ module _ (f : List ℕ) (h : Held) (d sh : List ℕ) (four : length (h .cores) �
   pub held-back : heldAfter (cores f) h (stateOf f h d sh) ≡ tidied h
   unfolding heldAfter stateIn
   held-back = held-same
-      (listed-is _ 4 (h .cores) none four registers-same)
+      (listed-is _ 4 (h .cores) noRegisters four registers-same)
       (listed-is _ 64 (h .places) 0 places (entries-same (λ x. x .places) (h .places) (λ k. refl)))
       (listed-is _ 64 (h .offsets) 0 offsets (entries-same (λ x. x .offsets) (h .offsets) (λ k. refl)))
 
@@ -173,9 +173,9 @@ module _ (n : ℕ) (h : Held) (s s′ : State) where
   unfolding pick
   registers-twice k l = go (ltb k n) refl
     where
-      go : (b : Bool) → ltb k n ≡ b → pick b (core (s′ .plant) k .registers) (getD (listed (registersBack n (h .cores) s) 4 0) k none) ≡ pick b (core (s′ .plant) k .registers) (getD (h .cores) k none)
+      go : (b : Bool) → ltb k n ≡ b → pick b (core (s′ .plant) k .registers) (getD (listed (registersBack n (h .cores) s) 4 0) k noRegisters) ≡ pick b (core (s′ .plant) k .registers) (getD (h .cores) k noRegisters)
       go true e = refl
-      go false e = listed-at (registersBack n (h .cores) s) 4 k none l ∙ rw e
+      go false e = listed-at (registersBack n (h .cores) s) 4 k noRegisters l ∙ rw e
 
   entries-twice : (field : Stack → List ℕ) (old : List ℕ) (k : ℕ) → k < 64 → entryBack field n (listed (entryBack field n old s) 64 0) s′ k ≡ entryBack field n old s′ k
   unfolding pick

@@ -28,10 +28,10 @@ use Rattle.taskset.specs.Fresh.{freshOf}
 use Rattle.taskset.proofs.Accepted.{listed-at, start-sizes, length-buffer, length-shared, fresh-cores, fresh-core}
 use Rattle.states.specs.declared.State.{State}
 use Rattle.states.specs.Task.{taskOf}
-use Rattle.states.specs.Set.{Set}
+use Rattle.states.specs.Set.{AcceptedSet}
 use Rattle.semaphore.specs.Line.{semaphoreOf}
 use Rattle.semaphore.proofs.Laws.{of-back}
-use Rattle.states.specs.Machine.{none, coreIn, stateIn, Sized, stateOf, heldAfter, dataOf}
+use Rattle.states.specs.Machine.{noRegisters, coreIn, stateIn, Sized, stateOf, heldAfter, dataOf}
 use Rattle.states.specs.Fit.{Fit, stateRefusal}
 use Rattle.states.specs.Preparing.{heldRefusal}
 use Rattle.states.proofs.Accepted.{accepted-set}
@@ -39,7 +39,7 @@ use Rattle.states.proofs.Exactly.{not-refused, fit-accepted}
 use Rattle.states.proofs.Executes.{executes}
 use Rattle.states.proofs.Kept.{fit-kept}
 use Rattle.states.proofs.Fresh.{fresh-fit}
-use Rattle.runner.specs.Runs.{Left, left, allBelow, ranCall}
+use Rattle.runner.specs.Runs.{Left, leftAs, allBelow, ranCall}
 use Rattle.machine.specs.Calls.{lentFits, callRefusal, answerOf, tableOf, freshRefusal, freshCall, runRefusal, runCall, stepRefusal, stepped, stepCall}
 use Rattle.calls.specs.Calling.{Lending, entire, front, lentOf, replaced, Call, stepping, running, restored, leaves, calls, stepCalls, wholeOf, countsAs, stepsOf, takenOf, Unchanged, tidied, RunIsSteps, CallsInterleaved}
 use Rattle.runner.proofs.Running.{shared-in}
@@ -63,7 +63,7 @@ pub record Counted (f t : List ℕ) (x y : Left) (ks : List ℕ) : Type 0 where
   pub taken : y .answer .taken ≡ length (takings (taskOf f t) ks (wholeOf f x))
   pub lendable : Lendable f t y
 
-pub run-fit : (f t : List ℕ) → Set f t → (ks : List ℕ) (s : Whole) → Fit f t s → Fit f t (run (taskOf f t) ks s)
+pub run-fit : (f t : List ℕ) → AcceptedSet f t → (ks : List ℕ) (s : Whole) → Fit f t s → Fit f t (run (taskOf f t) ks s)
 run-fit f t ok [] s fit = fit
 run-fit f t ok (k ∷ ks) s fit = run-fit f t ok ks (step (taskOf f t) k s) (fit-kept f t ok (executes f t ok) k s fit)
 
@@ -81,7 +81,7 @@ module _ (m : List ℕ) where
   replaced-same entire = refl
   replaced-same (front n) = take-append-drop n m
 
-module _ (f t : List ℕ) (ok : Set f t) (x : Left) (w : Lendable f t x) where
+module _ (f t : List ℕ) (ok : AcceptedSet f t) (x : Left) (w : Lendable f t x) where
   -- the caller's state with a fit state s for its cores
   left-back : (s : Whole) → Fit f t s → (y : Left) → y .answer .state ≡ heldAfter (cores f) (x .answer .state) s → y .memory ≡ dataOf s → y .shared ≡ s .plant .shared
       → (wholeOf f y ≡ s) × Lendable f t y
@@ -111,14 +111,14 @@ module _ (f t : List ℕ) (ok : Set f t) (x : Left) (w : Lendable f t x) where
     shared = lentOf b (x .shared)
 
     -- a call that is refused changes nothing
-    refused : (ks : List ℕ) (y : Left) (r : ℕ) (list : List ℕ) → r ≢ 0 → y ≡ left (answerOf r (x .answer .state)) memory shared list
+    refused : (ks : List ℕ) (y : Left) (r : ℕ) (list : List ℕ) → r ≢ 0 → y ≡ leftAs (answerOf r (x .answer .state)) memory shared list
         → Counted f t x (restored a b x y) (pick (eqb (y .answer .refusal) 0) ks [])
     unfolding pick
     refused ks y r list n e = subst (λ (z : Left). Counted f t x (restored a b x z) (pick (eqb (z .answer .refusal) 0) ks [])) (sym e)
         (rw (ne-eqb r 0 n) record {
           whole = λ i. stateOf f (x .answer .state) (replaced-same (x .memory) a i) (replaced-same (x .shared) b i);
           taken = refl;
-          lendable = subst (Lendable f t) (sym (λ i. left (answerOf r (x .answer .state)) (replaced-same (x .memory) a i) (replaced-same (x .shared) b i) list))
+          lendable = subst (Lendable f t) (sym (λ i. leftAs (answerOf r (x .answer .state)) (replaced-same (x .memory) a i) (replaced-same (x .shared) b i) list))
               record { count = w .count; line = w .line; sized = w .sized; fit = w .fit };
         })
 
@@ -198,7 +198,7 @@ module _ (f t : List ℕ) (ok : Set f t) (x : Left) (w : Lendable f t x) where
 
 -- a refused call, whatever state and memories it was made with, leaves them
 module _ (f t : List ℕ) (x : Left) (a b : Lending) where
-  unchanged : (y : Left) (r : ℕ) (list : List ℕ) → y ≡ left (answerOf r (x .answer .state)) (lentOf a (x .memory)) (lentOf b (x .shared)) list → Unchanged x (restored a b x y)
+  unchanged : (y : Left) (r : ℕ) (list : List ℕ) → y ≡ leftAs (answerOf r (x .answer .state)) (lentOf a (x .memory)) (lentOf b (x .shared)) list → Unchanged x (restored a b x y)
   unchanged y r list e = subst (λ (z : Left). Unchanged x (restored a b x z)) (sym e)
       record { state = refl; memory = replaced-same (x .memory) a; shared = replaced-same (x .shared) b }
 
@@ -217,7 +217,7 @@ refused-leaves f t (running a b order list) x n = by-pick
 
 -- ---- lists
 
-pub calls-counted : (f t : List ℕ) → Set f t → (cs : List Call) (x : Left) → Lendable f t x
+pub calls-counted : (f t : List ℕ) → AcceptedSet f t → (cs : List Call) (x : Left) → Lendable f t x
     → (wholeOf f (calls f t cs x) ≡ run (taskOf f t) (stepsOf f t cs x) (wholeOf f x))
     × (takenOf f t cs x ≡ length (takings (taskOf f t) (stepsOf f t cs x) (wholeOf f x)))
     × Lendable f t (calls f t cs x)
@@ -244,7 +244,7 @@ pub record Follows (f t : List ℕ) (h : State) (s : Whole) (x : Left) : Type 0 
   pub shared : x .shared ≡ s .plant .shared
   pub whole : wholeOf f x ≡ s
 
-follows-step : (f t : List ℕ) → Set f t → (h : State) (s : Whole) (x : Left) → Follows f t h s x → (k : ℕ) → k < cores f
+follows-step : (f t : List ℕ) → AcceptedSet f t → (h : State) (s : Whole) (x : Left) → Follows f t h s x → (k : ℕ) → k < cores f
     → Follows f t h (step (taskOf f t) k s) (leaves f t (stepping entire entire k) x)
 unfolding pick
 follows-step f t ok h s x w k l =
@@ -265,7 +265,7 @@ follows-step f t ok h s x w k l =
           ∙ next;
     }
 
-follows-steps : (f t : List ℕ) → Set f t → (h : State) (s : Whole) (x : Left) → Follows f t h s x → (ks : List ℕ) → allBelow (cores f) ks ≡ true
+follows-steps : (f t : List ℕ) → AcceptedSet f t → (h : State) (s : Whole) (x : Left) → Follows f t h s x → (ks : List ℕ) → allBelow (cores f) ks ≡ true
     → Follows f t h (run (taskOf f t) ks s) (stepCalls f t ks x)
 follows-steps f t ok h s x w [] e = w
 follows-steps f t ok h s x w (k ∷ ks) e =
@@ -289,7 +289,7 @@ start-core : (f : List ℕ) → cores f ≤ 4 → (k : ℕ) → k < cores f
 unfolding startBuffer
 start-core f few k i =
     same
-    (getD-replicate 4 k (cleared 0 4) none (omega arith))
+    (getD-replicate 4 k (cleared 0 4) noRegisters (omega arith))
     (stack-zeros k (omega arith))
     (ap (λ (l : List (List ℕ)). getD l k []) (split-flat-of (sizesOf f) (startsOf f) (start-sizes f)) ∙ listed-at (startData f) (cores f) k [] i)
     ∙ sym (fresh-core f k i)
@@ -311,12 +311,12 @@ module _ (f t : List ℕ) (bytes : (i : ℕ) → getD f i 0 < 256) (trace-bytes 
   unfolding runCall runRefusal ranCall stateIn
   run-is-steps h four places offsets d sh order list e =
       let known = granted f t h _ _ _ _ e in
-      let ok : Set f t = accepted-set f t bytes trace-bytes (known .accepted) (known .sound) in
+      let ok : AcceptedSet f t = accepted-set f t bytes trace-bytes (known .accepted) (known .sound) in
       let sized : Sized f h d sh = record { memory = known .memory; shared = known .shared-memory; places = places; offsets = offsets } in
       let fit = fit-accepted f t ok h d sh sized (known .state) in
       let few : length (semaphoreOf (h .semaphore) .line) ≤ 4 = line-few f t (ok .few) h (stateOf f h d sh) (fit .1) in
       let same : stateOf f (tidied h) d sh ≡ stateOf f h d sh = ap (λ (m : Semaphore). stateIn f (h .cores) (h .places) (h .offsets) m d sh) (of-back (semaphoreOf (h .semaphore)) few) in
-      let start : Follows f t h (stateOf f h d sh) (left (answerOf 0 (tidied h)) d sh []) = record {
+      let start : Follows f t h (stateOf f h d sh) (leftAs (answerOf 0 (tidied h)) d sh []) = record {
         lendable = record {
           count = fit .0 .0;
           line = few;
@@ -328,7 +328,7 @@ module _ (f t : List ℕ) (bytes : (i : ℕ) → getD f i 0 < 256) (trace-bytes 
         shared = sym (shared-in f (h .cores) (h .places) (h .offsets) (semaphoreOf (h .semaphore)) d sh);
         whole = same;
       } in
-      let w = follows-steps f t ok h (stateOf f h d sh) (left (answerOf 0 (tidied h)) d sh []) start order (known .below) in
+      let w = follows-steps f t ok h (stateOf f h d sh) (leftAs (answerOf 0 (tidied h)) d sh []) start order (known .below) in
       let q : runCall f t h d sh order list ≡ ranCall f t h d sh order list = pick-true _ _ _ (eq-eqb _ _ e) in
       record {
         state = ap (λ (z : Left). z .answer .state) q ∙ sym (w .state);
@@ -340,7 +340,7 @@ module _ (f t : List ℕ) (bytes : (i : ℕ) → getD f i 0 < 256) (trace-bytes 
 
   module _ (d sh : List ℕ) (e : freshRefusal f (length d) (length sh) ≡ 0) where
     abbrev started : Left
-    started = left (answerOf 0 (tableOf (cores f) 4)) (startBuffer f) (startShared f) []
+    started = leftAs (answerOf 0 (tableOf (cores f) 4)) (startBuffer f) (startShared f) []
 
     fresh-left : freshCall f d sh ≡ started
     unfolding freshCall
@@ -357,7 +357,7 @@ module _ (f t : List ℕ) (bytes : (i : ℕ) → getD f i 0 < 256) (trace-bytes 
     pub fresh-whole : cores f ≤ 4 → wholeOf f (freshCall f d sh) ≡ freshOf f
     fresh-whole few = ap (wholeOf f) fresh-left ∙ fresh-state f few
 
-    pub fresh-lendable : Set f t → Lendable f t (freshCall f d sh)
+    pub fresh-lendable : AcceptedSet f t → Lendable f t (freshCall f d sh)
     unfolding tableOf
     fresh-lendable ok = subst (Lendable f t) (sym fresh-left) record {
       count = refl;
@@ -368,7 +368,7 @@ module _ (f t : List ℕ) (bytes : (i : ℕ) → getD f i 0 < 256) (trace-bytes 
 
     pub calls-interleaved : traceRefusal f t ≡ 0 → (cs : List Call) → CallsInterleaved f t d sh cs
     calls-interleaved sound cs =
-        let ok : Set f t = accepted-set f t bytes trace-bytes (fresh-lent .0) sound in
+        let ok : AcceptedSet f t = accepted-set f t bytes trace-bytes (fresh-lent .0) sound in
         let fresh-left = fresh-whole (ok .few) in
         let y = calls-counted f t ok cs (freshCall f d sh) (fresh-lendable ok) in
         let ks = stepsOf f t cs (freshCall f d sh) in

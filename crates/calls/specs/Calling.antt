@@ -16,7 +16,7 @@ use Rattle.states.specs.declared.State.{State}
 use Rattle.states.specs.Task.{taskOf}
 use Rattle.semaphore.specs.Line.{semaphoreOf, semaphoreBack}
 use Rattle.states.specs.Machine.{stateOf}
-use Rattle.runner.specs.Runs.{Left, left}
+use Rattle.runner.specs.Runs.{Left, leftAs}
 use Rattle.machine.specs.Calls.{answerOf, freshCall, runCall, stepCall}
 use Rattle.calls.specs.Interleaving.{MachineInterleaved}
 
@@ -43,7 +43,7 @@ pub data Call : Type 0 where
 
 -- y is what a call left that was lent these parts of the memories that x has
 abbrev pub restored : Lending → Lending → Left → Left → Left
-restored a b x y = left (y .answer) (replaced a (x .memory) (y .memory)) (replaced b (x .shared) (y .shared)) (y .order)
+restored a b x y = leftAs (y .answer) (replaced a (x .memory) (y .memory)) (replaced b (x .shared) (y .shared)) (y .order)
 
 -- what a call leaves that is made with what the one before left
 abbrev pub leaves : List ℕ → List ℕ → Call → Left → Left
@@ -96,9 +96,9 @@ tidied h = record { count = h .count; semaphore = semaphoreBack (semaphoreOf (h 
 
 -- A run equals its step calls one after another, and its order list is the takings
 pub record RunIsSteps (f t : List ℕ) (h : State) (d sh order list : List ℕ) : Type 0 where
-  pub state : runCall f t h d sh order list .answer .state ≡ stepCalls f t order (left (answerOf 0 (tidied h)) d sh []) .answer .state
-  pub memory : runCall f t h d sh order list .memory ≡ stepCalls f t order (left (answerOf 0 (tidied h)) d sh []) .memory
-  pub shared : runCall f t h d sh order list .shared ≡ stepCalls f t order (left (answerOf 0 (tidied h)) d sh []) .shared
+  pub state : runCall f t h d sh order list .answer .state ≡ stepCalls f t order (leftAs (answerOf 0 (tidied h)) d sh []) .answer .state
+  pub memory : runCall f t h d sh order list .memory ≡ stepCalls f t order (leftAs (answerOf 0 (tidied h)) d sh []) .memory
+  pub shared : runCall f t h d sh order list .shared ≡ stepCalls f t order (leftAs (answerOf 0 (tidied h)) d sh []) .shared
   pub listed : runCall f t h d sh order list .order ≡ splice list 0 (map encoded (takings (taskOf f t) order (stateOf f h d sh)))
   pub counted : runCall f t h d sh order list .answer .taken ≡ length (takings (taskOf f t) order (stateOf f h d sh))
 

@@ -12,12 +12,12 @@ use Rattle.verdict.specs.Verdict.{pick, both, either, within, upto}
 use Rattle.verdict.proofs.Verdict.{absurd-bool, by-pick, skip, halt, yes, no, below, both-true, inside-true, next-zero, next-none, unless-zero}
 use Rattle.memory.specs.Memory.{byte}
 use Rattle.values.specs.Types.{takes}
-use Rattle.code.specs.Commands.{three, Row, Passes, rowOf, operandsIn, placesOf, lengthOf, known, Lengths}
+use Rattle.code.specs.Commands.{three, Row, Passes, rowOf, rowOperands, placesOf, lengthOf, known, Lengths}
 use Rattle.code.specs.Instructions.{typedAt, instructionAt, instructionLength}
 use Rattle.code.specs.Flow.{kindOf, isTarget, firstWord, goesOn, goesTo, kindAt, targetAt}
 use Rattle.code.specs.Profiles.{typesAt, carries}
 use Rattle.code.specs.Code.{operandsOk, instructionOk, instructionRefusal, acceptedLength}
-use Rattle.code.specs.Judging.{Sized}
+use Rattle.code.specs.Judging.{LengthKnown}
 use Rattle.code.specs.declared.Profile.{Profile}
 use Rattle.code.specs.declared.Profile.the-variants.{Full, Small}
 use Rattle.code.specs.declared.Instruction.{Instruction}
@@ -169,10 +169,10 @@ no-target c p n1 n2 n3 n4 n5 =
     branch h = is ⊥ (byte c p) 2 n2 (λ n. n3 (omega arith))
 
 -- what the row of a command says of T and of control: without a T it has no place of one; from MCD on it goes on and has no T
-no-place : (code : ℕ) → goesTo (kindOf (rowOf code)) ≡ false → placesOf isTarget 1 (operandsIn (rowOf code)) ≡ []
+no-place : (code : ℕ) → goesTo (kindOf (rowOf code)) ≡ false → placesOf isTarget 1 (rowOperands (rowOf code)) ≡ []
 unfolding rowOf kindAt targetAt typesAt
 no-place code =
-    let P : Row → Type 0 = λ (r : Row). goesTo (kindOf r) ≡ false → placesOf isTarget 1 (operandsIn r) ≡ [] in
+    let P : Row → Type 0 = λ (r : Row). goesTo (kindOf r) ≡ false → placesOf isTarget 1 (rowOperands r) ≡ [] in
     by-pick P _ _ _ (λ z e. refl)
     (λ z. by-pick P _ _ _ (λ z e. absurd-bool (sym e))
     (λ z. by-pick P _ _ _ (λ z e. absurd-bool (sym e))
@@ -290,13 +290,13 @@ length-none c p h = go (instructionOk c p) refl
     go true e = absurd (h (whole c p e))
     go false e = rw e
 
-pub length-whole : (c : List ℕ) (p n : ℕ) → Sized c p n → 0 < n → p + n ≤ length c → operandsOk (instructionAt c p) ≡ true → n ≡ acceptedLength c p
+pub length-whole : (c : List ℕ) (p n : ℕ) → LengthKnown c p n → 0 < n → p + n ≤ length c → operandsOk (instructionAt c p) ≡ true → n ≡ acceptedLength c p
 length-whole c p n s h i e =
     let o = s .own e in
     let a = s .all e in
     sym a ∙ length-accepted c p (omega arith) (omega arith) e
 
-pub length-cut : (c : List ℕ) (p n : ℕ) → Sized c p n → length c < p + n → 0 ≡ acceptedLength c p
+pub length-cut : (c : List ℕ) (p n : ℕ) → LengthKnown c p n → length c < p + n → 0 ≡ acceptedLength c p
 length-cut c p n s h = length-none c p (λ w. let i = w .inside in let e = s .all (w .listed) in let y : ⊥ = omega arith in y)
 
 pub length-unlisted : (c : List ℕ) (p : ℕ) → operandsOk (instructionAt c p) ≡ false → 0 ≡ acceptedLength c p
@@ -333,7 +333,7 @@ module _ (c : List ℕ) (p : ℕ) (mcd : byte c p ≡ 6) where
 
 -- what is none of the other commands has eight bytes if it takes its type
 pub typed-sized : (c : List ℕ) (p : ℕ) → byte c p < 256 → (byte c p ≡ 6 → ⊥) → (byte c p ≡ 27 → ⊥)
-    → operandsOk (instructionAt c p) ≡ takes (byte c p) (byte c (p + 1)) → Sized c p 8
+    → operandsOk (instructionAt c p) ≡ takes (byte c p) (byte c (p + 1)) → LengthKnown c p 8
 unfolding instructionLength pick
 typed-sized c p h n6 n27 o =
     record { own = eight; all = λ e. rw (ne-eqb (byte c p) 6 n6) (omega (arith, eight e)) }

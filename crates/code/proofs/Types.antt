@@ -13,7 +13,7 @@ use Rattle.verdict.specs.Verdict.{pick, both, either, within, upto}
 use Rattle.verdict.specs.Items.{From}
 use Rattle.verdict.proofs.Verdict.{absurd-bool, below, both-true, inside, inside-true, outside}
 use Rattle.memory.specs.Memory.{byte}
-use Rattle.code.specs.Commands.{known, rowOf, operandsIn, placesOf, lengthOf}
+use Rattle.code.specs.Commands.{known, rowOf, rowOperands, placesOf, lengthOf}
 use Rattle.code.specs.Profiles.{wide, isType, typesAt, noneWide}
 use Rattle.code.specs.Code.{instructionOk}
 use Rattle.code.specs.Rules.{typed, converts-from, converts-to, packs, NoWide}
@@ -76,7 +76,7 @@ equal-is (x ∷ xs) (y ∷ ys) t = let h = both-T (eqb x y) (equal xs ys) t in a
 
 -- where the type bytes of a command stand
 abbrev typePlaces : ℕ → List ℕ
-typePlaces code = placesOf isType 1 (operandsIn (rowOf code))
+typePlaces code = placesOf isType 1 (rowOperands (rowOf code))
 
 abbrev Standing : (ℕ → Bool) → List ℕ → ℕ → Bool
 Standing test ns code = either (not (test code)) (equal (typePlaces code) ns)

@@ -62,9 +62,9 @@ rowOf code =
     (pick (within 44 45 code) (row Passes (TypeByte ∷ Address ∷ Address ∷ []))  -- whole to packed, packed to whole: type, destination, source (document 02, 2.8)
     unknown))))))))))))
 
-abbrev pub operandsIn : Row → List Operand
-operandsIn unknown = []
-operandsIn (row kind operands) = operands
+abbrev pub rowOperands : Row → List Operand
+rowOperands unknown = []
+rowOperands (row kind operands) = operands
 
 -- where operands of a sort stand in an instruction: their distances from the code byte; n is that of the first of these operands
 abbrev pub placeIf : Bool → ℕ → List ℕ → List ℕ
@@ -77,14 +77,14 @@ placesOf sort n (o ∷ os) = placeIf (sort o) n (placesOf sort (n + width o) os)
 
 -- ---- the length of an instruction
 
-abbrev pub widths : List Operand → ℕ
-widths [] = 0
-widths (o ∷ os) = width o + widths os
+abbrev pub operandBytes : List Operand → ℕ
+operandBytes [] = 0
+operandBytes (o ∷ os) = width o + operandBytes os
 
 -- the code byte and the operands; 0 where the code byte is unknown
 abbrev pub lengthWith : Row → ℕ
 lengthWith unknown = 0
-lengthWith (row kind operands) = 1 + widths operands
+lengthWith (row kind operands) = 1 + operandBytes operands
 
 unfoldable pub lengthOf : ℕ → ℕ
 lengthOf code = lengthWith (rowOf code)

@@ -3,7 +3,7 @@ use Prim.Native.Nat.{ℕ, _+_}
 use mathlib.Core.Bool.{Bool, true, false}
 use mathlib.Core.List.{List, [], _∷_}
 use Rattle.memory.specs.Memory.{byte, word}
-use Rattle.code.specs.Commands.{Operand, Address, CodePlace, Number, TypeByte, SizeByte, Kind, Returns, Jumps, Branches, Calls, Passes, Row, unknown, row, rowOf, operandsIn, placesOf}
+use Rattle.code.specs.Commands.{Operand, Address, CodePlace, Number, TypeByte, SizeByte, Kind, Returns, Jumps, Branches, Calls, Passes, Row, unknown, row, rowOf, rowOperands, placesOf}
 use Rattle.code.specs.Instructions.{instructionLength}
 
 -- a code byte that is unknown leads nowhere: no accepted code has one
@@ -44,7 +44,7 @@ unfoldable pub kindAt : List ℕ → ℕ → Kind
 kindAt c p = kindOf (rowOf (byte c p))
 
 unfoldable pub targetAt : List ℕ → ℕ → ℕ
-targetAt c p = firstWord c p (placesOf isTarget 1 (operandsIn (rowOf (byte c p))))
+targetAt c p = firstWord c p (placesOf isTarget 1 (rowOperands (rowOf (byte c p))))
 
 abbrev pub after : List ℕ → ℕ → ℕ
 after c p = p + instructionLength c p

@@ -14,7 +14,7 @@ use Rattle.code.specs.declared.Profile.{Profile}
 use Rattle.code.specs.Code.{operandsOk, laid, isStart, allFrom, targetOk, lastFrom}
 
 -- if the operands at p lie on their lists, the instruction has n bytes, all of them by its code byte
-pub record Sized (c : List ℕ) (p n : ℕ) : Type 0 where
+pub record LengthKnown (c : List ℕ) (p n : ℕ) : Type 0 where
   pub own : operandsOk (instructionAt c p) ≡ true → lengthOf (byte c p) ≡ n
   pub all : operandsOk (instructionAt c p) ≡ true → instructionLength c p ≡ n
 

@@ -6,7 +6,7 @@ use mathlib.Core.Bool.{Bool, true, false, not}
 use mathlib.Core.List.{List, [], _∷_, map}
 use Rattle.memory.specs.Memory.{byte}
 use Rattle.verdict.specs.Verdict.{both, within}
-use Rattle.code.specs.Commands.{Operand, Address, CodePlace, Number, TypeByte, SizeByte, rowOf, operandsIn, placesOf}
+use Rattle.code.specs.Commands.{Operand, Address, CodePlace, Number, TypeByte, SizeByte, rowOf, rowOperands, placesOf}
 use Rattle.code.specs.declared.Profile.{Profile}
 use Rattle.code.specs.declared.Profile.the-variants.{Full, Small}
 
@@ -32,7 +32,7 @@ isType SizeByte = false
 
 -- the types that the instruction at p names: its type bytes
 unfoldable pub typesAt : List ℕ → ℕ → List ℕ
-typesAt c p = map (λ n. byte c (p + n)) (placesOf isType 1 (operandsIn (rowOf (byte c p))))
+typesAt c p = map (λ n. byte c (p + n)) (placesOf isType 1 (rowOperands (rowOf (byte c p))))
 
 abbrev pub noneWide : List ℕ → Bool
 noneWide [] = true

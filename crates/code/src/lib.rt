@@ -14,7 +14,7 @@ ghost use Rattle.code.specs.Commands.{three, lengthOf, Lengths};
 ghost use Rattle.code.specs.Instructions.{instructionAt, instructionLength, typedAt};
 ghost use Rattle.code.specs.Profiles.{wide, typesAt, carries};
 ghost use Rattle.code.specs.Code.{isWidth, elementOk, convertible, packable, operandsOk, instructionOk, acceptedLength, isStart, judgeCode, judgeCodeFor};
-ghost use Rattle.code.specs.Judging.{Sized, Marked, Asked, TargetAsked, Cleared, Pass, AllMet};
+ghost use Rattle.code.specs.Judging.{LengthKnown, Marked, Asked, TargetAsked, Cleared, Pass, AllMet};
 
 // The entries that the arms of a judging pass use. An arm that adds a constant goes ahead on the predicted branch; a pass that adds a number read
 // from the table waits for two loads at each instruction.
@@ -193,7 +193,7 @@ fn instruction_length(code: &[u8], lengths: &[u8; 256], p: usize) -> usize
 
 // An instruction of n bytes, whatever its operands.
 fn plain_length(code: &[u8], p: usize, n: usize) -> usize
-    requires { ⌜ (p < length (now code)) × (0 < n) × Sized (now code) p n × (operandsOk (instructionAt (now code) p) ≡ true) ⌝ }
+    requires { ⌜ (p < length (now code)) × (0 < n) × LengthKnown (now code) p n × (operandsOk (instructionAt (now code) p) ≡ true) ⌝ }
     ensures { λ r. ⌜ r ≡ acceptedLength (now (code .entry)) p ⌝ }
 {
     if code.len() - p < n {
@@ -224,7 +224,7 @@ fn constant_length(code: &[u8], p: usize) -> usize
 
 // AURD and AUWD.
 fn element_length(code: &[u8], p: usize) -> usize
-    requires { ⌜ (p < length (now code)) × Sized (now code) p 10 × (operandsOk (instructionAt (now code) p) ≡ elementOk (byte (now code) (p + 7)) (readLE (now code) (p + 8) 2)) ⌝ }
+    requires { ⌜ (p < length (now code)) × LengthKnown (now code) p 10 × (operandsOk (instructionAt (now code) p) ≡ elementOk (byte (now code) (p + 7)) (readLE (now code) (p + 8) 2)) ⌝ }
     ensures { λ r. ⌜ r ≡ acceptedLength (now (code .entry)) p ⌝ }
 {
     if code.len() - p < ELEMENT {
@@ -238,7 +238,7 @@ fn element_length(code: &[u8], p: usize) -> usize
 
 // A typed command of n bytes, or an unknown code byte.
 fn typed_length(code: &[u8], p: usize, n: usize) -> usize
-    requires { ⌜ (p < length (now code)) × (2 ≤ n) × Sized (now code) p n × (operandsOk (instructionAt (now code) p) ≡ takes (byte (now code) p) (byte (now code) (p + 1))) ⌝ }
+    requires { ⌜ (p < length (now code)) × (2 ≤ n) × LengthKnown (now code) p n × (operandsOk (instructionAt (now code) p) ≡ takes (byte (now code) p) (byte (now code) (p + 1))) ⌝ }
     ensures { λ r. ⌜ r ≡ acceptedLength (now (code .entry)) p ⌝ }
 {
     if code.len() - p < n {
@@ -252,7 +252,7 @@ fn typed_length(code: &[u8], p: usize, n: usize) -> usize
 
 // 43.
 fn conversion_length(code: &[u8], p: usize) -> usize
-    requires { ⌜ (p < length (now code)) × Sized (now code) p 7 × (operandsOk (instructionAt (now code) p) ≡ convertible (byte (now code) (p + 1)) (byte (now code) (p + 2))) ⌝ }
+    requires { ⌜ (p < length (now code)) × LengthKnown (now code) p 7 × (operandsOk (instructionAt (now code) p) ≡ convertible (byte (now code) (p + 1)) (byte (now code) (p + 2))) ⌝ }
     ensures { λ r. ⌜ r ≡ acceptedLength (now (code .entry)) p ⌝ }
 {
     if code.len() - p < CONVERT {
@@ -279,7 +279,7 @@ fn is_packable(t: u8) -> bool
 
 // 44 and 45.
 fn packed_length(code: &[u8], p: usize) -> usize
-    requires { ⌜ (p < length (now code)) × Sized (now code) p 6 × (operandsOk (instructionAt (now code) p) ≡ packable (byte (now code) (p + 1))) ⌝ }
+    requires { ⌜ (p < length (now code)) × LengthKnown (now code) p 6 × (operandsOk (instructionAt (now code) p) ≡ packable (byte (now code) (p + 1))) ⌝ }
     ensures { λ r. ⌜ r ≡ acceptedLength (now (code .entry)) p ⌝ }
 {
     if code.len() - p < PACKED {

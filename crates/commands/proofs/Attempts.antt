@@ -13,14 +13,14 @@ use Rattle.memory.specs.Memory.{splice, part, bytesLE, readLE}
 use Rattle.values.specs.Types.{widthOf}
 use Rattle.values.specs.Commands.{resultWidth, secondWidth, command, zeroDivisor, beyond, anyBeyond, performed}
 use Rattle.values.proofs.Commands.{taken-type, width-room}
-use Rattle.commands.specs.Attempts.{attempt, attempted, Given}
+use Rattle.commands.specs.Attempts.{attempt, attempted, OperandsGiven}
 use Rattle.commands.specs.declared.Operands.{Operands}
 use Rattle.commands.specs.declared.Performed.{Performed}
 use Rattle.commands.specs.declared.Performed.the-variants.{Done, Beyond, ByZero}
 
 -- ---- what is given
 
-module _ {code : ℕ} {o : Operands} (g : Given code o) where
+module _ {code : ℕ} {o : Operands} (g : OperandsGiven code o) where
   pub given-type : o .kind < 12
   given-type = taken-type code (o .kind) (g .taken)
 

@@ -14,7 +14,7 @@ use Rattle.values.specs.Width.{Width}
 use Rattle.values.specs.Commands.{resultWidth, secondWidth, command, zeroDivisor, beyond, anyBeyond}
 use Rattle.values.proofs.Types.{width-ok}
 use Rattle.values.proofs.Commands.{taken-type}
-use Rattle.commands.specs.Attempts.{attempt, attempted, Given, Inside}
+use Rattle.commands.specs.Attempts.{attempt, attempted, OperandsGiven, Inside}
 use Rattle.commands.specs.declared.Operands.{Operands}
 use Rattle.commands.specs.declared.Performed.{Performed}
 use Rattle.commands.specs.declared.Performed.the-variants.{Done, ByZero}
@@ -67,7 +67,7 @@ module _ (size to a b : ℕ) (r : Bool) where
 pub not-beyond : (r x : Bool) → r ≡ x → r ≡ false → x ≡ false
 not-beyond r x e f = sym e ∙ f
 
-module _ {code t : ℕ} {o : Operands} (key : o .kind ≡ t) (g : Given code o) where
+module _ {code t : ℕ} {o : Operands} (key : o .kind ≡ t) (g : OperandsGiven code o) where
   pub known-taken : takes code t ≡ true
   known-taken = sym (ap (takes code) key) ∙ g .taken
 

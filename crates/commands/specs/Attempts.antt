@@ -41,7 +41,7 @@ attempted code o s =
 
 -- ---- what it asks: a type on the command's list; places of addresses are below 98,304
 
-pub record Given (code : ℕ) (o : Operands) : Type 0 where
+pub record OperandsGiven (code : ℕ) (o : Operands) : Type 0 where
   pub taken : takes code (o .kind) ≡ true
   pub to-low : o .to < 98304
   pub first-low : o .first < 98304

@@ -9,7 +9,7 @@ ghost use Rattle.memory.specs.Memory.{splice, bytesLE, readLE};
 ghost use Rattle.values.specs.Types.{widthOf, takes};
 ghost use Rattle.values.specs.Width.{Width};
 ghost use Rattle.values.specs.Commands.{ADD, SUB, MUL, DIV, MOD, AND, OR, XOR, NOT, SHL, SHR, ROL, ROR, GT, GE, EQ, LE, LT, NE, byZero, secondWidth, command, zeroDivisor, beyond, anyBeyond};
-ghost use Rattle.commands.specs.Attempts.{attempt, attempted, Given, Inside};
+ghost use Rattle.commands.specs.Attempts.{attempt, attempted, OperandsGiven, Inside};
 ghost use Rattle.commands.specs.declared.Performed.the-variants.{Done};
 use values::Value;
 use values::pattern_of;
@@ -423,7 +423,7 @@ fn add_of(d: &[u8], t: u8, a: usize, b: usize) -> u64
 }
 
 fn add_typed(d: &mut [u8], t: u8, o: Operands) -> Performed
-    requires { ⌜ (o .kind ≡ t) × Given 16 o × Inside 16 o (now d) ⌝ }
+    requires { ⌜ (o .kind ≡ t) × OperandsGiven 16 o × Inside 16 o (now d) ⌝ }
     ensures { λ r. ⌜ attempt r (now (d .exit)) ≡ attempted 16 o (now (d .entry)) ⌝ }
 {
     put(
@@ -435,7 +435,7 @@ fn add_typed(d: &mut [u8], t: u8, o: Operands) -> Performed
 }
 
 pub fn add_at(d: &mut [u8], o: Operands) -> Performed
-    requires { ⌜ Given 16 o ⌝ }
+    requires { ⌜ OperandsGiven 16 o ⌝ }
     ensures { λ r. ⌜ attempt r (now (d .exit)) ≡ attempted 16 o (now (d .entry)) ⌝ }
 {
     if alike_beyond(d.len(), o) {
@@ -477,7 +477,7 @@ fn sub_of(d: &[u8], t: u8, a: usize, b: usize) -> u64
 }
 
 fn sub_typed(d: &mut [u8], t: u8, o: Operands) -> Performed
-    requires { ⌜ (o .kind ≡ t) × Given 17 o × Inside 17 o (now d) ⌝ }
+    requires { ⌜ (o .kind ≡ t) × OperandsGiven 17 o × Inside 17 o (now d) ⌝ }
     ensures { λ r. ⌜ attempt r (now (d .exit)) ≡ attempted 17 o (now (d .entry)) ⌝ }
 {
     put(
@@ -489,7 +489,7 @@ fn sub_typed(d: &mut [u8], t: u8, o: Operands) -> Performed
 }
 
 pub fn sub_at(d: &mut [u8], o: Operands) -> Performed
-    requires { ⌜ Given 17 o ⌝ }
+    requires { ⌜ OperandsGiven 17 o ⌝ }
     ensures { λ r. ⌜ attempt r (now (d .exit)) ≡ attempted 17 o (now (d .entry)) ⌝ }
 {
     if alike_beyond(d.len(), o) {
@@ -530,7 +530,7 @@ fn mul_of(d: &[u8], t: u8, a: usize, b: usize) -> u64
 }
 
 fn mul_typed(d: &mut [u8], t: u8, o: Operands) -> Performed
-    requires { ⌜ (o .kind ≡ t) × Given 18 o × Inside 18 o (now d) ⌝ }
+    requires { ⌜ (o .kind ≡ t) × OperandsGiven 18 o × Inside 18 o (now d) ⌝ }
     ensures { λ r. ⌜ attempt r (now (d .exit)) ≡ attempted 18 o (now (d .entry)) ⌝ }
 {
     put(
@@ -542,7 +542,7 @@ fn mul_typed(d: &mut [u8], t: u8, o: Operands) -> Performed
 }
 
 pub fn mul_at(d: &mut [u8], o: Operands) -> Performed
-    requires { ⌜ Given 18 o ⌝ }
+    requires { ⌜ OperandsGiven 18 o ⌝ }
     ensures { λ r. ⌜ attempt r (now (d .exit)) ≡ attempted 18 o (now (d .entry)) ⌝ }
 {
     if alike_beyond(d.len(), o) {
@@ -582,7 +582,7 @@ fn div_of(d: &[u8], t: u8, a: usize, b: usize) -> u64
 }
 
 fn div_typed(d: &mut [u8], t: u8, o: Operands) -> Performed
-    requires { ⌜ (o .kind ≡ t) × Given 19 o × Inside 19 o (now d) ⌝ }
+    requires { ⌜ (o .kind ≡ t) × OperandsGiven 19 o × Inside 19 o (now d) ⌝ }
     ensures { λ r. ⌜ attempt r (now (d .exit)) ≡ attempted 19 o (now (d .entry)) ⌝ }
 {
     if zero_divisor(t, d, o.second) {
@@ -597,7 +597,7 @@ fn div_typed(d: &mut [u8], t: u8, o: Operands) -> Performed
 }
 
 pub fn div_at(d: &mut [u8], o: Operands) -> Performed
-    requires { ⌜ Given 19 o ⌝ }
+    requires { ⌜ OperandsGiven 19 o ⌝ }
     ensures { λ r. ⌜ attempt r (now (d .exit)) ≡ attempted 19 o (now (d .entry)) ⌝ }
 {
     if alike_beyond(d.len(), o) {
@@ -635,7 +635,7 @@ fn modulo_of(d: &[u8], t: u8, a: usize, b: usize) -> u64
 }
 
 fn modulo_typed(d: &mut [u8], t: u8, o: Operands) -> Performed
-    requires { ⌜ (o .kind ≡ t) × Given 20 o × Inside 20 o (now d) ⌝ }
+    requires { ⌜ (o .kind ≡ t) × OperandsGiven 20 o × Inside 20 o (now d) ⌝ }
     ensures { λ r. ⌜ attempt r (now (d .exit)) ≡ attempted 20 o (now (d .entry)) ⌝ }
 {
     put(
@@ -647,7 +647,7 @@ fn modulo_typed(d: &mut [u8], t: u8, o: Operands) -> Performed
 }
 
 pub fn modulo_at(d: &mut [u8], o: Operands) -> Performed
-    requires { ⌜ Given 20 o ⌝ }
+    requires { ⌜ OperandsGiven 20 o ⌝ }
     ensures { λ r. ⌜ attempt r (now (d .exit)) ≡ attempted 20 o (now (d .entry)) ⌝ }
 {
     if alike_beyond(d.len(), o) {
@@ -680,7 +680,7 @@ fn and_of(d: &[u8], t: u8, a: usize, b: usize) -> u64
 }
 
 fn and_typed(d: &mut [u8], t: u8, o: Operands) -> Performed
-    requires { ⌜ (o .kind ≡ t) × Given 24 o × Inside 24 o (now d) ⌝ }
+    requires { ⌜ (o .kind ≡ t) × OperandsGiven 24 o × Inside 24 o (now d) ⌝ }
     ensures { λ r. ⌜ attempt r (now (d .exit)) ≡ attempted 24 o (now (d .entry)) ⌝ }
 {
     put(
@@ -692,7 +692,7 @@ fn and_typed(d: &mut [u8], t: u8, o: Operands) -> Performed
 }
 
 pub fn and_at(d: &mut [u8], o: Operands) -> Performed
-    requires { ⌜ Given 24 o ⌝ }
+    requires { ⌜ OperandsGiven 24 o ⌝ }
     ensures { λ r. ⌜ attempt r (now (d .exit)) ≡ attempted 24 o (now (d .entry)) ⌝ }
 {
     if alike_beyond(d.len(), o) {
@@ -722,14 +722,14 @@ fn or_of(d: &[u8], t: u8, a: usize, b: usize) -> u64
 }
 
 fn or_typed(d: &mut [u8], t: u8, o: Operands) -> Performed
-    requires { ⌜ (o .kind ≡ t) × Given 25 o × Inside 25 o (now d) ⌝ }
+    requires { ⌜ (o .kind ≡ t) × OperandsGiven 25 o × Inside 25 o (now d) ⌝ }
     ensures { λ r. ⌜ attempt r (now (d .exit)) ≡ attempted 25 o (now (d .entry)) ⌝ }
 {
     put(d, values::width_of(t), o.to, or_of(d, t, o.first, o.second))
 }
 
 pub fn or_at(d: &mut [u8], o: Operands) -> Performed
-    requires { ⌜ Given 25 o ⌝ }
+    requires { ⌜ OperandsGiven 25 o ⌝ }
     ensures { λ r. ⌜ attempt r (now (d .exit)) ≡ attempted 25 o (now (d .entry)) ⌝ }
 {
     if alike_beyond(d.len(), o) {
@@ -759,7 +759,7 @@ fn xor_of(d: &[u8], t: u8, a: usize, b: usize) -> u64
 }
 
 fn xor_typed(d: &mut [u8], t: u8, o: Operands) -> Performed
-    requires { ⌜ (o .kind ≡ t) × Given 26 o × Inside 26 o (now d) ⌝ }
+    requires { ⌜ (o .kind ≡ t) × OperandsGiven 26 o × Inside 26 o (now d) ⌝ }
     ensures { λ r. ⌜ attempt r (now (d .exit)) ≡ attempted 26 o (now (d .entry)) ⌝ }
 {
     put(
@@ -771,7 +771,7 @@ fn xor_typed(d: &mut [u8], t: u8, o: Operands) -> Performed
 }
 
 pub fn xor_at(d: &mut [u8], o: Operands) -> Performed
-    requires { ⌜ Given 26 o ⌝ }
+    requires { ⌜ OperandsGiven 26 o ⌝ }
     ensures { λ r. ⌜ attempt r (now (d .exit)) ≡ attempted 26 o (now (d .entry)) ⌝ }
 {
     if alike_beyond(d.len(), o) {
@@ -801,14 +801,14 @@ fn not_of(d: &[u8], t: u8, a: usize) -> u64
 }
 
 fn not_typed(d: &mut [u8], t: u8, o: Operands) -> Performed
-    requires { ⌜ (o .kind ≡ t) × Given 27 o × Inside 27 o (now d) ⌝ }
+    requires { ⌜ (o .kind ≡ t) × OperandsGiven 27 o × Inside 27 o (now d) ⌝ }
     ensures { λ r. ⌜ attempt r (now (d .exit)) ≡ attempted 27 o (now (d .entry)) ⌝ }
 {
     put(d, values::width_of(t), o.to, not_of(d, t, o.first))
 }
 
 pub fn not_at(d: &mut [u8], o: Operands) -> Performed
-    requires { ⌜ Given 27 o ⌝ }
+    requires { ⌜ OperandsGiven 27 o ⌝ }
     ensures { λ r. ⌜ attempt r (now (d .exit)) ≡ attempted 27 o (now (d .entry)) ⌝ }
 {
     if single_beyond(d.len(), o) {
@@ -838,7 +838,7 @@ fn shl_of(d: &[u8], t: u8, a: usize, b: usize) -> u64
 }
 
 fn shl_typed(d: &mut [u8], t: u8, o: Operands) -> Performed
-    requires { ⌜ (o .kind ≡ t) × Given 28 o × Inside 28 o (now d) ⌝ }
+    requires { ⌜ (o .kind ≡ t) × OperandsGiven 28 o × Inside 28 o (now d) ⌝ }
     ensures { λ r. ⌜ attempt r (now (d .exit)) ≡ attempted 28 o (now (d .entry)) ⌝ }
 {
     put(
@@ -850,7 +850,7 @@ fn shl_typed(d: &mut [u8], t: u8, o: Operands) -> Performed
 }
 
 pub fn shl_at(d: &mut [u8], o: Operands) -> Performed
-    requires { ⌜ Given 28 o ⌝ }
+    requires { ⌜ OperandsGiven 28 o ⌝ }
     ensures { λ r. ⌜ attempt r (now (d .exit)) ≡ attempted 28 o (now (d .entry)) ⌝ }
 {
     if shifted_beyond(d.len(), o) {
@@ -879,7 +879,7 @@ fn shr_of(d: &[u8], t: u8, a: usize, b: usize) -> u64
 }
 
 fn shr_typed(d: &mut [u8], t: u8, o: Operands) -> Performed
-    requires { ⌜ (o .kind ≡ t) × Given 29 o × Inside 29 o (now d) ⌝ }
+    requires { ⌜ (o .kind ≡ t) × OperandsGiven 29 o × Inside 29 o (now d) ⌝ }
     ensures { λ r. ⌜ attempt r (now (d .exit)) ≡ attempted 29 o (now (d .entry)) ⌝ }
 {
     put(
@@ -891,7 +891,7 @@ fn shr_typed(d: &mut [u8], t: u8, o: Operands) -> Performed
 }
 
 pub fn shr_at(d: &mut [u8], o: Operands) -> Performed
-    requires { ⌜ Given 29 o ⌝ }
+    requires { ⌜ OperandsGiven 29 o ⌝ }
     ensures { λ r. ⌜ attempt r (now (d .exit)) ≡ attempted 29 o (now (d .entry)) ⌝ }
 {
     if shifted_beyond(d.len(), o) {
@@ -920,7 +920,7 @@ fn rol_of(d: &[u8], t: u8, a: usize, b: usize) -> u64
 }
 
 fn rol_typed(d: &mut [u8], t: u8, o: Operands) -> Performed
-    requires { ⌜ (o .kind ≡ t) × Given 30 o × Inside 30 o (now d) ⌝ }
+    requires { ⌜ (o .kind ≡ t) × OperandsGiven 30 o × Inside 30 o (now d) ⌝ }
     ensures { λ r. ⌜ attempt r (now (d .exit)) ≡ attempted 30 o (now (d .entry)) ⌝ }
 {
     put(
@@ -932,7 +932,7 @@ fn rol_typed(d: &mut [u8], t: u8, o: Operands) -> Performed
 }
 
 pub fn rol_at(d: &mut [u8], o: Operands) -> Performed
-    requires { ⌜ Given 30 o ⌝ }
+    requires { ⌜ OperandsGiven 30 o ⌝ }
     ensures { λ r. ⌜ attempt r (now (d .exit)) ≡ attempted 30 o (now (d .entry)) ⌝ }
 {
     if shifted_beyond(d.len(), o) {
@@ -961,7 +961,7 @@ fn ror_of(d: &[u8], t: u8, a: usize, b: usize) -> u64
 }
 
 fn ror_typed(d: &mut [u8], t: u8, o: Operands) -> Performed
-    requires { ⌜ (o .kind ≡ t) × Given 31 o × Inside 31 o (now d) ⌝ }
+    requires { ⌜ (o .kind ≡ t) × OperandsGiven 31 o × Inside 31 o (now d) ⌝ }
     ensures { λ r. ⌜ attempt r (now (d .exit)) ≡ attempted 31 o (now (d .entry)) ⌝ }
 {
     put(
@@ -973,7 +973,7 @@ fn ror_typed(d: &mut [u8], t: u8, o: Operands) -> Performed
 }
 
 pub fn ror_at(d: &mut [u8], o: Operands) -> Performed
-    requires { ⌜ Given 31 o ⌝ }
+    requires { ⌜ OperandsGiven 31 o ⌝ }
     ensures { λ r. ⌜ attempt r (now (d .exit)) ≡ attempted 31 o (now (d .entry)) ⌝ }
 {
     if shifted_beyond(d.len(), o) {
@@ -1018,14 +1018,14 @@ fn gt_of(d: &[u8], t: u8, a: usize, b: usize) -> u64
 }
 
 fn gt_typed(d: &mut [u8], t: u8, o: Operands) -> Performed
-    requires { ⌜ (o .kind ≡ t) × Given 32 o × Inside 32 o (now d) ⌝ }
+    requires { ⌜ (o .kind ≡ t) × OperandsGiven 32 o × Inside 32 o (now d) ⌝ }
     ensures { λ r. ⌜ attempt r (now (d .exit)) ≡ attempted 32 o (now (d .entry)) ⌝ }
 {
     put(d, 1, o.to, gt_of(d, t, o.first, o.second))
 }
 
 pub fn gt_at(d: &mut [u8], o: Operands) -> Performed
-    requires { ⌜ Given 32 o ⌝ }
+    requires { ⌜ OperandsGiven 32 o ⌝ }
     ensures { λ r. ⌜ attempt r (now (d .exit)) ≡ attempted 32 o (now (d .entry)) ⌝ }
 {
     if compared_beyond(d.len(), o) {
@@ -1076,14 +1076,14 @@ fn ge_of(d: &[u8], t: u8, a: usize, b: usize) -> u64
 }
 
 fn ge_typed(d: &mut [u8], t: u8, o: Operands) -> Performed
-    requires { ⌜ (o .kind ≡ t) × Given 33 o × Inside 33 o (now d) ⌝ }
+    requires { ⌜ (o .kind ≡ t) × OperandsGiven 33 o × Inside 33 o (now d) ⌝ }
     ensures { λ r. ⌜ attempt r (now (d .exit)) ≡ attempted 33 o (now (d .entry)) ⌝ }
 {
     put(d, 1, o.to, ge_of(d, t, o.first, o.second))
 }
 
 pub fn ge_at(d: &mut [u8], o: Operands) -> Performed
-    requires { ⌜ Given 33 o ⌝ }
+    requires { ⌜ OperandsGiven 33 o ⌝ }
     ensures { λ r. ⌜ attempt r (now (d .exit)) ≡ attempted 33 o (now (d .entry)) ⌝ }
 {
     if compared_beyond(d.len(), o) {
@@ -1134,14 +1134,14 @@ fn eq_of(d: &[u8], t: u8, a: usize, b: usize) -> u64
 }
 
 fn eq_typed(d: &mut [u8], t: u8, o: Operands) -> Performed
-    requires { ⌜ (o .kind ≡ t) × Given 34 o × Inside 34 o (now d) ⌝ }
+    requires { ⌜ (o .kind ≡ t) × OperandsGiven 34 o × Inside 34 o (now d) ⌝ }
     ensures { λ r. ⌜ attempt r (now (d .exit)) ≡ attempted 34 o (now (d .entry)) ⌝ }
 {
     put(d, 1, o.to, eq_of(d, t, o.first, o.second))
 }
 
 pub fn eq_at(d: &mut [u8], o: Operands) -> Performed
-    requires { ⌜ Given 34 o ⌝ }
+    requires { ⌜ OperandsGiven 34 o ⌝ }
     ensures { λ r. ⌜ attempt r (now (d .exit)) ≡ attempted 34 o (now (d .entry)) ⌝ }
 {
     if compared_beyond(d.len(), o) {
@@ -1192,14 +1192,14 @@ fn le_of(d: &[u8], t: u8, a: usize, b: usize) -> u64
 }
 
 fn le_typed(d: &mut [u8], t: u8, o: Operands) -> Performed
-    requires { ⌜ (o .kind ≡ t) × Given 35 o × Inside 35 o (now d) ⌝ }
+    requires { ⌜ (o .kind ≡ t) × OperandsGiven 35 o × Inside 35 o (now d) ⌝ }
     ensures { λ r. ⌜ attempt r (now (d .exit)) ≡ attempted 35 o (now (d .entry)) ⌝ }
 {
     put(d, 1, o.to, le_of(d, t, o.first, o.second))
 }
 
 pub fn le_at(d: &mut [u8], o: Operands) -> Performed
-    requires { ⌜ Given 35 o ⌝ }
+    requires { ⌜ OperandsGiven 35 o ⌝ }
     ensures { λ r. ⌜ attempt r (now (d .exit)) ≡ attempted 35 o (now (d .entry)) ⌝ }
 {
     if compared_beyond(d.len(), o) {
@@ -1250,14 +1250,14 @@ fn lt_of(d: &[u8], t: u8, a: usize, b: usize) -> u64
 }
 
 fn lt_typed(d: &mut [u8], t: u8, o: Operands) -> Performed
-    requires { ⌜ (o .kind ≡ t) × Given 36 o × Inside 36 o (now d) ⌝ }
+    requires { ⌜ (o .kind ≡ t) × OperandsGiven 36 o × Inside 36 o (now d) ⌝ }
     ensures { λ r. ⌜ attempt r (now (d .exit)) ≡ attempted 36 o (now (d .entry)) ⌝ }
 {
     put(d, 1, o.to, lt_of(d, t, o.first, o.second))
 }
 
 pub fn lt_at(d: &mut [u8], o: Operands) -> Performed
-    requires { ⌜ Given 36 o ⌝ }
+    requires { ⌜ OperandsGiven 36 o ⌝ }
     ensures { λ r. ⌜ attempt r (now (d .exit)) ≡ attempted 36 o (now (d .entry)) ⌝ }
 {
     if compared_beyond(d.len(), o) {
@@ -1308,14 +1308,14 @@ fn ne_of(d: &[u8], t: u8, a: usize, b: usize) -> u64
 }
 
 fn ne_typed(d: &mut [u8], t: u8, o: Operands) -> Performed
-    requires { ⌜ (o .kind ≡ t) × Given 37 o × Inside 37 o (now d) ⌝ }
+    requires { ⌜ (o .kind ≡ t) × OperandsGiven 37 o × Inside 37 o (now d) ⌝ }
     ensures { λ r. ⌜ attempt r (now (d .exit)) ≡ attempted 37 o (now (d .entry)) ⌝ }
 {
     put(d, 1, o.to, ne_of(d, t, o.first, o.second))
 }
 
 pub fn ne_at(d: &mut [u8], o: Operands) -> Performed
-    requires { ⌜ Given 37 o ⌝ }
+    requires { ⌜ OperandsGiven 37 o ⌝ }
     ensures { λ r. ⌜ attempt r (now (d .exit)) ≡ attempted 37 o (now (d .entry)) ⌝ }
 {
     if compared_beyond(d.len(), o) {

@@ -7,7 +7,7 @@ use lib.ListN.{length, take, replicate, length-replicate}
 use Rattle.records.specs.File.{cores}
 use Rattle.taskset.specs.Starts.{startShared, startBuffer}
 use Rattle.taskset.proofs.Accepted.{length-buffer, length-shared}
-use Rattle.states.specs.Set.{Set}
+use Rattle.states.specs.Set.{AcceptedSet}
 use Rattle.states.specs.Fit.{stateRefusal, Fit}
 use Rattle.states.proofs.Fresh.{fresh-fit}
 use Rattle.states.proofs.Exactly.{not-refused}
@@ -30,7 +30,7 @@ prefix n m h = sym (ap length (first-zeros n m h) ∙ length-replicate n 0)
 
 -- ---- its refusal
 
-pub fresh-not-refused : (f t : List ℕ) → Set f t → stateRefusal f t (tableOf (cores f) 4) ≡ 0
+pub fresh-not-refused : (f t : List ℕ) → AcceptedSet f t → stateRefusal f t (tableOf (cores f) 4) ≡ 0
 unfolding tableOf
 fresh-not-refused f t ok =
     not-refused f t ok (tableOf (cores f) 4) (startBuffer f) (startShared f)

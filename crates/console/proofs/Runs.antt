@@ -29,7 +29,7 @@ use Rattle.states.specs.Preparing.{heldRefusal}
 use Rattle.states.specs.Task.{taskOf}
 use Rattle.states.proofs.Accepted.{accepted-set}
 use Rattle.runner.specs.declared.Ran.{Ran}
-use Rattle.runner.specs.Runs.{Left, left, ranCall}
+use Rattle.runner.specs.Runs.{Left, leftAs, ranCall}
 use Rattle.machine.specs.Calls.{bufferSize, lentFits, callRefusal, answerOf, tableOf, freshRefusal, freshCall, runRefusal, runCall}
 use Rattle.machine.proofs.Calls.{fresh-none}
 use Rattle.listing.specs.Listing.{listing, refusedText, longText}
@@ -59,7 +59,7 @@ few-listed t ks s = omega (arith, length-map (takings t ks s) encoded, few-takin
 
 -- ---- the fresh call, lent memory of the right sizes
 
-module _ (f t order d sh list : List ℕ) (lent : length d ≡ bufferSize f) (lent-shared : length sh ≡ 1024) (x : Ran) (d′ sh′ : List ℕ) (began : left x d′ sh′ [] ≡ freshCall f d sh) where
+module _ (f t order d sh list : List ℕ) (lent : length d ≡ bufferSize f) (lent-shared : length sh ≡ 1024) (x : Ran) (d′ sh′ : List ℕ) (began : leftAs x d′ sh′ [] ≡ freshCall f d sh) where
   abbrev number : ℕ
   number = freshRefusal f (length d) (length sh)
 
@@ -91,7 +91,7 @@ module _ (f t order d sh list : List ℕ) (lent : length d ≡ bufferSize f) (le
     unfolding freshRefusal
     accepted = next-zero _ _ (sym answered ∙ none) .0
 
-    left-fresh : left x d′ sh′ [] ≡ left (answerOf 0 (tableOf (cores f) 4)) (startBuffer f) (startShared f) []
+    left-fresh : leftAs x d′ sh′ [] ≡ leftAs (answerOf 0 (tableOf (cores f) 4)) (startBuffer f) (startShared f) []
     unfolding freshCall
     left-fresh = began ∙ pick-true _ _ _ (eq-eqb _ _ (sym answered ∙ none))
 
@@ -123,11 +123,11 @@ module _ (f t order d sh list : List ℕ) (lent : length d ≡ bufferSize f) (le
           (sym (skip (yes _ 21 (rw (lent-fits, le-leb (length order) (length list) room) refl)) refl)
           ∙ held (traceRefusal f t) _ _ (λ z. fresh-not-refused f t (accepted-set f t bytes trace-bytes accepted z)))
 
-      module _ (y : Ran) (e k l : List ℕ) (ran : left y e k l ≡ runCall f t (x .state) d′ sh′ order list) where
+      module _ (y : Ran) (e k l : List ℕ) (ran : leftAs y e k l ≡ runCall f t (x .state) d′ sh′ order list) where
         run-answered : y .refusal ≡ refusalOf f t order
         unfolding runCall ranCall
         run-answered =
-            ap (λ (z : Left). z .answer .refusal) (from-fresh (left y e k l) ran)
+            ap (λ (z : Left). z .answer .refusal) (from-fresh (leftAs y e k l) ran)
             ∙ by-pick (λ (z : Left). z .answer .refusal ≡ calls) (eqb calls 0) _ _ (λ w. sym (eqb-true calls 0 w)) (λ w. refl)
             ∙ same-refusal
 
@@ -141,9 +141,9 @@ module _ (f t order d sh list : List ℕ) (lent : length d ≡ bufferSize f) (le
           none-refused : refusalOf f t order ≡ 0
           none-refused = sym run-answered ∙ no
 
-          all-ran : left y e k l ≡ ranCall f t (tableOf (cores f) 4) (startBuffer f) (startShared f) order list
+          all-ran : leftAs y e k l ≡ ranCall f t (tableOf (cores f) 4) (startBuffer f) (startShared f) order list
           unfolding runCall
-          all-ran = from-fresh (left y e k l) ran ∙ pick-true _ _ _ (eq-eqb _ _ (same-refusal ∙ none-refused))
+          all-ran = from-fresh (leftAs y e k l) ran ∙ pick-true _ _ _ (eq-eqb _ _ (same-refusal ∙ none-refused))
 
           started : stateOf f (tableOf (cores f) 4) (startBuffer f) (startShared f) ≡ freshOf f
           started = fresh-state f (keeps-rules f accepted .most-cores)

@@ -23,8 +23,8 @@ use Rattle.values.specs.declared.Value.the-variants.{Signed, Unsigned, Real, Lr
 use Rattle.values.proofs.Types.{each-type}
 use Rattle.values.proofs.Widths.{two-halves, signed-low, signed-high}
 use Rattle.conversions.specs.declared.Converted.the-variants.{Gives, NotHeld}
-use Rattle.conversions.specs.Conversions.{stores, held, withSign, nearestWhole, toWhole, toType, converted, resultAs}
-use Rattle.conversions.specs.Kept.{Whole, number}
+use Rattle.conversions.specs.Conversions.{stores, heldIn, withSign, nearestWhole, toWhole, toType, converted, resultAs}
+use Rattle.conversions.specs.Kept.{Whole, numberAt}
 use Rattle.conversions.specs.Rounding.{Nearest}
 use Rattle.conversions.proofs.Rounding.{le-or-lt}
 use Rattle.conversions.proofs.Ieee.{whole-nearest}
@@ -84,8 +84,8 @@ eight : 0 < 8
 eight = omega arith
 
 module _ (t w : ℕ) (wide : widthOf t ≡ w) (W : 0 < w) where
-  signed-kept : (z : ℤ) (q : ℕ) → resultAs t (held true w z) ≡ stores q → signed (8 * w) q ≡ z
-  unfolding held stored patternOf pick
+  signed-kept : (z : ℤ) (q : ℕ) → resultAs t (heldIn true w z) ≡ stores q → signed (8 * w) q ≡ z
+  unfolding heldIn stored patternOf pick
   signed-kept z q = go (ltb (mag z) (2 ^ (8 * w - 1))) (ltb→lt (mag z) (2 ^ (8 * w - 1)))
     where
       go : (c : Bool) → (T c → mag z < 2 ^ (8 * w - 1)) → resultAs t (pick c (Gives (Signed z)) NotHeld) ≡ stores q → signed (8 * w) q ≡ z
@@ -94,8 +94,8 @@ module _ (t w : ℕ) (wide : widthOf t ≡ w) (W : 0 < w) where
           ∙ read-back (8 * w) (2 ^ (8 * w - 1)) refl (two-halves w W) (pow-pos (8 * w - 1)) z (h tt)
       go false h e = absurd-bool (ap isStored e)
 
-  unsigned-kept : (z : ℤ) (q : ℕ) → resultAs t (held false w z) ≡ stores q → pos q ≡ z
-  unfolding held stored patternOf pick
+  unsigned-kept : (z : ℤ) (q : ℕ) → resultAs t (heldIn false w z) ≡ stores q → pos q ≡ z
+  unfolding heldIn stored patternOf pick
   unsigned-kept (pos n) q = go (ltb n (2 ^ (8 * w))) (ltb→lt n (2 ^ (8 * w)))
     where
       go : (c : Bool) → (T c → n < 2 ^ (8 * w)) → resultAs t (pick c (Gives (Unsigned n)) NotHeld) ≡ stores q → pos q ≡ pos n
@@ -103,15 +103,15 @@ module _ (t w : ℕ) (wide : widthOf t ≡ w) (W : 0 < w) where
       go false h e = absurd-bool (ap isStored e)
   unsigned-kept (negsuc n) q = λ e. absurd-bool (ap isStored e)
 
-  signed-same : (p : ℕ) → p < 2 ^ (8 * w) → resultAs t (held true w (signed (8 * w) p)) ≡ stores p
-  unfolding held stored patternOf pick
+  signed-same : (p : ℕ) → p < 2 ^ (8 * w) → resultAs t (heldIn true w (signed (8 * w) p)) ≡ stores p
+  unfolding heldIn stored patternOf pick
   signed-same p l =
       let half = 2 ^ (8 * w - 1) in
       rw (lt-ltb (mag (signed (8 * w) p)) half (signed-small (8 * w) half refl (two-halves w W) (pow-pos (8 * w - 1)) p l))
       (ap stores (ap (λ (x : ℕ). pattern (8 * x) (signed (8 * w) p)) wide ∙ pattern-back (8 * w) half refl (two-halves w W) (pow-pos (8 * w - 1)) p l))
 
-  unsigned-same : (p : ℕ) → p < 2 ^ (8 * w) → resultAs t (held false w (pos p)) ≡ stores p
-  unfolding held stored patternOf pick
+  unsigned-same : (p : ℕ) → p < 2 ^ (8 * w) → resultAs t (heldIn false w (pos p)) ≡ stores p
+  unfolding heldIn stored patternOf pick
   unsigned-same p l = rw (lt-ltb p (2 ^ (8 * w)) l) (ap stores (ap (λ (x : ℕ). p % 2 ^ (8 * x)) wide ∙ mod-eq-of-lt l))
 
 -- ---- every type
@@ -125,44 +125,44 @@ each-whole P a b c d e f g h t m =
     below t l = omega arith
 
 -- a whole operand converts by its number
-by-number : (b : Bool) (w p : ℕ) (from : ℕ) → Whole from → toWhole b w (typed from p) ≡ held b w (number from p)
-unfolding toWhole typed number
-by-number b w p = each-whole (λ (t : ℕ). toWhole b w (typed t p) ≡ held b w (number t p)) refl refl refl refl refl refl refl refl
+by-number : (b : Bool) (w p : ℕ) (from : ℕ) → Whole from → toWhole b w (typed from p) ≡ heldIn b w (numberAt from p)
+unfolding toWhole typed numberAt
+by-number b w p = each-whole (λ (t : ℕ). toWhole b w (typed t p) ≡ heldIn b w (numberAt t p)) refl refl refl refl refl refl refl refl
 
-real-is : (b : Bool) (w : ℕ) (s : Bool) (m : ℕ) (e : ℤ) → toWhole b w (Real (fin s m e)) ≡ held b w (withSign s (closest (m * up e) (down e)))
+real-is : (b : Bool) (w : ℕ) (s : Bool) (m : ℕ) (e : ℤ) → toWhole b w (Real (fin s m e)) ≡ heldIn b w (withSign s (closest (m * up e) (down e)))
 unfolding toWhole nearestWhole
 real-is b w s m e = refl
 
-lreal-is : (b : Bool) (w : ℕ) (s : Bool) (m : ℕ) (e : ℤ) → toWhole b w (Lreal (fin s m e)) ≡ held b w (withSign s (closest (m * up e) (down e)))
+lreal-is : (b : Bool) (w : ℕ) (s : Bool) (m : ℕ) (e : ℤ) → toWhole b w (Lreal (fin s m e)) ≡ heldIn b w (withSign s (closest (m * up e) (down e)))
 unfolding toWhole nearestWhole
 lreal-is b w s m e = refl
 
 -- what is stored for a whole type stands for the number that was to be held
-stored-number : (v : Value) (z : ℤ) → ((b : Bool) (w : ℕ) → toWhole b w v ≡ held b w z) → (q to : ℕ) → Whole to → resultAs to (toType to v) ≡ stores q → number to q ≡ z
-unfolding toType typed number widthOf
+stored-number : (v : Value) (z : ℤ) → ((b : Bool) (w : ℕ) → toWhole b w v ≡ heldIn b w z) → (q to : ℕ) → Whole to → resultAs to (toType to v) ≡ stores q → numberAt to q ≡ z
+unfolding toType typed numberAt widthOf
 stored-number v z h q =
-    each-whole (λ (t : ℕ). resultAs t (toType t v) ≡ stores q → number t q ≡ z)
+    each-whole (λ (t : ℕ). resultAs t (toType t v) ≡ stores q → numberAt t q ≡ z)
     (λ e. signed-kept 1 1 refl one z q (turned true 1 1 e)) (λ e. unsigned-kept 2 1 refl one z q (turned false 1 2 e))
     (λ e. signed-kept 3 2 refl two z q (turned true 2 3 e)) (λ e. unsigned-kept 4 2 refl two z q (turned false 2 4 e))
     (λ e. signed-kept 5 4 refl four z q (turned true 4 5 e)) (λ e. unsigned-kept 6 4 refl four z q (turned false 4 6 e))
     (λ e. signed-kept 7 8 refl eight z q (turned true 8 7 e)) (λ e. unsigned-kept 8 8 refl eight z q (turned false 8 8 e))
   where
-    turned : (b : Bool) (w t : ℕ) → resultAs t (toWhole b w v) ≡ stores q → resultAs t (held b w z) ≡ stores q
+    turned : (b : Bool) (w t : ℕ) → resultAs t (toWhole b w v) ≡ stores q → resultAs t (heldIn b w z) ≡ stores q
     turned b w t e = sym (ap (resultAs t) (h b w)) ∙ e
 
 -- whole to whole keeps the value
-pub kept : (from to p q : ℕ) → Whole from → Whole to → converted from to p ≡ stores q → number to q ≡ number from p
+pub kept : (from to p q : ℕ) → Whole from → Whole to → converted from to p ≡ stores q → numberAt to q ≡ numberAt from p
 unfolding converted
-kept from to p q F = stored-number (typed from p) (number from p) (λ b w. by-number b w p from F) q to
+kept from to p q F = stored-number (typed from p) (numberAt from p) (λ b w. by-number b w p from F) q to
 
 -- float to whole stores the nearest whole number, ties to even (`Nearest`), with the sign
 pub nearest-stored : (from to p q : ℕ) (s : Bool) (m : ℕ) (e : ℤ) → (typed from p ≡ Real (fin s m e)) ⊎ (typed from p ≡ Lreal (fin s m e)) → Whole to
-    → converted from to p ≡ stores q → (r : ℕ) × (number to q ≡ withSign s r) × Nearest (m * up e) (down e) r
+    → converted from to p ≡ stores q → (r : ℕ) × (numberAt to q ≡ withSign s r) × Nearest (m * up e) (down e) r
 unfolding converted
 nearest-stored from to p q s m e v W h =
     (closest (m * up e) (down e), stored-number (typed from p) (withSign s (closest (m * up e) (down e))) by-value q to W h, whole-nearest m e)
   where
-    by-value : (b : Bool) (w : ℕ) → toWhole b w (typed from p) ≡ held b w (withSign s (closest (m * up e) (down e)))
+    by-value : (b : Bool) (w : ℕ) → toWhole b w (typed from p) ≡ heldIn b w (withSign s (closest (m * up e) (down e)))
     by-value b w = ⊎-elim (λ x. ap (toWhole b w) x ∙ real-is b w s m e) (λ x. ap (toWhole b w) x ∙ lreal-is b w s m e) v
 
 -- a pattern of a whole type, converted to that type, stays

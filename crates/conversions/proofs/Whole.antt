@@ -21,7 +21,7 @@ use borrow.Author.Tests.{lt-ltb, le-ltb, ne-eqb}
 use Rattle.values.proofs.Widths.{half-le}
 use Rattle.values.specs.declared.Value.the-variants.{Signed, Unsigned}
 use Rattle.conversions.specs.declared.Converted.the-variants.{Gives, NotHeld}
-use Rattle.conversions.specs.Conversions.{withSign, held, nearestWhole, narrow}
+use Rattle.conversions.specs.Conversions.{withSign, heldIn, nearestWhole, narrow}
 use Rattle.conversions.specs.Digits.{digitsIn, shiftIn}
 
 -- ---- a pattern's value
@@ -83,69 +83,69 @@ field-finite f p v = ⊎-elim (λ e. absurd (go (field f p) e v)) (λ l. l) (eq-
     go (suc x) e w = neither (eqb t 0) (subst (λ (b : Bool). finite (cond b (cond (eqb t 0) (inf s) nan) (Ieee.odd (prec f) s (hid f + t) x (low f)))) (is-true (eqb (suc x) (ones f)) (eq→eqb e)) w)
 
 -- ---- the nearest whole number, from any fraction of that value
-pub nearest-of : (b : Bool) (w : ℕ) (x : Float) (t : Bool) (a l : ℕ) → HasValue x t a (2 ^ l) → held b w (withSign t (closest a (2 ^ l))) ≡ nearestWhole b w x
+pub nearest-of : (b : Bool) (w : ℕ) (x : Float) (t : Bool) (a l : ℕ) → HasValue x t a (2 ^ l) → heldIn b w (withSign t (closest a (2 ^ l))) ≡ nearestWhole b w x
 unfolding nearestWhole
 nearest-of b w nan t a l v = absurd v
 nearest-of b w (inf s) t a l v = absurd v
 nearest-of b w (fin s m e) t a l v =
-    ap (λ (y : Bool). held b w (withSign y (closest a (2 ^ l)))) (sym (v .0))
-    ∙ ap (λ (y : ℕ). held b w (withSign s y)) (closest-same a (2 ^ l) (m * up e) (down e) (pow-pos l) (down-pos e) (sym (v .1)))
+    ap (λ (y : Bool). heldIn b w (withSign y (closest a (2 ^ l)))) (sym (v .0))
+    ∙ ap (λ (y : ℕ). heldIn b w (withSign s y)) (closest-same a (2 ^ l) (m * up e) (down e) (pow-pos l) (down-pos e) (sym (v .1)))
 
 -- ---- which whole numbers are held
-pub held-same : (b b′ s s′ : Bool) (w n n′ : ℕ) → b ≡ b′ → s ≡ s′ → n ≡ n′ → held b w (withSign s n) ≡ held b′ w (withSign s′ n′)
+pub held-same : (b b′ s s′ : Bool) (w n n′ : ℕ) → b ≡ b′ → s ≡ s′ → n ≡ n′ → heldIn b w (withSign s n) ≡ heldIn b′ w (withSign s′ n′)
 held-same b b′ s s′ w n n′ p q r =
-    ap (λ (x : Bool). held x w (withSign s n)) p ∙ ap (λ (x : Bool). held b′ w (withSign x n)) q ∙ ap (λ (x : ℕ). held b′ w (withSign s′ x)) r
+    ap (λ (x : Bool). heldIn x w (withSign s n)) p ∙ ap (λ (x : Bool). heldIn b′ w (withSign x n)) q ∙ ap (λ (x : ℕ). heldIn b′ w (withSign s′ x)) r
 
-pub signed-zero : (s : Bool) (w : ℕ) → Gives (Signed (pos 0)) ≡ held true w (withSign s 0)
-unfolding held pick
+pub signed-zero : (s : Bool) (w : ℕ) → Gives (Signed (pos 0)) ≡ heldIn true w (withSign s 0)
+unfolding heldIn pick
 signed-zero true w = rw (lt-ltb 0 (2 ^ (8 * w - 1)) (pow-pos (8 * w - 1)))
 signed-zero false w = rw (lt-ltb 0 (2 ^ (8 * w - 1)) (pow-pos (8 * w - 1)))
 
-pub unsigned-zero : (s : Bool) (w : ℕ) → Gives (Unsigned 0) ≡ held false w (withSign s 0)
-unfolding held pick
+pub unsigned-zero : (s : Bool) (w : ℕ) → Gives (Unsigned 0) ≡ heldIn false w (withSign s 0)
+unfolding heldIn pick
 unsigned-zero true w = rw (lt-ltb 0 (2 ^ (8 * w)) (pow-pos (8 * w)))
 unsigned-zero false w = rw (lt-ltb 0 (2 ^ (8 * w)) (pow-pos (8 * w)))
 
-pub below-held : (w n : ℕ) → 0 < n → n - 1 < 2 ^ (8 * w - 1) → Gives (Signed (negsuc (n - 1))) ≡ held true w (withSign true n)
-unfolding held pick
+pub below-held : (w n : ℕ) → 0 < n → n - 1 < 2 ^ (8 * w - 1) → Gives (Signed (negsuc (n - 1))) ≡ heldIn true w (withSign true n)
+unfolding heldIn pick
 below-held w zero p h = absurd (lt-irrefl 0 p)
 below-held w (suc k) p h =
     let e : suc k - 1 ≡ k = omega arith in
     ap (λ (x : ℕ). Gives (Signed (negsuc x))) e ∙ rw (lt-ltb k (2 ^ (8 * w - 1)) (subst (λ (x : ℕ). x < 2 ^ (8 * w - 1)) e h))
 
-pub below-fault : (w n : ℕ) → 0 < n → 2 ^ (8 * w - 1) ≤ n - 1 → NotHeld ≡ held true w (withSign true n)
-unfolding held pick
+pub below-fault : (w n : ℕ) → 0 < n → 2 ^ (8 * w - 1) ≤ n - 1 → NotHeld ≡ heldIn true w (withSign true n)
+unfolding heldIn pick
 below-fault w zero p h = absurd (lt-irrefl 0 p)
 below-fault w (suc k) p h =
     let e : suc k - 1 ≡ k = omega arith in
     rw (le-ltb k (2 ^ (8 * w - 1)) (subst (λ (x : ℕ). 2 ^ (8 * w - 1) ≤ x) e h))
 
-pub above-held : (w n : ℕ) → n < 2 ^ (8 * w - 1) → Gives (Signed (pos n)) ≡ held true w (withSign false n)
-unfolding held pick
+pub above-held : (w n : ℕ) → n < 2 ^ (8 * w - 1) → Gives (Signed (pos n)) ≡ heldIn true w (withSign false n)
+unfolding heldIn pick
 above-held w n h = rw (lt-ltb n (2 ^ (8 * w - 1)) h)
 
-pub above-fault : (w n : ℕ) → 2 ^ (8 * w - 1) ≤ n → NotHeld ≡ held true w (withSign false n)
-unfolding held pick
+pub above-fault : (w n : ℕ) → 2 ^ (8 * w - 1) ≤ n → NotHeld ≡ heldIn true w (withSign false n)
+unfolding heldIn pick
 above-fault w n h = rw (le-ltb n (2 ^ (8 * w - 1)) h)
 
-pub negative-fault : (w n : ℕ) → 0 < n → NotHeld ≡ held false w (withSign true n)
-unfolding held pick
+pub negative-fault : (w n : ℕ) → 0 < n → NotHeld ≡ heldIn false w (withSign true n)
+unfolding heldIn pick
 negative-fault w zero p = absurd (lt-irrefl 0 p)
 negative-fault w (suc k) p = refl
 
-pub unsigned-held : (w n : ℕ) → n < 2 ^ (8 * w) → Gives (Unsigned n) ≡ held false w (withSign false n)
-unfolding held pick
+pub unsigned-held : (w n : ℕ) → n < 2 ^ (8 * w) → Gives (Unsigned n) ≡ heldIn false w (withSign false n)
+unfolding heldIn pick
 unsigned-held w n h = rw (lt-ltb n (2 ^ (8 * w)) h)
 
-pub unsigned-fault : (w n : ℕ) → 2 ^ (8 * w) ≤ n → NotHeld ≡ held false w (withSign false n)
-unfolding held pick
+pub unsigned-fault : (w n : ℕ) → 2 ^ (8 * w) ≤ n → NotHeld ≡ heldIn false w (withSign false n)
+unfolding heldIn pick
 unsigned-fault w n h = rw (le-ltb n (2 ^ (8 * w)) h)
 
 full-le : (w : ℕ) → w ≤ 8 → 2 ^ (8 * w) ≤ 2 ^ 64
 full-le w h = let e : 8 * w ≤ 64 = omega arith in pow-mono e
 
 -- a number from 2 ^ 64 on fits no type
-pub held-large : (b s : Bool) (w n : ℕ) → w ≤ 8 → 2 ^ 64 ≤ n → NotHeld ≡ held b w (withSign s n)
+pub held-large : (b s : Bool) (w n : ℕ) → w ≤ 8 → 2 ^ 64 ≤ n → NotHeld ≡ heldIn b w (withSign s n)
 held-large true true w n h l = let p : 0 < n = omega arith in below-fault w n p (omega (arith, half-le w h))
 held-large true false w n h l = above-fault w n (omega (arith, half-le w h))
 held-large false true w n h l = let p : 0 < n = omega arith in negative-fault w n p

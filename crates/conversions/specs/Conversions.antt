@@ -20,10 +20,10 @@ use Rattle.conversions.specs.declared.Converted.the-variants.{Gives, Not
 
 -- ---- whole to whole: the value is kept, where the destination can hold it
 
-unfoldable pub held : Bool → ℕ → ℤ → Converted
-held true w z = pick (ltb (mag z) (2 ^ (8 * w - 1))) (Gives (Signed z)) NotHeld
-held false w (pos n) = pick (ltb n (2 ^ (8 * w))) (Gives (Unsigned n)) NotHeld
-held false w (negsuc n) = NotHeld
+unfoldable pub heldIn : Bool → ℕ → ℤ → Converted
+heldIn true w z = pick (ltb (mag z) (2 ^ (8 * w - 1))) (Gives (Signed z)) NotHeld
+heldIn false w (pos n) = pick (ltb n (2 ^ (8 * w))) (Gives (Unsigned n)) NotHeld
+heldIn false w (negsuc n) = NotHeld
 
 -- ---- float to whole: rounded to nearest, ties to even, and then held or not; NaN and infinities are not
 
@@ -34,16 +34,16 @@ withSign false n = pos n
 
 -- the float fin s m e is m * 2 ^ e, the fraction m * up e / down e, with the sign s
 unfoldable pub nearestWhole : Bool → ℕ → Float → Converted
-unfolding held
+unfolding heldIn
 nearestWhole b w nan = NotHeld
 nearestWhole b w (inf s) = NotHeld
-nearestWhole b w (fin s m e) = held b w (withSign s (closest (m * up e) (down e)))
+nearestWhole b w (fin s m e) = heldIn b w (withSign s (closest (m * up e) (down e)))
 
 unfoldable pub toWhole : Bool → ℕ → Value → Converted
-unfolding held nearestWhole
+unfolding heldIn nearestWhole
 toWhole b w (VBool x) = NotHeld
-toWhole b w (Signed z) = held b w z
-toWhole b w (Unsigned n) = held b w (pos n)
+toWhole b w (Signed z) = heldIn b w z
+toWhole b w (Unsigned n) = heldIn b w (pos n)
 toWhole b w (Real x) = nearestWhole b w x
 toWhole b w (Lreal x) = nearestWhole b w x
 

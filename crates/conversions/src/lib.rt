@@ -11,7 +11,7 @@ ghost use lib.Ieee.{binary32, binary64};
 ghost use lib.Ieee.Nearest.{closest};
 ghost use Rattle.values.specs.Types.{widthOf};
 ghost use Rattle.values.specs.Commands.{anyBeyond};
-ghost use Rattle.conversions.specs.Conversions.{withSign, held, nearestWhole, toWhole, narrow, toReal, toLreal, toType, resultAs};
+ghost use Rattle.conversions.specs.Conversions.{withSign, heldIn, nearestWhole, toWhole, narrow, toReal, toLreal, toType, resultAs};
 ghost use Rattle.conversions.specs.Digits.{digitsIn, shiftIn};
 ghost use Rattle.conversions.specs.Data.{ended, settled, converting};
 use values::Value;
@@ -130,7 +130,7 @@ fn half_of(w: usize) -> u64
 // The whole number of a sign and a magnitude, where w bytes hold it: signed, unsigned, and either.
 fn signed_at(w: usize, negative: bool, n: u64) -> Converted
     requires { ⌜ (0 < w) × (w ≤ 8) ⌝ }
-    ensures { λ r. ⌜ r ≡ held true w (withSign negative n) ⌝ }
+    ensures { λ r. ⌜ r ≡ heldIn true w (withSign negative n) ⌝ }
 {
     if n == 0 {
         return Converted::Gives(Value::Signed(0));
@@ -153,7 +153,7 @@ fn signed_at(w: usize, negative: bool, n: u64) -> Converted
 
 fn unsigned_at(w: usize, negative: bool, number: u64) -> Converted
     requires { ⌜ (0 < w) × (w ≤ 8) ⌝ }
-    ensures { λ r. ⌜ r ≡ held false w (withSign negative number) ⌝ }
+    ensures { λ r. ⌜ r ≡ heldIn false w (withSign negative number) ⌝ }
 {
     if number == 0 {
         return Converted::Gives(Value::Unsigned(0));
@@ -170,7 +170,7 @@ fn unsigned_at(w: usize, negative: bool, number: u64) -> Converted
 
 fn held_at(signed: bool, w: usize, negative: bool, n: u64) -> Converted
     requires { ⌜ (0 < w) × (w ≤ 8) ⌝ }
-    ensures { λ r. ⌜ r ≡ held signed w (withSign negative n) ⌝ }
+    ensures { λ r. ⌜ r ≡ heldIn signed w (withSign negative n) ⌝ }
 {
     if signed {
         signed_at(w, negative, n)

@@ -11,7 +11,7 @@ use Rattle.verdict.specs.Verdict.{pick, both}
 use Rattle.verdict.proofs.Verdict.{both-true, pick-true, pick-false}
 use Rattle.verdict.proofs.Truth.{both-skip, both-stop}
 use Rattle.memory.specs.Memory.{splice, part}
-use Rattle.copies.specs.Copies.{copyFits, answer, copied}
+use Rattle.copies.specs.Copies.{copyFits, copyAnswer, copied}
 
 -- a place as far from the end as the count is one whose stretch ends within, tested without a sum
 pub before-end : (a n size : ℕ) → n ≤ size → leb a (size - n) ≡ leb (a + n) size
@@ -44,12 +44,12 @@ fitting size to from n h =
     (leb-true _ _ (b .0), leb-true _ _ (b .1), leb-true _ _ (a .0))
 
 -- where they do not, the answer is 1 and the data stay
-pub unfit : (d : List ℕ) (to from n : ℕ) → copyFits (length d) to from n ≡ false → (1 ≡ answer (length d) to from n) × (d ≡ copied d to from n)
-unfolding answer copied
+pub unfit : (d : List ℕ) (to from n : ℕ) → copyFits (length d) to from n ≡ false → (1 ≡ copyAnswer (length d) to from n) × (d ≡ copied d to from n)
+unfolding copyAnswer copied
 unfit d to from n h = (sym (pick-false _ 0 1 h), sym (pick-false _ _ d h))
 
 -- where they do, the answer is 0 and the data are with the copy
 pub fit : (d e : List ℕ) (to from n : ℕ) → copyFits (length d) to from n ≡ true → e ≡ splice d to (part d from n)
-    → (0 ≡ answer (length d) to from n) × (e ≡ copied d to from n)
-unfolding answer copied
+    → (0 ≡ copyAnswer (length d) to from n) × (e ≡ copied d to from n)
+unfolding copyAnswer copied
 fit d e to from n h q = (sym (pick-true _ 0 1 h), q ∙ sym (pick-true _ (splice d to (part d from n)) d h))

@@ -12,8 +12,8 @@ unfoldable pub copyFits : ℕ → ℕ → ℕ → ℕ → Bool
 copyFits size to from n = both (leb n 4096) (both (leb (to + n) size) (leb (from + n) size))
 
 -- 0 for a copy, 1 for none
-unfoldable pub answer : ℕ → ℕ → ℕ → ℕ → ℕ
-answer size to from n = pick (copyFits size to from n) 0 1
+unfoldable pub copyAnswer : ℕ → ℕ → ℕ → ℕ → ℕ
+copyAnswer size to from n = pick (copyFits size to from n) 0 1
 
 -- the data afterwards, as if all bytes were read before the first is written
 unfoldable pub copied : List ℕ → ℕ → ℕ → ℕ → List ℕ

@@ -4,7 +4,7 @@ ghost use mathlib.Core.Path.{_≡_};
 ghost use Prim.Native.Nat.{_+_, _≤_};
 ghost use lib.ListN.{length};
 ghost use Rattle.memory.specs.Memory.{splice, part, Disjoint};
-ghost use Rattle.copies.specs.Copies.{copyFits, answer, copied};
+ghost use Rattle.copies.specs.Copies.{copyFits, copyAnswer, copied};
 
 // The largest data of a core.
 const LARGEST: usize = 4096;
@@ -40,7 +40,7 @@ fn move_bytes(d: &mut [u8], to: usize, from: usize, n: usize)
 // As the machine does it: by words where the stretches share no byte. The answer is 0, or 1 where a stretch leaves the data.
 #[no_mangle]
 pub extern "C" fn rikzord_copy_by_words(d: &mut [u8], to: usize, from: usize, n: usize) -> u8
-    ensures { λ r. ⌜ (r ≡ answer (length (now (d .entry))) to from n) × (now (d .exit) ≡ copied (now (d .entry)) to from n) ⌝ }
+    ensures { λ r. ⌜ (r ≡ copyAnswer (length (now (d .entry))) to from n) × (now (d .exit) ≡ copied (now (d .entry)) to from n) ⌝ }
 {
     if !fits(d.len(), to, from, n) {
         return 1;
@@ -52,7 +52,7 @@ pub extern "C" fn rikzord_copy_by_words(d: &mut [u8], to: usize, from: usize, n:
 // By single bytes where the stretches share none.
 #[no_mangle]
 pub extern "C" fn rikzord_copy_by_bytes(d: &mut [u8], to: usize, from: usize, n: usize) -> u8
-    ensures { λ r. ⌜ (r ≡ answer (length (now (d .entry))) to from n) × (now (d .exit) ≡ copied (now (d .entry)) to from n) ⌝ }
+    ensures { λ r. ⌜ (r ≡ copyAnswer (length (now (d .entry))) to from n) × (now (d .exit) ≡ copied (now (d .entry)) to from n) ⌝ }
 {
     if !fits(d.len(), to, from, n) {
         return 1;
@@ -68,7 +68,7 @@ pub extern "C" fn rikzord_copy_by_bytes(d: &mut [u8], to: usize, from: usize, n:
 // Through an array, whether the stretches share bytes or not.
 #[no_mangle]
 pub extern "C" fn rikzord_copy_through(d: &mut [u8], to: usize, from: usize, n: usize) -> u8
-    ensures { λ r. ⌜ (r ≡ answer (length (now (d .entry))) to from n) × (now (d .exit) ≡ copied (now (d .entry)) to from n) ⌝ }
+    ensures { λ r. ⌜ (r ≡ copyAnswer (length (now (d .entry))) to from n) × (now (d .exit) ≡ copied (now (d .entry)) to from n) ⌝ }
 {
     if !fits(d.len(), to, from, n) {
         return 1;

@@ -26,14 +26,14 @@ use Rattle.code.specs.Instructions.{typedAt, instructionAt, instructionLength}
 use Rattle.code.specs.Code.{instructionOk, instructionRefusal, laid, startFrom, isStart, allFrom, targetOk, lastFrom, judgeCodeFor}
 use Rattle.processor.specs.Processor.{placeOf, dataPart, executed}
 use Rattle.records.specs.Records.{coreOk, coreRefusal, oneWriter, placeOk, partOk, partsOk, variableOk, variableRefusal, meets, meetsShared, meetsIn, overlap, pairRefusal, overlapRefusal}
-use Rattle.taskset.specs.Judge.{marked, headRefusal, variablesRefusal, codePlace, sectionRefusal, startPlace, startsRefusal, codesRefusal, judgeFor, judge}
+use Rattle.taskset.specs.Judge.{hasMark, headRefusal, variablesRefusal, codePlace, sectionRefusal, startPlace, startsRefusal, codesRefusal, judgeFor, judge}
 use Rattle.taskset.specs.Trace.{tracePlace, traceRefusal}
 use Rattle.taskset.specs.Task.{listed, sizesOf, variablesOf, sampleAt, samplesOf}
 use Rattle.taskset.specs.Starts.{withPairs, startData, writerOf, withWritten, startShared}
 use Rattle.states.specs.Task.{taskOf}
 use Rattle.taskset.proofs.Blank.{blank-trace}
 use Rattle.cycles.specs.Files.{listingFile, listingTrace, listingSteps, ringFile, openFile, ringTrace, ringSteps, openSteps}
-use Rattle.cycles.specs.Shown.{stateAfter, Listing, FirstCycle}
+use Rattle.cycles.specs.Shown.{afterSteps, Listing, FirstCycle}
 
 -- ---- what computes, on an `unfolding` line
 
@@ -44,12 +44,12 @@ files = tt
 
 -- a file and a trace are judged
 judging : Unit {0}
-unfolding files pick next unless first part valueLE readLE takes rowOf kindAt targetAt lengthOf typedAt instructionAt instructionLength instructionOk instructionRefusal laid startFrom isStart allFrom targetOk lastFrom judgeCodeFor readsIt writesIt coreOk coreRefusal oneWriter placeOk partOk partsOk variableOk variableRefusal meets meetsShared meetsIn overlap pairRefusal overlapRefusal marked headRefusal variablesRefusal codePlace sectionRefusal startPlace startsRefusal codesRefusal judgeFor tracePlace traceRefusal
+unfolding files pick next unless first part valueLE readLE takes rowOf kindAt targetAt lengthOf typedAt instructionAt instructionLength instructionOk instructionRefusal laid startFrom isStart allFrom targetOk lastFrom judgeCodeFor readsIt writesIt coreOk coreRefusal oneWriter placeOk partOk partsOk variableOk variableRefusal meets meetsShared meetsIn overlap pairRefusal overlapRefusal hasMark headRefusal variablesRefusal codePlace sectionRefusal startPlace startsRefusal codesRefusal judgeFor tracePlace traceRefusal
 judging = tt
 
 -- the cores move, with NOT and RETURN for instructions
 unfoldable pub steps-compute : Unit {0}
-unfolding files pick part valueLE readLE bytesLE splice listed sizesOf variablesOf marked startPlace withPairs startData writerOf withWritten startShared sampleAt samplesOf codePlace tracePlace readsIt writesIt rowOf kindAt targetAt lengthOf typedAt instructionAt instructionLength widthOf typed patternOf stored onBits NOT result resultType resultWidth secondWidth command zeroDivisor beyond performed placeOf dataPart executed applied limited instructionBy warm advanced cycleEnded readAcquired byteCopied readReleased writeAcquired writeReleased readTaken readNext readDone writeTaken writeNext writeDone step takingOf wholeOne cycle taskOf
+unfolding files pick part valueLE readLE bytesLE splice listed sizesOf variablesOf hasMark startPlace withPairs startData writerOf withWritten startShared sampleAt samplesOf codePlace tracePlace readsIt writesIt rowOf kindAt targetAt lengthOf typedAt instructionAt instructionLength widthOf typed patternOf stored onBits NOT result resultType resultWidth secondWidth command zeroDivisor beyond performed placeOf dataPart executed applied limited instructionBy warm advanced cycleEnded readAcquired byteCopied readReleased writeAcquired writeReleased readTaken readNext readDone writeTaken writeNext writeDone step takingOf wholeOne cycle taskOf
 steps-compute = tt
 
 -- ---- a core of the ring
@@ -72,7 +72,7 @@ listing-sound : traceRefusal listingFile listingTrace ≡ 0
 unfolding judging
 listing-sound = refl
 
-listing-between : Between (stateAfter listingFile listingTrace listingSteps)
+listing-between : Between (afterSteps listingFile listingTrace listingSteps)
 unfolding steps-compute
 listing-between zero = inl refl
 listing-between (suc k) = inr refl
@@ -82,7 +82,7 @@ unfolding steps-compute
 listing-shown = record { accepted = listing-accepted; sound = listing-sound; between = listing-between; cycles-done = refl; flags = refl; counted = refl; taken = refl }
 
 -- with no trace
-blank-between : Between (stateAfter listingFile [] listingSteps)
+blank-between : Between (afterSteps listingFile [] listingSteps)
 unfolding steps-compute
 blank-between zero = inl refl
 blank-between (suc k) = inr refl
@@ -127,18 +127,18 @@ open-ringless = tt
 openEnd : State
 openEnd = record { plant = record { cores = ringCore 0 1 ∷ ringCore 0 1 ∷ ringCore 0 1 ∷ []; shared = 1 ∷ 1 ∷ replicate 1022 0 }; semaphore = record { holder = 0; line = [] } }
 
-open-mixed : stateAfter openFile ringTrace ringSteps ≡ openEnd
+open-mixed : afterSteps openFile ringTrace ringSteps ≡ openEnd
 unfolding steps-compute openEnd
 open-mixed = refl
 
-open-in-order : stateAfter openFile ringTrace openSteps ≡ openEnd
+open-in-order : afterSteps openFile ringTrace openSteps ≡ openEnd
 unfolding steps-compute openEnd
 open-in-order = refl
 
-pub open-one-by-one : stateAfter openFile ringTrace openSteps ≡ stateAfter openFile ringTrace ringSteps
+pub open-one-by-one : afterSteps openFile ringTrace openSteps ≡ afterSteps openFile ringTrace ringSteps
 open-one-by-one = open-in-order ∙ sym open-mixed
 
-pub open-between : Between (stateAfter openFile ringTrace ringSteps)
+pub open-between : Between (afterSteps openFile ringTrace ringSteps)
 unfolding openEnd
 open-between zero = inl (rw open-mixed)
 open-between (suc zero) = inl (rw open-mixed)

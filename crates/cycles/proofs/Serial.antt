@@ -23,14 +23,14 @@ use Rattle.taskset.specs.Fresh.{freshOf}
 use Rattle.taskset.specs.Trace.{traceRefusal}
 use Rattle.taskset.proofs.Accepted.{variables-accepted, fresh-of}
 use Rattle.states.specs.Task.{taskOf}
-use Rattle.states.specs.Set.{Set}
+use Rattle.states.specs.Set.{AcceptedSet}
 use Rattle.states.specs.Fit.{Fit}
 use Rattle.states.proofs.Accepted.{accepted-set}
 use Rattle.runner.specs.Runs.{Left}
 use Rattle.machine.specs.Calls.{freshRefusal, freshCall}
 use Rattle.calls.specs.Calling.{entire, Call, stepping, leaves, stepCalls, wholeOf, countsAs, stepsOf}
 use Rattle.calls.proofs.Calling.{Lendable, step-granted, step-counted, fresh-whole, fresh-lendable, calls-interleaved}
-use Rattle.cycles.specs.Serial.{Ringless, MachineSerial, inTurn, StepByStep, CallsSerial}
+use Rattle.cycles.specs.Serial.{Ringless, MachineSerial, turnsOf, StepByStep, CallsSerial}
 use Rattle.cycles.proofs.Turns.{turns, turns-end}
 
 pub serial-machine : (f t : List ℕ) → judge f ≡ 0 → Ringless f → (ks : List ℕ) → Between (run (taskOf f t) ks (freshOf f)) → MachineSerial f t ks
@@ -65,7 +65,7 @@ step-none f t s fit k l =
     ap (λ (c : Core). stepIn (mode c) (taskOf f t) k c s) e
 
 -- a step call with the memories whole is a step, one that is refused for its core too
-one-step : (f t : List ℕ) → Set f t → (x : Left) → Lendable f t x → (k : ℕ)
+one-step : (f t : List ℕ) → AcceptedSet f t → (x : Left) → Lendable f t x → (k : ℕ)
     → run (taskOf f t) (countsAs f t (stepping entire entire k) x) (wholeOf f x) ≡ step (taskOf f t) k (wholeOf f x)
 one-step f t ok x w k = go (ltb k (cores f)) refl
   where
@@ -78,7 +78,7 @@ one-step f t ok x w k = go (ltb k (cores f)) refl
         ap (λ (ks : List ℕ). run (taskOf f t) ks (wholeOf f x)) (pick-true _ (k ∷ []) [] (eq-eqb _ _ (ap (λ (y : Left). y .answer .refusal) granted)))
     go false e = by-pick is-step _ (k ∷ []) [] (λ _. refl) (λ _. sym (step-none f t (wholeOf f x) (w .fit) k (ltb-false k (cores f) e)))
 
-step-calls : (f t : List ℕ) → Set f t → (ks : List ℕ) (x : Left) → Lendable f t x → wholeOf f (stepCalls f t ks x) ≡ run (taskOf f t) ks (wholeOf f x)
+step-calls : (f t : List ℕ) → AcceptedSet f t → (ks : List ℕ) (x : Left) → Lendable f t x → wholeOf f (stepCalls f t ks x) ≡ run (taskOf f t) ks (wholeOf f x)
 step-calls f t ok [] x w = refl
 step-calls f t ok (k ∷ ks) x w =
     let y = step-counted f t ok x w entire entire k in
@@ -92,14 +92,14 @@ calls-serial f t bytes trace-bytes d sh e sound lines cs =
     let counted = calls-interleaved f t bytes trace-bytes d sh e sound cs in
     let ks = stepsOf f t cs (freshCall f d sh) in
     let accepted : judge f ≡ 0 = next-zero _ _ e .0 in
-    let ok : Set f t = accepted-set f t bytes trace-bytes accepted sound in
+    let ok : AcceptedSet f t = accepted-set f t bytes trace-bytes accepted sound in
     record {
       steps = counted .steps;
       serial = λ ends. serial-machine f t accepted lines ks (subst Between (counted .steps) ends);
       in-turn = λ x y.
           ap (λ (s : State). s .plant)
-          (step-calls f t ok (inTurn (x .order) (y .lengths)) (freshCall f d sh) (fresh-lendable f t bytes trace-bytes d sh e ok)
-          ∙ ap (run (taskOf f t) (inTurn (x .order) (y .lengths))) (fresh-whole f t bytes trace-bytes d sh e (ok .few)))
+          (step-calls f t ok (turnsOf (x .order) (y .lengths)) (freshCall f d sh) (fresh-lendable f t bytes trace-bytes d sh e ok)
+          ∙ ap (run (taskOf f t) (turnsOf (x .order) (y .lengths))) (fresh-whole f t bytes trace-bytes d sh e (ok .few)))
           ∙ y .same
           ∙ sym (ap (λ (s : State). s .plant) (counted .steps));
     }

@@ -12,7 +12,7 @@ use Rattle.taskset.specs.Fresh.{freshOf}
 use Rattle.states.specs.Task.{taskOf}
 use Rattle.cycles.specs.Serial.{Ringless}
 use Rattle.cycles.specs.Files.{ringFile, openFile, ringTrace, ringSteps}
-use Rattle.cycles.specs.Shown.{stateAfter, InRing, Open, Shown}
+use Rattle.cycles.specs.Shown.{afterSteps, InRing, Open, Shown}
 use Rattle.cycles.proofs.Serial.{serial-machine, by-tests}
 use Rattle.cycles.proofs.Files.{steps-compute, listing-shown, first-cycle-shown, ring-accepted, ring-sound, ring-one-way, open-accepted, open-sound, open-one-way, open-ringless, open-between, open-one-by-one}
 use Rattle.cycles.proofs.Ring.{nothing, wrote1, plant, no-order}
@@ -24,11 +24,11 @@ unfolding steps-compute
 ring-start = refl
 
 -- each core has written 1
-ring-end : stateAfter ringFile ringTrace ringSteps .plant ≡ plant wrote1 wrote1 wrote1
+ring-end : afterSteps ringFile ringTrace ringSteps .plant ≡ plant wrote1 wrote1 wrote1
 unfolding steps-compute
 ring-end = refl
 
-ring-between : Between (stateAfter ringFile ringTrace ringSteps)
+ring-between : Between (afterSteps ringFile ringTrace ringSteps)
 ring-between zero = inl (rw ring-end)
 ring-between (suc zero) = inl (rw ring-end)
 ring-between (suc (suc zero)) = inl (rw ring-end)

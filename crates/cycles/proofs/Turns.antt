@@ -16,12 +16,12 @@ use Rattle.verdict.proofs.Verdict.{absurd-bool}
 use Rattle.protocol.specs.State.{Core, Plant, Semaphore, State, Task, core, mode, untaken}
 use Rattle.protocol.specs.Step.{turn, readTaken, readNext, readDone, writeTaken, writeNext, writeDone, step, run, Taking, reading, writing, takingOf, takings}
 use Rattle.protocol.specs.Whole.{wholeOne, whole}
-use Rattle.protocol.specs.Laws.{Laws, Fresh}
+use Rattle.protocol.specs.Laws.{Laws, FreshStart}
 use Rattle.protocol.specs.Cycles.{cycle, cycles, EachRuns}
 use Rattle.protocol.proofs.View.{after, at, readByte, there, Wants, Moves, rests, waits, takesRead, readsOn, readsLast, runs, takesWrite, writesOn, writesLast, view}
 use Rattle.protocol.proofs.Steps.{others-stay, run-append}
 use Rattle.protocol.proofs.Whole.{as-whole, between-still}
-use Rattle.cycles.specs.Serial.{inTurn, Turns}
+use Rattle.cycles.specs.Serial.{turnsOf, Turns}
 
 -- ---- a core alone
 
@@ -194,7 +194,7 @@ module _ (t : Task) (k : ℕ) where
     others (suc n) s j m = others n (step t k s) j m ∙ others-stay t k s j m
 
     -- the core alone leaves a state at rest
-    rest-after : (s : State) (xs : List Taking) (c : Comes t k s xs) → Fresh s → Fresh (run t (replicate (c .steps) k) s)
+    rest-after : (s : State) (xs : List Taking) (c : Comes t k s xs) → FreshStart s → FreshStart (run t (replicate (c .steps) k) s)
     rest-after s xs c f = record { free = ap (λ (m : Semaphore). m .holder) (c .free); between = λ j. go j (ℕ-discrete j k); empty = ap (λ (m : Semaphore). m .line) (c .free) }
       where
         go : (j : ℕ) → Dec (j ≡ k) → Rests (at (run t (replicate (c .steps) k) s) j)
@@ -202,7 +202,7 @@ module _ (t : Task) (k : ℕ) where
         go j (no n) = subst Rests (sym (others (c .steps) s j n)) (f .between j)
 
     -- and all of it but the semaphore as the whole-exchange machine
-    plant-after : (s : State) (xs : List Taking) (c : Comes t k s xs) → Fresh s → run t (replicate (c .steps) k) s .plant ≡ whole t xs (s .plant)
+    plant-after : (s : State) (xs : List Taking) (c : Comes t k s xs) → FreshStart s → run t (replicate (c .steps) k) s .plant ≡ whole t xs (s .plant)
     plant-after s xs c f =
         as-whole t l s f (replicate (c .steps) k) (λ j. between-still (at (run t (replicate (c .steps) k) s) j) (rest-after s xs c f .between j))
         ∙ ap (λ (ts : List Taking). whole t ts (s .plant)) (c .taken)
@@ -218,9 +218,9 @@ module _ (t : Task) (k : ℕ) where
 
     -- by steps of core k alone, a whole cycle of it, and a state at rest again
     abbrev Cycled : State → Type 0
-    Cycled s = (n : ℕ) × (run t (replicate n k) s ≡ record { plant = cycle t k (s .plant); semaphore = untaken }) × Fresh (run t (replicate n k) s)
+    Cycled s = (n : ℕ) × (run t (replicate n k) s ≡ record { plant = cycle t k (s .plant); semaphore = untaken }) × FreshStart (run t (replicate n k) s)
 
-    one-cycle : (s : State) → Fresh s → mode (at s k) ≡ 0 → drop (at s k .registers .cycles) (t .samples k) ≢ [] → Cycled s
+    one-cycle : (s : State) → FreshStart s → mode (at s k) ≡ 0 → drop (at s k .registers .cycles) (t .samples k) ≢ [] → Cycled s
     unfolding cycle
     one-cycle s f e left = let r = starts s (λ z. record { holder = f .free z; line = f .empty z }) e left in go (r .0) (r .1)
       where
@@ -236,7 +236,7 @@ module _ (t : Task) (k : ℕ) where
 
 -- ---- orders of cycles
 
-pub turns : (t : Task) → Laws t → (order : List ℕ) (s : State) → Fresh s → EachRuns t order (s .plant) → (ns : List ℕ) × Turns t order ns s
+pub turns : (t : Task) → Laws t → (order : List ℕ) (s : State) → FreshStart s → EachRuns t order (s .plant) → (ns : List ℕ) × Turns t order ns s
 turns t l [] s f r = ([], tt)
 turns t l (k ∷ order) s f r =
     let c : Cycled t k l s = one-cycle t k l s f (r .0) (r .1) in
@@ -245,11 +245,11 @@ turns t l (k ∷ order) s f r =
     (c .0 ∷ x .0, (c .1, x .1))
 
 -- the turns one after another end as the cycles
-pub turns-end : (t : Task) (order ns : List ℕ) (s : State) → s .semaphore ≡ untaken → Turns t order ns s → run t (inTurn order ns) s ≡ record { plant = cycles t order (s .plant); semaphore = untaken }
+pub turns-end : (t : Task) (order ns : List ℕ) (s : State) → s .semaphore ≡ untaken → Turns t order ns s → run t (turnsOf order ns) s ≡ record { plant = cycles t order (s .plant); semaphore = untaken }
 turns-end t [] [] s f x = λ z. record { plant = s .plant; semaphore = f z }
 turns-end t [] (n ∷ ns) s f x = absurd x
 turns-end t (k ∷ order) [] s f x = absurd x
 turns-end t (k ∷ order) (n ∷ ns) s f x =
-    run-append t (replicate n k) (inTurn order ns) s
+    run-append t (replicate n k) (turnsOf order ns) s
     ∙ turns-end t order ns (run t (replicate n k) s) (ap (λ (s : State). s .semaphore) (x .0)) (x .1)
     ∙ ap (λ (s : State). record { plant = cycles t order (s .plant); semaphore = untaken }) (x .0)

@@ -5,8 +5,8 @@ use Prim.Native.Nat.{ℕ}
 use lib.ListN.{replicate}
 
 -- 4D 43 53 31 hex, and what follows
-abbrev marked : List ℕ → List ℕ
-marked rest = 77 ∷ 67 ∷ 83 ∷ 49 ∷ rest
+abbrev withMark : List ℕ → List ℕ
+withMark rest = 77 ∷ 67 ∷ 83 ∷ 49 ∷ rest
 
 -- a core's record: data size, no input bytes, instruction limit
 abbrev coreRecord : ℕ → ℕ → List ℕ
@@ -19,7 +19,7 @@ oneRecord = 1 ∷ 0 ∷ 0 ∷ 0 ∷ 0 ∷ 0 ∷ []
 -- ---- document 01's listing: one core with one byte of data, no variable, and RETURN
 
 unfoldable pub listingFile : List ℕ
-listingFile = marked (1 ∷ coreRecord 1 1 ++ (0 ∷ 1 ∷ 0 ∷ 0 ∷ []))
+listingFile = withMark (1 ∷ coreRecord 1 1 ++ (0 ∷ 1 ∷ 0 ∷ 0 ∷ []))
 
 unfoldable pub listingTrace : List ℕ
 listingTrace = oneRecord
@@ -50,7 +50,7 @@ from2 = variableRecord 2 20 0 0 1
 -- three cores with n variables; each writes NOT of what it reads
 abbrev threeCores : ℕ → List ℕ → List ℕ
 threeCores n records =
-    marked (3 ∷ coreRecord 2 2 ++ (coreRecord 2 2 ++ (coreRecord 2 2 ++ (n ∷ records ++ (notCode ++ (notCode ++ notCode))))))
+    withMark (3 ∷ coreRecord 2 2 ++ (coreRecord 2 2 ++ (coreRecord 2 2 ++ (n ∷ records ++ (notCode ++ (notCode ++ notCode))))))
 
 -- the ring: each core reads what the one before it writes
 unfoldable pub ringFile : List ℕ

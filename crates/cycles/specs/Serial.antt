@@ -33,10 +33,10 @@ MachineSerial f t ks = Serial (taskOf f t) (freshOf f) ks
 -- ---- whole cycles as steps
 
 -- steps of the cores ks in turn, as many of each as ns says
-abbrev pub inTurn : List ℕ → List ℕ → List ℕ
-inTurn [] ns = []
-inTurn (k ∷ ks) [] = []
-inTurn (k ∷ ks) (n ∷ ns) = replicate n k ++ inTurn ks ns
+abbrev pub turnsOf : List ℕ → List ℕ → List ℕ
+turnsOf [] ns = []
+turnsOf (k ∷ ks) [] = []
+turnsOf (k ∷ ks) (n ∷ ns) = replicate n k ++ turnsOf ks ns
 
 -- each turn is a whole cycle, and leaves the semaphore free with nobody in line
 abbrev pub Turns : Task → List ℕ → List ℕ → State → Type 0
@@ -50,7 +50,7 @@ Turns t (k ∷ ks) (n ∷ ns) s = (run t (replicate n k) s ≡ record { plant = 
 pub record StepByStep (f t ks : List ℕ) (x : MachineSerial f t ks) : Type 0 where
   pub lengths : List ℕ
   pub turns : Turns (taskOf f t) (x .order) lengths (freshOf f)
-  pub same : run (taskOf f t) (inTurn (x .order) lengths) (freshOf f) .plant ≡ run (taskOf f t) ks (freshOf f) .plant
+  pub same : run (taskOf f t) (turnsOf (x .order) lengths) (freshOf f) .plant ≡ run (taskOf f t) ks (freshOf f) .plant
 
 -- ---- of calls
 
@@ -62,4 +62,4 @@ pub record CallsSerial (f t d sh : List ℕ) (cs : List Call) : Type 0 where
   pub serial : Between (wholeOf f (calls f t cs (freshCall f d sh))) → MachineSerial f t (stepsOf f t cs (freshCall f d sh))
   -- the step calls of that order, one core at a time, leave the same but for the line
   pub in-turn : (x : MachineSerial f t (stepsOf f t cs (freshCall f d sh))) (y : StepByStep f t (stepsOf f t cs (freshCall f d sh)) x)
-      → wholeOf f (stepCalls f t (inTurn (x .order) (y .lengths)) (freshCall f d sh)) .plant ≡ wholeOf f (calls f t cs (freshCall f d sh)) .plant
+      → wholeOf f (stepCalls f t (turnsOf (x .order) (y .lengths)) (freshCall f d sh)) .plant ≡ wholeOf f (calls f t cs (freshCall f d sh)) .plant

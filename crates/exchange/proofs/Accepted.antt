@@ -9,11 +9,11 @@ use lib.Dec.{T}
 use Rattle.verdict.specs.Items.{OneOf}
 use Rattle.protocol.specs.Variables.{Variable, readsIt, writesIt}
 use Rattle.records.specs.File.{variableAt}
-use Rattle.records.specs.Records.{named}
+use Rattle.records.specs.Records.{usedBy}
 use Rattle.verdict.proofs.Truth.{either-left, either-right}
 use Rattle.taskset.specs.Judge.{judge}
 use Rattle.taskset.proofs.Exact.{keeps-rules, records-inside}
-use Rattle.exchange.specs.Exchange.{namedBy}
+use Rattle.exchange.specs.Exchange.{hasBit}
 use Rattle.exchange.specs.Laid.{Laid}
 use Rattle.exchange.proofs.Cursors.{reads-named, writes-named}
 
@@ -24,7 +24,7 @@ width-few n (inr (inr (inl e))) = omega arith
 width-few n (inr (inr (inr (inl e)))) = omega arith
 
 -- bit k or bit 4 + k names core k
-names : (k : ℕ) (v : Variable) → k < 4 → (namedBy k v ≡ true) ⊎ (namedBy (4 + k) v ≡ true) → T (named k v)
+names : (k : ℕ) (v : Variable) → k < 4 → (hasBit k v ≡ true) ⊎ (hasBit (4 + k) v ≡ true) → T (usedBy k v)
 names k v h (inl e) = either-right (readsIt k v) (writesIt k v) (subst T (sym (writes-named k h v ∙ e)) tt)
 names k v h (inr e) = either-left (readsIt k v) (writesIt k v) (subst T (sym (reads-named k h v ∙ e)) tt)
 

@@ -11,13 +11,13 @@ use Rattle.memory.specs.Memory.{splice, part, byte, word}
 use Rattle.memory.proofs.Laws.{length-splice, length-part, part-splice-same}
 use Rattle.protocol.specs.State.{Move}
 use Rattle.protocol.specs.Step.{copy}
-use Rattle.protocol.specs.Variables.{Variable, local, span, moves}
+use Rattle.protocol.specs.Variables.{Variable, local, span, movesOf}
 use Rattle.records.specs.File.{cores, dataSize, variables, recordPlace, variableIn}
 use Rattle.taskset.specs.Task.{variablesOf}
 use Rattle.exchange.specs.declared.Cursor.{Cursor}
-use Rattle.exchange.specs.Exchange.{namedBy, At}
+use Rattle.exchange.specs.Exchange.{hasBit, At}
 use Rattle.exchange.specs.Laid.{Laid, exchangeBytes}
-use Rattle.exchange.specs.Carried.{Lies, Tells, Carried}
+use Rattle.exchange.specs.Carried.{Lies, Tells, BytesCarried}
 use Rattle.exchange.proofs.Cursors.{at-place, at-before, at-chosen, at-stretch, local-at}
 use Rattle.exchange.proofs.Stretches.{copy-append, copy-span, record-shared, record-local}
 
@@ -34,7 +34,7 @@ through-word src z t dst dst′ to from n h k p q =
 
 module _ (f : List ℕ) (bit source target x count : ℕ) (src dst₀ : List ℕ) where
   abbrev bytesOf : (Variable → ℕ) → (Variable → ℕ) → List Move
-  bytesOf from to = moves (namedBy bit) from to (variablesOf f)
+  bytesOf from to = movesOf (hasBit bit) from to (variablesOf f)
 
   pub record UnderWay (left : ℕ) (c : Cursor) (dst : List ℕ) : Type 0 where
     pub few : left ≤ count
@@ -53,7 +53,7 @@ module _ (f : List ℕ) (bit source target x count : ℕ) (src dst₀ : List ℕ
         long = refl;
       }
 
-  pub under-last : {c : Cursor} {left : ℕ} {dst : List ℕ} → UnderWay left c dst → left ≤ 0 → At f bit (x + count) c × Carried f bit source target x count src dst₀ dst
+  pub under-last : {c : Cursor} {left : ℕ} {dst : List ℕ} → UnderWay left c dst → left ≤ 0 → At f bit (x + count) c × BytesCarried f bit source target x count src dst₀ dst
   under-last {c} {left} {dst} w z =
       let e : x + (count - left) ≡ x + count = omega arith in
       let l : left ≡ 0 = omega arith in (

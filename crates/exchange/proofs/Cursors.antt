@@ -13,12 +13,12 @@ use Rattle.verdict.specs.Verdict.{both}
 use Rattle.memory.specs.Memory.{byte, word}
 use Rattle.protocol.specs.State.{Move}
 use Rattle.protocol.specs.Step.{copy}
-use Rattle.protocol.specs.Variables.{Variable, local, readsIt, writesIt, span, moves, readsOf, writesOf}
+use Rattle.protocol.specs.Variables.{Variable, local, readsIt, writesIt, span, movesOf, readsOf, writesOf}
 use Rattle.records.specs.File.{cores, dataSize, variables, recordPlace, variableIn, variableAt}
 use Rattle.taskset.specs.Task.{variablesOf}
 use Rattle.exchange.specs.declared.Cursor.{Cursor}
-use Rattle.exchange.specs.Exchange.{namedBy, At}
-use Rattle.exchange.specs.Laid.{Laid, named, exchangeBytes, Place, Passed}
+use Rattle.exchange.specs.Exchange.{hasBit, At}
+use Rattle.exchange.specs.Laid.{Laid, takesPart, exchangeBytes, RecordAt, Passed}
 use Rattle.exchange.proofs.Moves.{length-moves, moves-whole, moves-stretch, moves-next, moves-same}
 use Rattle.exchange.proofs.Records.{place-of, variables-from, variables-end, record-there, passed-moves}
 
@@ -28,24 +28,24 @@ both-first : (a b : Bool) → a ≡ true → both a b ≡ b
 both-first a b e = rw e
 
 module _ (k : ℕ) (h : k < 4) where
-  pub reads-named : (v : Variable) → readsIt k v ≡ namedBy (4 + k) v
-  unfolding readsIt namedBy
-  reads-named v = both-first (ltb k 4) (namedBy (4 + k) v) (lt-ltb k 4 h)
+  pub reads-named : (v : Variable) → readsIt k v ≡ hasBit (4 + k) v
+  unfolding readsIt hasBit
+  reads-named v = both-first (ltb k 4) (hasBit (4 + k) v) (lt-ltb k 4 h)
 
-  pub writes-named : (v : Variable) → writesIt k v ≡ namedBy k v
-  unfolding writesIt namedBy
-  writes-named v = both-first (ltb k 4) (namedBy k v) (lt-ltb k 4 h)
+  pub writes-named : (v : Variable) → writesIt k v ≡ hasBit k v
+  unfolding writesIt hasBit
+  writes-named v = both-first (ltb k 4) (hasBit k v) (lt-ltb k 4 h)
 
-  pub reads-by-bit : (vs : List Variable) → readsOf vs k ≡ moves (namedBy (4 + k)) (λ v. v .place) (local k) vs
-  reads-by-bit vs = moves-same (readsIt k) (namedBy (4 + k)) (λ v. v .place) (local k) reads-named vs
+  pub reads-by-bit : (vs : List Variable) → readsOf vs k ≡ movesOf (hasBit (4 + k)) (λ v. v .place) (local k) vs
+  reads-by-bit vs = moves-same (readsIt k) (hasBit (4 + k)) (λ v. v .place) (local k) reads-named vs
 
-  pub writes-by-bit : (vs : List Variable) → writesOf vs k ≡ moves (namedBy k) (local k) (λ v. v .place) vs
-  writes-by-bit vs = moves-same (writesIt k) (namedBy k) (local k) (λ v. v .place) writes-named vs
+  pub writes-by-bit : (vs : List Variable) → writesOf vs k ≡ movesOf (hasBit k) (local k) (λ v. v .place) vs
+  writes-by-bit vs = moves-same (writesIt k) (hasBit k) (local k) (λ v. v .place) writes-named vs
 
 module _ (f : List ℕ) where
-  pub length-exchange : (bit : ℕ) (from to : Variable → ℕ) → length (moves (namedBy bit) from to (variablesOf f)) ≡ exchangeBytes f bit
+  pub length-exchange : (bit : ℕ) (from to : Variable → ℕ) → length (movesOf (hasBit bit) from to (variablesOf f)) ≡ exchangeBytes f bit
   unfolding exchangeBytes
-  length-exchange bit from to = length-moves (namedBy bit) from to (variablesOf f)
+  length-exchange bit from to = length-moves (hasBit bit) from to (variablesOf f)
 
   pub length-reads : (k : ℕ) → k < 4 → length (readsOf (variablesOf f) k) ≡ exchangeBytes f (4 + k)
   length-reads k h = ap length (reads-by-bit k h (variablesOf f)) ∙ length-exchange (4 + k) (λ v. v .place) (local k)
@@ -64,13 +64,13 @@ module _ (f : List ℕ) where
   module _ (bit : ℕ) where
     -- the bytes of the exchange that the records from number i on have
     abbrev bytesFrom : (Variable → ℕ) → (Variable → ℕ) → ℕ → List Move
-    bytesFrom from to i = moves (namedBy bit) from to (drop i (variablesOf f))
+    bytesFrom from to i = movesOf (hasBit bit) from to (drop i (variablesOf f))
 
     -- ---- the variable under way
 
     -- after x bytes, all of those before the record at p, a search from there finds the next one
-    pub at-found : (ok : Laid f) (x : ℕ) {p q : ℕ} (w : Place f p) → ((from to : Variable → ℕ) → drop x (bytesFrom from to 0) ≡ bytesFrom from to (w .index))
-        → Passed f bit p q → (q < recordPlace f (variables f) → named f bit q ≡ true) → At f bit x record { «record» = q; byte = 0 }
+    pub at-found : (ok : Laid f) (x : ℕ) {p q : ℕ} (w : RecordAt f p) → ((from to : Variable → ℕ) → drop x (bytesFrom from to 0) ≡ bytesFrom from to (w .index))
+        → Passed f bit p q → (q < recordPlace f (variables f) → takesPart f bit q ≡ true) → At f bit x record { «record» = q; byte = 0 }
     at-found ok x w e s n =
         let j = s .place .index in
         record {
@@ -78,7 +78,7 @@ module _ (f : List ℕ) where
           place = s .place .is;
           inside = s .place .inside;
           rest = λ from to. e from to ∙ passed-moves f bit from to w s;
-          chosen = λ l. (subst (λ (p : ℕ). named f bit p ≡ true) (s .place .is) (n (omega (arith, s .place .is, place-of f j, place-of f (variables f)))), ok .width j l .0);
+          chosen = λ l. (subst (λ (p : ℕ). takesPart f bit p ≡ true) (s .place .is) (n (omega (arith, s .place .is, place-of f j, place-of f (variables f)))), ok .width j l .0);
         }
 
     module _ {x : ℕ} {c : Cursor} (a : At f bit x c) (left : x < exchangeBytes f bit) where
@@ -91,20 +91,20 @@ module _ (f : List ℕ) where
       pub at-variable : a .index < variables f
       at-variable = let n : (variables f ≤ a .index → ⊥) = not-past in omega arith
 
-      abbrev pub at-place : Place f (c .record)
+      abbrev pub at-place : RecordAt f (c .record)
       at-place = record { index = a .index; is = a .place; inside = a .inside }
 
       pub at-before : c .record < recordPlace f (variables f)
       at-before = omega (arith, at-variable, a .place, place-of f (a .index), place-of f (variables f))
 
       -- it has this bit, and the byte is one of its bytes
-      pub at-chosen : (named f bit (c .record) ≡ true) × (c .byte < byte f (c .record + 2))
-      at-chosen = subst⁻¹ (λ (p : ℕ). (named f bit p ≡ true) × (c .byte < byte f (p + 2))) (a .place) (a .chosen at-variable)
+      pub at-chosen : (takesPart f bit (c .record) ≡ true) × (c .byte < byte f (c .record + 2))
+      at-chosen = subst⁻¹ (λ (p : ℕ). (takesPart f bit p ≡ true) × (c .byte < byte f (p + 2))) (a .place) (a .chosen at-variable)
 
-      from-here : (from to : Variable → ℕ) → bytesFrom from to (a .index) ≡ moves (namedBy bit) from to (variableIn f (c .record) ∷ drop (a .index + 1) (variablesOf f))
+      from-here : (from to : Variable → ℕ) → bytesFrom from to (a .index) ≡ movesOf (hasBit bit) from to (variableIn f (c .record) ∷ drop (a .index + 1) (variablesOf f))
       from-here from to =
-          ap (moves (namedBy bit) from to) (variables-from f (a .index) at-variable)
-          ∙ ap (λ (p : ℕ). moves (namedBy bit) from to (variableIn f p ∷ drop (a .index + 1) (variablesOf f))) (sym (a .place))
+          ap (movesOf (hasBit bit) from to) (variables-from f (a .index) at-variable)
+          ∙ ap (λ (p : ℕ). movesOf (hasBit bit) from to (variableIn f p ∷ drop (a .index + 1) (variablesOf f))) (sym (a .place))
 
       -- ---- n bytes further
 
@@ -126,14 +126,14 @@ module _ (f : List ℕ) where
       at-whole n e from to =
           further n from to
           ∙ ap₂ (λ (n : ℕ) (l : List Move). drop n l) e (from-here from to)
-          ∙ moves-whole (namedBy bit) from to (variableIn f (c .record)) (drop (a .index + 1) (variablesOf f)) (at-chosen .0)
+          ∙ moves-whole (hasBit bit) from to (variableIn f (c .record)) (drop (a .index + 1) (variablesOf f)) (at-chosen .0)
 
       -- the n bytes that are next, within the variable
       pub at-stretch : (n : ℕ) → c .byte + n ≤ byte f (c .record + 2) → (from to : Variable → ℕ)
           → take n (drop x (bytesFrom from to 0)) ≡ span n (from (variableIn f (c .record)) + c .byte) (to (variableIn f (c .record)) + c .byte)
       at-stretch n h from to =
           ap (take n) (a .rest from to ∙ ap (drop (c .byte)) (from-here from to))
-          ∙ moves-stretch (namedBy bit) from to (variableIn f (c .record)) (drop (a .index + 1) (variablesOf f)) (c .byte) n (at-chosen .0) h
+          ∙ moves-stretch (hasBit bit) from to (variableIn f (c .record)) (drop (a .index + 1) (variablesOf f)) (c .byte) n (at-chosen .0) h
 
       -- ---- the byte to copy
 
@@ -142,7 +142,7 @@ module _ (f : List ℕ) where
       at-next from to =
           ap (take 1)
           (a .rest from to ∙ ap (drop (c .byte)) (from-here from to)
-          ∙ moves-next (namedBy bit) from to (variableIn f (c .record)) (drop (a .index + 1) (variablesOf f)) (c .byte) (at-chosen .0) (at-chosen .1))
+          ∙ moves-next (hasBit bit) from to (variableIn f (c .record)) (drop (a .index + 1) (variablesOf f)) (c .byte) (at-chosen .0) (at-chosen .1))
 
       module _ (ok : Laid f) where
         pub record-whole : c .record + 12 ≤ length f
@@ -154,7 +154,7 @@ module _ (f : List ℕ) where
         pub shared-fits : word f (c .record) + c .byte < 1024
         shared-fits = subst⁻¹ (λ (p : ℕ). word f p + c .byte < 1024) (a .place) (omega (arith, a .chosen at-variable .1, ok .in-shared (a .index) at-variable))
 
-        pub local-fits : (k : ℕ) → k < cores f → ((v : Variable) → namedBy bit v ≡ true → (namedBy k v ≡ true) ⊎ (namedBy (4 + k) v ≡ true))
+        pub local-fits : (k : ℕ) → k < cores f → ((v : Variable) → hasBit bit v ≡ true → (hasBit k v ≡ true) ⊎ (hasBit (4 + k) v ≡ true))
             → word f (c .record + 4 + 2 * k) + c .byte < dataSize f k
         local-fits k h n =
             let v = variableAt f (a .index) in

@@ -12,7 +12,7 @@ use lib.Seq.{drop-at, drop-drop}
 use Rattle.verdict.specs.Verdict.{pick}
 use Rattle.verdict.proofs.Verdict.{pick-true, pick-false, pick-ap}
 use Rattle.protocol.specs.State.{Move}
-use Rattle.protocol.specs.Variables.{Variable, span, moves}
+use Rattle.protocol.specs.Variables.{Variable, span, movesOf}
 use Rattle.exchange.specs.Laid.{widths}
 
 -- ---- how many bytes
@@ -25,26 +25,26 @@ module _ (named : Variable → Bool) (from to : Variable → ℕ) where
   length-own : (v : Variable) → length (pick (named v) (span (v .width) (from v) (to v)) []) ≡ pick (named v) (v .width) 0
   length-own v = pick-ap length (named v) (span (v .width) (from v) (to v)) [] ∙ ap (λ (n : ℕ). pick (named v) n 0) (length-span (v .width) (from v) (to v))
 
-  pub length-moves : (vs : List Variable) → length (moves named from to vs) ≡ widths named vs
+  pub length-moves : (vs : List Variable) → length (movesOf named from to vs) ≡ widths named vs
   unfolding widths
   length-moves [] = refl
   length-moves (v ∷ vs) =
-      length-append (pick (named v) (span (v .width) (from v) (to v)) []) (moves named from to vs)
+      length-append (pick (named v) (span (v .width) (from v) (to v)) []) (movesOf named from to vs)
       ∙ ap₂ _+_ (length-own v) (length-moves vs)
 
   -- ---- the first variable
 
-  pub moves-unnamed : (v : Variable) (vs : List Variable) → named v ≡ false → moves named from to (v ∷ vs) ≡ moves named from to vs
-  moves-unnamed v vs e = ap (λ (l : List Move). l ++ moves named from to vs) (pick-false (named v) (span (v .width) (from v) (to v)) [] e)
+  pub moves-unnamed : (v : Variable) (vs : List Variable) → named v ≡ false → movesOf named from to (v ∷ vs) ≡ movesOf named from to vs
+  moves-unnamed v vs e = ap (λ (l : List Move). l ++ movesOf named from to vs) (pick-false (named v) (span (v .width) (from v) (to v)) [] e)
 
-  pub moves-named : (v : Variable) (vs : List Variable) → named v ≡ true → moves named from to (v ∷ vs) ≡ span (v .width) (from v) (to v) ++ moves named from to vs
-  moves-named v vs e = ap (λ (l : List Move). l ++ moves named from to vs) (pick-true (named v) (span (v .width) (from v) (to v)) [] e)
+  pub moves-named : (v : Variable) (vs : List Variable) → named v ≡ true → movesOf named from to (v ∷ vs) ≡ span (v .width) (from v) (to v) ++ movesOf named from to vs
+  moves-named v vs e = ap (λ (l : List Move). l ++ movesOf named from to vs) (pick-true (named v) (span (v .width) (from v) (to v)) [] e)
 
   -- all its bytes are copied
-  pub moves-whole : (v : Variable) (vs : List Variable) → named v ≡ true → drop (v .width) (moves named from to (v ∷ vs)) ≡ moves named from to vs
+  pub moves-whole : (v : Variable) (vs : List Variable) → named v ≡ true → drop (v .width) (movesOf named from to (v ∷ vs)) ≡ movesOf named from to vs
   moves-whole v vs e =
       ap (drop (v .width)) (moves-named v vs e)
-      ∙ drop-at (span (v .width) (from v) (to v)) (moves named from to vs) (v .width) (length-span (v .width) (from v) (to v))
+      ∙ drop-at (span (v .width) (from v) (to v)) (movesOf named from to vs) (v .width) (length-span (v .width) (from v) (to v))
 
 -- ---- the byte under way
 
@@ -64,22 +64,22 @@ take-span (suc n) w a b i ms h =
 
 -- n bytes of the first variable from its byte i on
 pub moves-stretch : (named : Variable → Bool) (from to : Variable → ℕ) (v : Variable) (vs : List Variable) (i n : ℕ) → named v ≡ true → i + n ≤ v .width
-    → take n (drop i (moves named from to (v ∷ vs))) ≡ span n (from v + i) (to v + i)
+    → take n (drop i (movesOf named from to (v ∷ vs))) ≡ span n (from v + i) (to v + i)
 moves-stretch named from to v vs i n e h =
-    ap (λ (l : List Move). take n (drop i l)) (moves-named named from to v vs e) ∙ take-span n (v .width) (from v) (to v) i (moves named from to vs) h
+    ap (λ (l : List Move). take n (drop i l)) (moves-named named from to v vs e) ∙ take-span n (v .width) (from v) (to v) i (movesOf named from to vs) h
 
 -- byte i of the first variable is next
 pub moves-next : (named : Variable → Bool) (from to : Variable → ℕ) (v : Variable) (vs : List Variable) (i : ℕ) → named v ≡ true → i < v .width
-    → drop i (moves named from to (v ∷ vs)) ≡ record { source = from v + i; target = to v + i } ∷ drop (i + 1) (moves named from to (v ∷ vs))
+    → drop i (movesOf named from to (v ∷ vs)) ≡ record { source = from v + i; target = to v + i } ∷ drop (i + 1) (movesOf named from to (v ∷ vs))
 moves-next named from to v vs i e h =
     ap (drop i) (moves-named named from to v vs e)
-    ∙ drop-span (v .width) (from v) (to v) i (moves named from to vs) h
+    ∙ drop-span (v .width) (from v) (to v) i (movesOf named from to vs) h
     ∙ ap₂ (λ (n : ℕ) (l : List Move). record { source = from v + i; target = to v + i } ∷ drop n l) (sym (add-one i)) (sym (moves-named named from to v vs e))
 
 -- ---- the names
 
 pub moves-same : (named other : Variable → Bool) (from to : Variable → ℕ) → ((v : Variable) → named v ≡ other v) → (vs : List Variable)
-    → moves named from to vs ≡ moves other from to vs
+    → movesOf named from to vs ≡ movesOf other from to vs
 moves-same named other from to e [] = refl
 moves-same named other from to e (v ∷ vs) =
     ap₂ (λ (b : Bool) (l : List Move). pick b (span (v .width) (from v) (to v)) [] ++ l) (e v) (moves-same named other from to e vs)

@@ -12,11 +12,11 @@ use Rattle.memory.proofs.Laws.{length-splice}
 use Rattle.memory.proofs.Turns.{part-cons}
 use Rattle.protocol.specs.State.{Move}
 use Rattle.protocol.specs.Step.{copy}
-use Rattle.protocol.specs.Variables.{Variable, local, span, moves, readsOf, writesOf}
+use Rattle.protocol.specs.Variables.{Variable, local, span, movesOf, readsOf, writesOf}
 use Rattle.records.specs.File.{cores, dataSize, variables, recordPlace, variableIn, variableAt}
 use Rattle.taskset.specs.Task.{variablesOf}
-use Rattle.exchange.specs.Exchange.{namedBy}
-use Rattle.exchange.specs.Laid.{Laid, named, Place}
+use Rattle.exchange.specs.Exchange.{hasBit}
+use Rattle.exchange.specs.Laid.{Laid, takesPart, RecordAt}
 use Rattle.exchange.proofs.Moves.{moves-named, moves-unnamed}
 use Rattle.exchange.proofs.Records.{place-of, first-place, index-below, place-next, variables-from, variables-end}
 use Rattle.exchange.proofs.Cursors.{local-at}
@@ -46,10 +46,10 @@ copy-span (suc n) a b from to h =
 
 module _ (f : List ℕ) (bit : ℕ) (source target : Variable → ℕ) (from to₀ : List ℕ) where
   abbrev bytesFrom : ℕ → List Move
-  bytesFrom i = moves (namedBy bit) source target (drop i (variablesOf f))
+  bytesFrom i = movesOf (hasBit bit) source target (drop i (variablesOf f))
 
   pub record Copied (p : ℕ) (to : List ℕ) : Type 0 where
-    pub place : Place f p
+    pub place : RecordAt f p
     pub rest : copy (bytesFrom (place .index)) from to ≡ copy (bytesFrom 0) from to₀
     pub long : length to ≡ length to₀
 
@@ -57,46 +57,46 @@ module _ (f : List ℕ) (bit : ℕ) (source target : Variable → ℕ) (from to�
   copied-none e = record { place = first-place f e; rest = refl; long = refl }
 
   module _ {p : ℕ} {to : List ℕ} (w : Copied p to) (h : p < recordPlace f (variables f)) where
-    from-here : bytesFrom (w .place .index) ≡ moves (namedBy bit) source target (variableIn f p ∷ drop (w .place .index + 1) (variablesOf f))
+    from-here : bytesFrom (w .place .index) ≡ movesOf (hasBit bit) source target (variableIn f p ∷ drop (w .place .index + 1) (variablesOf f))
     from-here =
-        ap (moves (namedBy bit) source target) (variables-from f (w .place .index) (index-below f (w .place) h))
-        ∙ ap (λ (q : ℕ). moves (namedBy bit) source target (variableIn f q ∷ drop (w .place .index + 1) (variablesOf f))) (sym (w .place .is))
+        ap (movesOf (hasBit bit) source target) (variables-from f (w .place .index) (index-below f (w .place) h))
+        ∙ ap (λ (q : ℕ). movesOf (hasBit bit) source target (variableIn f q ∷ drop (w .place .index + 1) (variablesOf f))) (sym (w .place .is))
 
-    pub copied-named : {to′ : List ℕ} {a b n : ℕ} → named f bit p ≡ true → a ≡ source (variableIn f p) → b ≡ target (variableIn f p) → n ≡ byte f (p + 2) → a + n ≤ length from
+    pub copied-named : {to′ : List ℕ} {a b n : ℕ} → takesPart f bit p ≡ true → a ≡ source (variableIn f p) → b ≡ target (variableIn f p) → n ≡ byte f (p + 2) → a + n ≤ length from
         → to′ ≡ splice to b (part from a n) → Copied (p + 12) to′
     copied-named {to′} {a} {b} {n} e ea eb en inside z =
         let v = variableIn f p in
         let vs = drop (w .place .index + 1) (variablesOf f) in
         record {
           place = place-next f (w .place) h;
-          rest = ap (copy (moves (namedBy bit) source target vs) from) (z ∙ sym (copy-span n a b from to inside) ∙ (λ i. copy (span (en i) (ea i) (eb i)) from to))
-              ∙ sym (copy-append (span (v .width) (source v) (target v)) (moves (namedBy bit) source target vs) from to)
-              ∙ ap (λ (ms : List Move). copy ms from to) (sym (from-here ∙ moves-named (namedBy bit) source target v vs e))
+          rest = ap (copy (movesOf (hasBit bit) source target vs) from) (z ∙ sym (copy-span n a b from to inside) ∙ (λ i. copy (span (en i) (ea i) (eb i)) from to))
+              ∙ sym (copy-append (span (v .width) (source v) (target v)) (movesOf (hasBit bit) source target vs) from to)
+              ∙ ap (λ (ms : List Move). copy ms from to) (sym (from-here ∙ moves-named (hasBit bit) source target v vs e))
               ∙ w .rest;
           long = ap length z ∙ length-splice to b (part from a n) ∙ w .long;
         }
 
-    pub copied-unnamed : {to′ : List ℕ} → named f bit p ≡ false → to′ ≡ to → Copied (p + 12) to′
+    pub copied-unnamed : {to′ : List ℕ} → takesPart f bit p ≡ false → to′ ≡ to → Copied (p + 12) to′
     copied-unnamed e z = record {
       place = place-next f (w .place) h;
       rest = ap (copy (bytesFrom (w .place .index + 1)) from) z
-          ∙ ap (λ (ms : List Move). copy ms from to) (sym (from-here ∙ moves-unnamed (namedBy bit) source target (variableIn f p) (drop (w .place .index + 1) (variablesOf f)) e))
+          ∙ ap (λ (ms : List Move). copy ms from to) (sym (from-here ∙ moves-unnamed (hasBit bit) source target (variableIn f p) (drop (w .place .index + 1) (variablesOf f)) e))
           ∙ w .rest;
       long = ap length z ∙ w .long;
     }
 
-  pub copied-all : {p : ℕ} {to : List ℕ} → Copied p to → recordPlace f (variables f) ≤ p → to ≡ copy (moves (namedBy bit) source target (variablesOf f)) from to₀
+  pub copied-all : {p : ℕ} {to : List ℕ} → Copied p to → recordPlace f (variables f) ≤ p → to ≡ copy (movesOf (hasBit bit) source target (variablesOf f)) from to₀
   copied-all {p} {to} w h =
       let i = w .place .index in
-      ap (λ (vs : List Variable). copy (moves (namedBy bit) source target vs) from to) (sym (variables-end f i (omega (arith, w .place .is, place-of f i, place-of f (variables f))))) ∙ w .rest
+      ap (λ (vs : List Variable). copy (movesOf (hasBit bit) source target vs) from to) (sym (variables-end f i (omega (arith, w .place .is, place-of f i, place-of f (variables f))))) ∙ w .rest
 
 -- ---- where a record's bytes lie
 
-module _ (f : List ℕ) (ok : Laid f) {p : ℕ} (w : Place f p) (h : p < recordPlace f (variables f)) where
+module _ (f : List ℕ) (ok : Laid f) {p : ℕ} (w : RecordAt f p) (h : p < recordPlace f (variables f)) where
   pub record-shared : word f p + byte f (p + 2) ≤ 1024
   record-shared = subst⁻¹ (λ (q : ℕ). word f q + byte f (q + 2) ≤ 1024) (w .is) (ok .in-shared (w .index) (index-below f w h))
 
-  pub record-local : (k : ℕ) → k < cores f → (named f k p ≡ true) ⊎ (named f (4 + k) p ≡ true) → word f (p + 4 + 2 * k) + byte f (p + 2) ≤ dataSize f k
+  pub record-local : (k : ℕ) → k < cores f → (takesPart f k p ≡ true) ⊎ (takesPart f (4 + k) p ≡ true) → word f (p + 4 + 2 * k) + byte f (p + 2) ≤ dataSize f k
   record-local k l e =
       let n : word f (recordPlace f (w .index) + 4 + 2 * k) + byte f (recordPlace f (w .index) + 2) ≤ dataSize f k
       = omega (arith, ok .in-data (w .index) k (index-below f w h) l (rw (w .is) at e), local-at f k (recordPlace f (w .index)) (omega (arith, ok .few-cores))) in

@@ -13,8 +13,8 @@ ghost use Rattle.protocol.specs.Variables.{readsOf, writesOf};
 ghost use Rattle.records.specs.File.{cores, dataSize, variables, recordPlace};
 ghost use Rattle.taskset.specs.Task.{variablesOf};
 ghost use Rattle.exchange.specs.Exchange.{At};
-ghost use Rattle.exchange.specs.Laid.{Laid, named, exchangeBytes, Place, Passed};
-ghost use Rattle.exchange.specs.Carried.{Lies, Carried};
+ghost use Rattle.exchange.specs.Laid.{Laid, takesPart, exchangeBytes, RecordAt, Passed};
+ghost use Rattle.exchange.specs.Carried.{Lies, BytesCarried};
 
 // The variable's record in the file, and the byte within the variable.
 pub struct Cursor {
@@ -33,15 +33,15 @@ const LOCAL: usize = 4;
 // The bit of the attribute byte of the record at `place`.
 fn named(file: &[u8], place: usize, bit: usize) -> bool
     requires { ⌜ (place + 12 ≤ length (now file)) × (bit < 8) ⌝ }
-    ensures { λ r. ⌜ r ≡ named (now (file .entry)) bit place ⌝ }
+    ensures { λ r. ⌜ r ≡ takesPart (now (file .entry)) bit place ⌝ }
 {
     (file[place + ATTRIBUTE] >> bit) & 1 == 1
 }
 
 // The first record from `from` on that has the bit, or the end.
 fn seek(file: &[u8], from: usize, end: usize, bit: usize) -> usize
-    requires { ⌜ Laid (now file) × (end ≡ recordPlace (now file) (variables (now file))) × (bit < 8) × Place (now file) from ⌝ }
-    ensures { λ r. ⌜ Passed (now (file .entry)) bit from r × (r < end → named (now (file .entry)) bit r ≡ true) ⌝ }
+    requires { ⌜ Laid (now file) × (end ≡ recordPlace (now file) (variables (now file))) × (bit < 8) × RecordAt (now file) from ⌝ }
+    ensures { λ r. ⌜ Passed (now (file .entry)) bit from r × (r < end → takesPart (now (file .entry)) bit r ≡ true) ⌝ }
 {
     let mut place = from;
     while place < end {
@@ -201,7 +201,7 @@ fn carry(
     dst: &mut [u8],
 ) -> Cursor
     requires { ⌜ Laid (now file) × (end ≡ recordPlace (now file) (variables (now file))) × (bit < 8) × (source ≤ 10) × (target ≤ 10) × At (now file) bit x cursor × (x + count ≤ exchangeBytes (now file) bit) × Lies (now file) bit source (length (now src)) × Lies (now file) bit target (length (now dst)) ⌝ }
-    ensures { λ r. ⌜ At (now (file .entry)) bit (x + count) r × Carried (now (file .entry)) bit source target x count (now (src .entry)) (now (dst .entry)) (now (dst .exit)) ⌝ }
+    ensures { λ r. ⌜ At (now (file .entry)) bit (x + count) r × BytesCarried (now (file .entry)) bit source target x count (now (src .entry)) (now (dst .entry)) (now (dst .exit)) ⌝ }
 {
     let mut place = cursor.record;
     let mut byte = cursor.byte;

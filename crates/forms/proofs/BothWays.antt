@@ -20,12 +20,12 @@ use Rattle.protocol.specs.Fresh.{zeros}
 use Rattle.records.specs.File.{cores}
 use Rattle.records.specs.Records.{present}
 use Rattle.code.specs.declared.Profile.the-variants.{Full}
-use Rattle.taskset.specs.Judge.{oldMark, newMark, marked, isOld, isNew, codePlace, codeOf, startSections, startPlace, fileEnd, judge}
+use Rattle.taskset.specs.Judge.{oldMark, newMark, hasMark, isOld, isNew, codePlace, codeOf, startSections, startPlace, fileEnd, judge}
 use Rattle.taskset.specs.Rules.{Mark, WellFormed}
 use Rattle.taskset.specs.Starts.{startCount}
 use Rattle.taskset.proofs.Exact.{keeps-rules, accepts, marked-is, old-not-new, starts-begin, code-inside}
 use Rattle.forms.specs.Forms.{bodyOf, toNew, toOld, noStarts, toOldRefusal}
-use Rattle.forms.specs.BothWays.{Same, NoStarts, BecomesNew, GoesBack, BecomesOld}
+use Rattle.forms.specs.BothWays.{SameTask, NoStarts, BecomesNew, GoesBack, BecomesOld}
 use Rattle.forms.proofs.Alike.{Alike, alike-zeros, turned, start-least, code-rises, word-alike, part-alike, cores-alike, data-alike, input-alike, limit-alike, all-variables-alike, start-place-alike, code-alike, no-code-alike, well-alike}
 
 -- ---- the bytes of a file
@@ -153,7 +153,7 @@ module _ (f : List ℕ) (accepted : judge f ≡ 0) (old : isOld f ≡ true) wher
       ∙ sym (part-alike f (toNew f) new-alike 4 (startPlace f 0 - 4) (omega arith) (omega (arith, body-begins f accepted, body-ends f accepted)) (omega (arith, length-new f accepted, body-begins f accepted)))
 
   new-marked : isNew (toNew f) ≡ true
-  unfolding toNew marked
+  unfolding toNew hasMark
   new-marked = refl
 
   new-sections : startSections (toNew f) ≡ cores (toNew f)
@@ -281,7 +281,7 @@ module _ (f : List ℕ) (accepted : judge f ≡ 0) (new : isNew f ≡ true) wher
     old-alike = turned (subst (Alike (toOld f)) new-fixed (alike-zeros 77 67 83 49 77 67 83 50 (bodyOf f) (2 * cores f)))
 
     old-marked : isOld (toOld f) ≡ true
-    unfolding toOld marked
+    unfolding toOld hasMark
     old-marked = refl
 
     old-sections : startSections (toOld f) ≡ 0
@@ -312,11 +312,11 @@ module _ (f : List ℕ) (accepted : judge f ≡ 0) (new : isNew f ≡ true) wher
         record {
           accepted = accepts-old;
           old = old-marked;
-          same = turned-same (subst (Same (toOld f)) new-again (becomes-new (toOld f) accepts-old old-marked .same));
+          same = turned-same (subst (SameTask (toOld f)) new-again (becomes-new (toOld f) accepts-old old-marked .same));
           back = new-again;
         }
       where
-        turned-same : Same (toOld f) f → Same f (toOld f)
+        turned-same : SameTask (toOld f) f → SameTask f (toOld f)
         turned-same s = record {
           number = sym (s .number);
           data-size = λ k. sym (s .data-size k);

@@ -26,18 +26,18 @@ use Rattle.taskset.proofs.Starts.{old-data}
 use Rattle.semaphore.specs.Line.{semaphoreOf}
 use Rattle.states.specs.declared.State.{State}
 use Rattle.states.specs.Task.{taskOf}
-use Rattle.states.specs.Machine.{none, stackIn, stateIn, stateOf, heldAfter, dataOf}
+use Rattle.states.specs.Machine.{noRegisters, stackIn, stateIn, stateOf, heldAfter, dataOf}
 use Rattle.states.specs.Fit.{entry, executionFit, exchangesFit, freedFit, coreFit, fitAt, mayWait, lineFitIn, lineFit, stateFit, stateRefusal}
 use Rattle.states.specs.Preparing.{heldRefusal}
-use Rattle.runner.specs.Runs.{allBelow, Left, left, ranCall}
+use Rattle.runner.specs.Runs.{allBelow, Left, leftAs, ranCall}
 use Rattle.machine.specs.Calls.{lentFits, callRefusal, answerOf, tableOf, freshRefusal, freshCall, runRefusal, runCall, stepRefusal, stepCall}
 use Rattle.calls.specs.Calling.{lentOf, Call, stepping, running, restored, leaves, calls, stepsIn, stepsOf}
 use Rattle.forms.specs.Forms.{toNew, toOld}
-use Rattle.forms.specs.BothWays.{Same, NoStarts, BecomesNew}
+use Rattle.forms.specs.BothWays.{SameTask, NoStarts, BecomesNew}
 use Rattle.forms.specs.Alike.{RunsAlike}
 use Rattle.forms.proofs.BothWays.{no-count, becomes-new, becomes-old}
 
-module _ (f g t : List ℕ) (s : Same f g) (judged : judge f ≡ judge g) where
+module _ (f g t : List ℕ) (s : SameTask f g) (judged : judge f ≡ judge g) where
   -- ---- trace and task
 
   trace-place : (k : ℕ) → tracePlace f t k ≡ tracePlace g t k
@@ -72,7 +72,7 @@ module _ (f g t : List ℕ) (s : Same f g) (judged : judge f ≡ judge g) where
   unfolding stateIn
   states h d sh = λ i. record {
     plant = record {
-      cores = listed (λ k. record { registers = getD (h .cores) k none; stack = stackIn (h .places) (h .offsets) k; memory = getD (split (sizes i) d) k [] }) (s .number i) 0;
+      cores = listed (λ k. record { registers = getD (h .cores) k noRegisters; stack = stackIn (h .places) (h .offsets) k; memory = getD (split (sizes i) d) k [] }) (s .number i) 0;
       shared = sh;
     };
     semaphore = semaphoreOf (h .semaphore);
@@ -81,13 +81,13 @@ module _ (f g t : List ℕ) (s : Same f g) (judged : judge f ≡ judge g) where
   fit : (h : State) (k : ℕ) → fitAt f t h k ≡ fitAt g t h k
   unfolding fitAt coreFit
   fit h k = λ i.
-      both (executionFit (s .code k i) (s .data-size k i) (s .limits k i) (getD (h .cores) k none) (entry (h .places) k) (entry (h .offsets) k))
-      (both (exchangesFit (length (readsOf (s .all-variables i) k)) (length (writesOf (s .all-variables i) k)) (counts k i) (h .semaphore .holder) k (getD (h .cores) k none))
-      (both (freedFit (getD (h .cores) k none) (entry (h .places) k) (entry (h .offsets) k)) (ltb (getD (h .cores) k none .flags) flagBound)))
+      both (executionFit (s .code k i) (s .data-size k i) (s .limits k i) (getD (h .cores) k noRegisters) (entry (h .places) k) (entry (h .offsets) k))
+      (both (exchangesFit (length (readsOf (s .all-variables i) k)) (length (writesOf (s .all-variables i) k)) (counts k i) (h .semaphore .holder) k (getD (h .cores) k noRegisters))
+      (both (freedFit (getD (h .cores) k noRegisters) (entry (h .places) k) (entry (h .offsets) k)) (ltb (getD (h .cores) k noRegisters .flags) flagBound)))
 
   line : (h : State) (ks : List ℕ) → lineFitIn f t h ks ≡ lineFitIn g t h ks
   line h [] = refl
-  line h (k ∷ ks) = λ i. both (not (inLine k ks)) (both (ltb k (s .number i)) (both (mayWait (counts k i) (getD (h .cores) k none)) (line h ks i)))
+  line h (k ∷ ks) = λ i. both (not (inLine k ks)) (both (ltb k (s .number i)) (both (mayWait (counts k i) (getD (h .cores) k noRegisters)) (line h ks i)))
 
   state-refusal : (h : State) → stateRefusal f t h ≡ stateRefusal g t h
   unfolding stateRefusal stateFit lineFit
@@ -120,12 +120,12 @@ module _ (f g t : List ℕ) (s : Same f g) (judged : judge f ≡ judge g) where
   unfolding stepCall stepRefusal
   step-same h d sh k = λ i.
       pick (eqb (refused i) 0)
-      (left
+      (leftAs
       (record { refusal = 0; taken = length (takingOf (tasks i) k (states h d sh i)); state = heldAfter (s .number i) h (step (tasks i) k (states h d sh i)) })
       (dataOf (step (tasks i) k (states h d sh i)))
       (step (tasks i) k (states h d sh i) .plant .shared)
       [])
-      (left (answerOf (refused i) h) d sh [])
+      (leftAs (answerOf (refused i) h) d sh [])
     where
       refused : callRefusal f t h (length d) (length sh) true (ltb k (cores f)) ≡ callRefusal g t h (length d) (length sh) true (ltb k (cores g))
       refused = call-refusal h (length d) (length sh) true (ltb k (cores f)) (ltb k (cores g)) (ap (ltb k) (s .number))
@@ -134,12 +134,12 @@ module _ (f g t : List ℕ) (s : Same f g) (judged : judge f ≡ judge g) where
   unfolding runCall runRefusal ranCall
   run-same h d sh order list = λ i.
       pick (eqb (refused i) 0)
-      (left
+      (leftAs
       (record { refusal = 0; taken = length (orderList (tasks i) order (states h d sh i)); state = heldAfter (s .number i) h (run (tasks i) order (states h d sh i)) })
       (dataOf (run (tasks i) order (states h d sh i)))
       (run (tasks i) order (states h d sh i) .plant .shared)
       (splice list 0 (orderList (tasks i) order (states h d sh i))))
-      (left (answerOf (refused i) h) d sh list)
+      (leftAs (answerOf (refused i) h) d sh list)
     where
       refused : callRefusal f t h (length d) (length sh) (leb (length order) (length list)) (allBelow (cores f) order) ≡ callRefusal g t h (length d) (length sh) (leb (length order) (length list)) (allBelow (cores g) order)
       refused = call-refusal h (length d) (length sh) (leb (length order) (length list)) (allBelow (cores f) order) (allBelow (cores g) order) (ap (λ (n : ℕ). allBelow n order) (s .number))
@@ -182,8 +182,8 @@ module _ (f : List ℕ) (accepted : judge f ≡ 0) (old : isOld f ≡ true) wher
   unfolding freshCall freshRefusal startBuffer startShared
   fresh-same d sh = λ i.
       pick (eqb (refused i) 0)
-      (left (answerOf 0 (tableOf (new .same .number i) 4)) (flat (listed (λ k. data-same k i) (new .same .number i) 0)) (withWritten (λ k. data-same k i) (new .same .all-variables i) (zeros 1024)) [])
-      (left (answerOf (refused i) (tableOf 0 0)) d sh [])
+      (leftAs (answerOf 0 (tableOf (new .same .number i) 4)) (flat (listed (λ k. data-same k i) (new .same .number i) 0)) (withWritten (λ k. data-same k i) (new .same .all-variables i) (zeros 1024)) [])
+      (leftAs (answerOf (refused i) (tableOf 0 0)) d sh [])
     where
       refused : next (judge f) (unless (lentFits f (length d) (length sh)) 21) ≡ next (judge (toNew f)) (unless (lentFits (toNew f) (length d) (length sh)) 21)
       refused = ap₂ (λ (r : ℕ) (b : Bool). next r (unless b 21)) (accepted ∙ sym (new .accepted)) (fits f (toNew f) [] (new .same) (accepted ∙ sym (new .accepted)) (length d) (length sh))
@@ -192,7 +192,7 @@ module _ (f : List ℕ) (accepted : judge f ≡ 0) (old : isOld f ≡ true) wher
   new-runs-alike t d sh cs = runs-alike f (toNew f) t (new .same) (accepted ∙ sym (new .accepted)) d sh (fresh-same d sh) cs
 
 pub old-runs-alike : (f : List ℕ) → judge f ≡ 0 → isNew f ≡ true → NoStarts f → (t d sh : List ℕ) (cs : List Call) → RunsAlike f (toOld f) t d sh cs
-old-runs-alike f accepted new none t d sh cs =
-    let b = becomes-old f accepted new none in
+old-runs-alike f accepted new noRegisters t d sh cs =
+    let b = becomes-old f accepted new noRegisters in
     let r : RunsAlike (toOld f) f t d sh cs = subst (λ (g : List ℕ). RunsAlike (toOld f) g t d sh cs) (b .back) (new-runs-alike (toOld f) (b .accepted) (b .old) t d sh cs) in
     record { fresh = sym (r .fresh); after = sym (r .after); steps = sym (r .steps) }

@@ -12,7 +12,7 @@ use Rattle.taskset.specs.Starts.{startCount}
 use Rattle.forms.specs.Forms.{toNew, toOld, toOldRefusal}
 
 -- the same cores, variables and code
-pub record Same (f g : List ℕ) : Type 0 where
+pub record SameTask (f g : List ℕ) : Type 0 where
   pub number : cores f ≡ cores g
   pub data-size : (k : ℕ) → dataSize f k ≡ dataSize g k
   pub input-size : (k : ℕ) → inputSize f k ≡ inputSize g k
@@ -29,7 +29,7 @@ pub record BecomesNew (f : List ℕ) : Type 0 where
   pub accepted : judge (toNew f) ≡ 0
   pub new : isNew (toNew f) ≡ true
   pub counts : NoStarts (toNew f)
-  pub same : Same f (toNew f)
+  pub same : SameTask f (toNew f)
   pub back : toOld (toNew f) ≡ f
 
 -- an accepted file of the new form, with an output that is long enough
@@ -41,5 +41,5 @@ pub record GoesBack (f : List ℕ) (room : ℕ) : Type 0 where
 pub record BecomesOld (f : List ℕ) : Type 0 where
   pub accepted : judge (toOld f) ≡ 0
   pub old : isOld (toOld f) ≡ true
-  pub same : Same f (toOld f)
+  pub same : SameTask f (toOld f)
   pub back : toNew (toOld f) ≡ f

@@ -47,21 +47,21 @@ toOldRefusal f room =
 -- ---- the calls
 
 -- what a call answers, and what its output holds afterwards
-pub record Given : Type 0 where
+pub record ConversionLeft : Type 0 where
   pub answer : Converted
   pub output : List ℕ
 
-abbrev pub given : ℕ → ℕ → List ℕ → Given
-given r n out = record { answer = record { refusal = r; length = n }; output = out }
+abbrev pub conversionLeft : ℕ → ℕ → List ℕ → ConversionLeft
+conversionLeft r n out = record { answer = record { refusal = r; length = n }; output = out }
 
 -- the file g goes to the front of the output, the bytes past it stay; a refused call writes nothing
-unfoldable pub convertCall : ℕ → List ℕ → List ℕ → Given
-convertCall r g out = pick (eqb r 0) (given 0 (length g) (splice out 0 g)) (given r 0 out)
+unfoldable pub convertCall : ℕ → List ℕ → List ℕ → ConversionLeft
+convertCall r g out = pick (eqb r 0) (conversionLeft 0 (length g) (splice out 0 g)) (conversionLeft r 0 out)
 
-abbrev pub toNewCall : List ℕ → List ℕ → Given
+abbrev pub toNewCall : List ℕ → List ℕ → ConversionLeft
 toNewCall f out = convertCall (toNewRefusal f (length out)) (toNew f) out
 
-abbrev pub toOldCall : List ℕ → List ℕ → Given
+abbrev pub toOldCall : List ℕ → List ℕ → ConversionLeft
 toOldCall f out = convertCall (toOldRefusal f (length out)) (toOld f) out
 
 -- ---- over C: the length goes to a lent place, which a refused call leaves as it was
@@ -74,7 +74,7 @@ pub record ConvertedLent : Type 0 where
 abbrev pub convertedLent : ℕ → ℕ → List ℕ → ConvertedLent
 convertedLent r n out = record { refusal = r; place = n; output = out }
 
-unfoldable pub lentBy : Given → ℕ → ConvertedLent
+unfoldable pub lentBy : ConversionLeft → ℕ → ConvertedLent
 lentBy x place = convertedLent (x .answer .refusal) (pick (eqb (x .answer .refusal) 0) (x .answer .length) place) (x .output)
 
 abbrev pub toNewLent : List ℕ → List ℕ → ℕ → ConvertedLent

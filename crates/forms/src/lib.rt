@@ -4,7 +4,7 @@ ghost use mathlib.Core.Path.{_≡_};
 ghost use Prim.Native.Nat.{_-_, _≤_};
 ghost use lib.ListN.{length};
 ghost use Rattle.memory.specs.Memory.{splice, part};
-ghost use Rattle.forms.specs.Forms.{Given, toNewCall, toOldCall};
+ghost use Rattle.forms.specs.Forms.{ConversionLeft, toNewCall, toOldCall};
 
 // The number of a mark that is wrong, or that the converter would make.
 const MARK: u8 = 2;
@@ -40,7 +40,7 @@ fn write_form(mark: &[u8; 4], f: &[u8], end: usize, out: &mut [u8])
 
 // The file in the new form, with a count of 0 for each core.
 pub fn to_new(f: &[u8], out: &mut [u8]) -> Converted
-    ensures { λ r. ⌜ _≡_ {A = Given} (record { answer = r; output = now (out .exit) }) (toNewCall (now (f .entry)) (now (out .entry))) ⌝ }
+    ensures { λ r. ⌜ _≡_ {A = ConversionLeft} (record { answer = r; output = now (out .exit) }) (toNewCall (now (f .entry)) (now (out .entry))) ⌝ }
 {
     if f.len() < 4 {
         return refused(1);
@@ -68,7 +68,7 @@ pub fn to_new(f: &[u8], out: &mut [u8]) -> Converted
 
 // The file in the old form. A file has no start values exactly if nothing but a count for each core follows its code.
 pub fn to_old(f: &[u8], out: &mut [u8]) -> Converted
-    ensures { λ r. ⌜ _≡_ {A = Given} (record { answer = r; output = now (out .exit) }) (toOldCall (now (f .entry)) (now (out .entry))) ⌝ }
+    ensures { λ r. ⌜ _≡_ {A = ConversionLeft} (record { answer = r; output = now (out .exit) }) (toOldCall (now (f .entry)) (now (out .entry))) ⌝ }
 {
     if f.len() < 4 {
         return refused(1);

@@ -31,15 +31,15 @@ use Rattle.semaphore.specs.declared.Semaphore.{Semaphore}
 use Rattle.semaphore.specs.Line.{semaphoreOf}
 use Rattle.states.specs.declared.State.{State}
 use Rattle.states.specs.Task.{taskOf}
-use Rattle.states.specs.Set.{Set}
-use Rattle.states.specs.Machine.{none, coreIn, stateIn, stateOf, heldAfter, dataOf}
+use Rattle.states.specs.Set.{AcceptedSet}
+use Rattle.states.specs.Machine.{noRegisters, coreIn, stateIn, stateOf, heldAfter, dataOf}
 use Rattle.states.specs.Fit.{Fit}
 use Rattle.states.specs.Preparing.{heldRefusal}
 use Rattle.states.proofs.Accepted.{accepted-set}
 use Rattle.states.proofs.Exactly.{fit-accepted, not-refused}
 use Rattle.states.proofs.Fresh.{fresh-fit}
 use Rattle.states.proofs.Tables.{listed-same}
-use Rattle.runner.specs.Runs.{Left, left, allBelow, ranCall}
+use Rattle.runner.specs.Runs.{Left, leftAs, allBelow, ranCall}
 use Rattle.runner.proofs.Running.{shared-in}
 use Rattle.runner.proofs.End.{data-back}
 use Rattle.machine.specs.Calls.{lentFits, callRefusal, answerOf, tableOf, freshRefusal, freshCall, runRefusal, runCall, stepRefusal, stepCall}
@@ -50,9 +50,9 @@ use Rattle.machine.proofs.Calls.{granted}
 use Rattle.calls.proofs.Calling.{Lendable, Counted, step-counted, run-counted, call-counted, fresh-state, calls-interleaved}
 use Rattle.snapshot.specs.declared.Core.{Core}
 use Rattle.snapshot.specs.declared.After.{After}
-use Rattle.snapshot.specs.Snapshot.{registersIn, noCore, counted, entries, heldPlaces, heldOffsets, held, coreOf, recordAfter, acceptedOf, TableLeft, onTable, stepTable, runTable, takenTable, freshTable, withRegisters, registersAfter, stepRegisters}
-use Rattle.rikzord.specs.Lent.{recordAt, loaded, stored, Lent, lent, written, stepLent, runLent, takenLent, freshLent}
-use Rattle.lent_calls.specs.Calling.{LentCall, over, restoredLent, leavesLent, lentCalls, wholeLent, countsLent, lentStepsOf, LentInterleaved, LentFair, lentRegisters, leavesRegisters, RegistersLeave, MixedCall, by-value, with-registers, asCall, mixedCalls, MixedInterleaved, Same, SameCalls, no-call, one-call, RunLentListed}
+use Rattle.snapshot.specs.Snapshot.{registersIn, noRecord, counted, entries, heldPlaces, heldOffsets, held, coreOf, recordAfter, acceptedOf, TableLeft, onTable, stepTable, runTable, takenTable, freshTable, withRegisters, registersAfter, stepRegisters}
+use Rattle.rikzord.specs.Lent.{recordAt, loaded, storedRecords, Lent, lent, writtenBack, stepLent, runLent, takenLent, freshLent}
+use Rattle.lent_calls.specs.Calling.{LentCall, over, restoredLent, leavesLent, lentCalls, wholeLent, countsLent, lentStepsOf, LentInterleaved, LentFair, lentRegisters, leavesRegisters, RegistersLeave, MixedCall, by-value, with-registers, asCall, mixedCalls, MixedInterleaved, HoldsSame, SameCalls, no-call, one-call, RunLentListed}
 use Rattle.snapshot.proofs.Laws.{on-accepted, short-refused}
 use Rattle.lent_calls.proofs.Unchanged.{refused-lent, fresh-refused, fresh-short-refused}
 use Rattle.lent_calls.proofs.Back.{Sixteen, unspared, comes-back}
@@ -86,7 +86,7 @@ module _ (f : List ℕ) (few : cores f ≤ 4) (s : State) (places : length (s .p
           }
       go false e =
           let l = ltb-false k (cores f) e in
-          subst Sixteen (sym (List·getD-eq-default zs noCore (subst (λ (n : ℕ). n ≤ k) (sym rows) l))) record { places = refl; offsets = refl }
+          subst Sixteen (sym (List·getD-eq-default zs noRecord (subst (λ (n : ℕ). n ≤ k) (sym rows) l))) record { places = refl; offsets = refl }
 
   core-same : (p : Semaphore) (d : List ℕ) (k : ℕ) → k < cores f
       → coreIn f (held (loaded zs) p .cores) (held (loaded zs) p .places) (held (loaded zs) p .offsets) d k ≡ coreIn f (s .cores) (s .places) (s .offsets) d k
@@ -99,7 +99,7 @@ module _ (f : List ℕ) (few : cores f ≤ 4) (s : State) (places : length (s .p
   state-same d sh =
       ap (λ (l : List Place). record { plant = record { cores = l; shared = sh }; semaphore = semaphoreOf (s .semaphore) }) (listed-same _ _ (cores f) (core-same (s .semaphore) d))
 
-  pub lendable-same : (t d sh list list′ : List ℕ) (r r′ : ℕ) → Lendable f t (left (answerOf r s) d sh list) → Lendable f t (left (answerOf r′ (held (loaded zs) (s .semaphore))) d sh list′)
+  pub lendable-same : (t d sh list list′ : List ℕ) (r r′ : ℕ) → Lendable f t (leftAs (answerOf r s) d sh list) → Lendable f t (leftAs (answerOf r′ (held (loaded zs) (s .semaphore))) d sh list′)
   unfolding held heldPlaces heldOffsets
   lendable-same t d sh list list′ r r′ w = record {
     count = ap counted rows ∙ counted-few (cores f) few;
@@ -133,7 +133,7 @@ module _ (ys : List Core) (x : After) where
   thrice-length : length thrice ≡ length ys
   thrice-length = length-set twice 2 (x .c) ∙ twice-length
 
-  pub stored-length : length (stored ys x) ≡ length ys
+  pub stored-length : length (storedRecords ys x) ≡ length ys
   stored-length = length-set thrice 3 (x .d) ∙ thrice-length
 
 -- a table after a call that is not refused has the state's record for each core
@@ -145,30 +145,30 @@ module _ (s : State) (ys : List Core) (n : ℕ) (few : n ≤ 4) (count : s .coun
   unfolding recordAfter
   record-stored k l = pick-true _ _ _ (lt-ltb k (s .count) (omega (arith, count, l)))
 
-  pub stored-at : (k : ℕ) → k < n → recordAt (stored ys after) k ≡ coreOf s k
+  pub stored-at : (k : ℕ) → k < n → recordAt (storedRecords ys after) k ≡ coreOf s k
   stored-at zero l =
-      getD-set-other (thrice ys after) 3 0 (after .d) noCore (λ e. absurd (omega (arith, e)))
-      ∙ getD-set-other (twice ys after) 2 0 (after .c) noCore (λ e. absurd (omega (arith, e)))
-      ∙ getD-set-other (once ys after) 1 0 (after .b) noCore (λ e. absurd (omega (arith, e)))
-      ∙ getD-set-same ys 0 (after .a) noCore (omega (arith, l, rows))
+      getD-set-other (thrice ys after) 3 0 (after .d) noRecord (λ e. absurd (omega (arith, e)))
+      ∙ getD-set-other (twice ys after) 2 0 (after .c) noRecord (λ e. absurd (omega (arith, e)))
+      ∙ getD-set-other (once ys after) 1 0 (after .b) noRecord (λ e. absurd (omega (arith, e)))
+      ∙ getD-set-same ys 0 (after .a) noRecord (omega (arith, l, rows))
       ∙ record-stored 0 l
   stored-at (suc zero) l =
-      getD-set-other (thrice ys after) 3 1 (after .d) noCore (λ e. absurd (omega (arith, e)))
-      ∙ getD-set-other (twice ys after) 2 1 (after .c) noCore (λ e. absurd (omega (arith, e)))
-      ∙ getD-set-same (once ys after) 1 (after .b) noCore (omega (arith, l, rows, once-length ys after))
+      getD-set-other (thrice ys after) 3 1 (after .d) noRecord (λ e. absurd (omega (arith, e)))
+      ∙ getD-set-other (twice ys after) 2 1 (after .c) noRecord (λ e. absurd (omega (arith, e)))
+      ∙ getD-set-same (once ys after) 1 (after .b) noRecord (omega (arith, l, rows, once-length ys after))
       ∙ record-stored 1 l
   stored-at (suc (suc zero)) l =
-      getD-set-other (thrice ys after) 3 2 (after .d) noCore (λ e. absurd (omega (arith, e)))
-      ∙ getD-set-same (twice ys after) 2 (after .c) noCore (omega (arith, l, rows, twice-length ys after))
+      getD-set-other (thrice ys after) 3 2 (after .d) noRecord (λ e. absurd (omega (arith, e)))
+      ∙ getD-set-same (twice ys after) 2 (after .c) noRecord (omega (arith, l, rows, twice-length ys after))
       ∙ record-stored 2 l
-  stored-at (suc (suc (suc zero))) l = getD-set-same (thrice ys after) 3 (after .d) noCore (omega (arith, l, rows, thrice-length ys after)) ∙ record-stored 3 l
+  stored-at (suc (suc (suc zero))) l = getD-set-same (thrice ys after) 3 (after .d) noRecord (omega (arith, l, rows, thrice-length ys after)) ∙ record-stored 3 l
   stored-at (suc (suc (suc (suc k)))) l = absurd (omega (arith, l, few))
 
 -- ---- one call
 
 -- the state that a table holds, by value, with the memories
 abbrev pub byValue : List ℕ → Lent → Left
-byValue f x = left (answerOf 0 (held (loaded (take (cores f) (x .table))) (x .semaphore))) (x .memory) (x .shared) []
+byValue f x = leftAs (answerOf 0 (held (loaded (take (cores f) (x .table))) (x .semaphore))) (x .memory) (x .shared) []
 
 -- what a call left can be lent to the next
 pub record Ready (f t : List ℕ) (x : Lent) : Type 0 where
@@ -184,7 +184,7 @@ replaced-same : (a : Lending) (m : List ℕ) → replaced a m (lentOf a m) ≡ m
 replaced-same entire m = refl
 replaced-same (front n) m = take-append-drop n m
 
-module _ (f t : List ℕ) (ok : Set f t) (x : Lent) (w : Ready f t x) (rows : ℕ) (a b : Lending) where
+module _ (f t : List ℕ) (ok : AcceptedSet f t) (x : Lent) (w : Ready f t x) (rows : ℕ) (a b : Lending) where
   abbrev lentRows : List Core
   lentRows = take rows (x .table)
 
@@ -193,9 +193,9 @@ module _ (f t : List ℕ) (ok : Set f t) (x : Lent) (w : Ready f t x) (rows : �
 
   -- what the call by value left, y, as the call on the table leaves it
   abbrev leftBy : Left → Lent
-  leftBy y = restoredLent rows a b x (written lentRows (onTable (loaded lentRows) (x .semaphore) y))
+  leftBy y = restoredLent rows a b x (writtenBack lentRows (onTable (loaded lentRows) (x .semaphore) y))
 
-  pub refused-call : (ks list : List ℕ) (r : ℕ) (y : Left) → r ≢ 0 → y ≡ left (answerOf r state) (lentOf a (x .memory)) (lentOf b (x .shared)) list
+  pub refused-call : (ks list : List ℕ) (r : ℕ) (y : Left) → r ≢ 0 → y ≡ leftAs (answerOf r state) (lentOf a (x .memory)) (lentOf b (x .shared)) list
       → CountedLent f t x (leftBy y) (pick (eqb (leftBy y .refusal) 0) ks [])
   refused-call ks list r y ne e =
       let q : leftBy y ≡ lent r (x .table) (x .semaphore) (x .memory) (x .shared) list =
@@ -210,9 +210,9 @@ module _ (f t : List ℕ) (ok : Set f t) (x : Lent) (w : Ready f t x) (rows : �
       → CountedLent f t x (leftBy y) (pick (eqb (leftBy y .refusal) 0) ks [])
   accepted-call ks y z n c =
       let s = y .answer .state in
-      let zs = stored lentRows (acceptedOf (loaded lentRows) s) in
+      let zs = storedRecords lentRows (acceptedOf (loaded lentRows) s) in
       let q : leftBy y ≡ restoredLent rows a b x (lent 0 zs (s .semaphore) (y .memory) (y .shared) (y .order)) =
-      ap (λ (l : TableLeft). restoredLent rows a b x (written lentRows l)) (on-accepted (loaded lentRows) (x .semaphore) (y .answer) (y .memory) (y .shared) (y .order) z)
+      ap (λ (l : TableLeft). restoredLent rows a b x (writtenBack lentRows l)) (on-accepted (loaded lentRows) (x .semaphore) (y .answer) (y .memory) (y .shared) (y .order) z)
       ∙ ap (λ (l : List Core). restoredLent rows a b x (lent 0 l (s .semaphore) (y .memory) (y .shared) (y .order))) (pick-true _ _ _ refl) in
       let full : length zs ≡ cores f = stored-length lentRows (acceptedOf (loaded lentRows) s) ∙ n in
       let front-rows : take (cores f) (zs ++ drop rows (x .table)) ≡ zs = take-at zs _ (cores f) full in
@@ -228,7 +228,7 @@ module _ (f t : List ℕ) (ok : Set f t) (x : Lent) (w : Ready f t x) (rows : �
         whole = ap (λ (l : List Core). stateOf f (held (loaded l) (s .semaphore)) memory shared) front-rows ∙ same ∙ c .whole;
         ready = record {
           rows = omega (arith, length-append zs (drop rows (x .table)), full);
-          lendable = subst (λ (l : List Core). Lendable f t (left (answerOf 0 (held (loaded l) (s .semaphore))) memory shared [])) (sym front-rows) lends;
+          lendable = subst (λ (l : List Core). Lendable f t (leftAs (answerOf 0 (held (loaded l) (s .semaphore))) memory shared [])) (sym front-rows) lends;
         };
       })
 
@@ -294,13 +294,13 @@ module _ (f t : List ℕ) (ok : Set f t) (x : Lent) (w : Ready f t x) (rows : �
           (run-counted f t ok (byValue f x) (w .lendable) a b order list)
       go false e = refused-call order list (runRefusal f t state d sh order list) (runCall f t state d sh order list) (eqb-false _ _ e) (pick-false _ _ _ e)
 
-pub lent-counted : (f t : List ℕ) → Set f t → (x : Lent) → Ready f t x → (c : LentCall) → CountedLent f t x (leavesLent f t c x) (countsLent f t c x)
+pub lent-counted : (f t : List ℕ) → AcceptedSet f t → (x : Lent) → Ready f t x → (c : LentCall) → CountedLent f t x (leavesLent f t c x) (countsLent f t c x)
 lent-counted f t ok x w (over rows (stepping a b k)) = step-lent-counted f t ok x w rows a b k
 lent-counted f t ok x w (over rows (running a b order list)) = run-lent-counted f t ok x w rows a b order list
 
 -- ---- lists
 
-pub lent-calls-counted : (f t : List ℕ) → Set f t → (cs : List LentCall) (x : Lent) → Ready f t x
+pub lent-calls-counted : (f t : List ℕ) → AcceptedSet f t → (cs : List LentCall) (x : Lent) → Ready f t x
     → (wholeLent f (lentCalls f t cs x) ≡ run (taskOf f t) (lentStepsOf f t cs x) (wholeLent f x)) × Ready f t (lentCalls f t cs x)
 lent-calls-counted f t ok [] x w = (refl, w)
 lent-calls-counted f t ok (c ∷ cs) x w =
@@ -330,22 +330,22 @@ module _ (f : List ℕ) (ys : List Core) (p : Semaphore) (d sh : List ℕ) (e : 
       go false l = sym (ap (λ (x : Lent). x .refusal) (fresh-refused f ys p d sh fresh-long (eqb-false _ _ l))) ∙ e
 
   abbrev made : List Core
-  made = stored ys (acceptedOf (loaded ys) (tableOf (cores f) 4))
+  made = storedRecords ys (acceptedOf (loaded ys) (tableOf (cores f) 4))
 
   -- what it left
   fresh-left : freshLent f ys p d sh ≡ lent 0 made (tableOf (cores f) 4 .semaphore) (startBuffer f) (startShared f) []
   unfolding freshLent freshTable freshCall tableOf
   fresh-left =
-      ap (λ (l : Left). written ys (onTable (loaded ys) p l)) (pick-true _ _ _ fresh-long ∙ pick-true _ _ _ (eq-eqb _ 0 fresh-granted))
-      ∙ ap (written ys) (on-accepted (loaded ys) p (answerOf 0 (tableOf (cores f) 4)) (startBuffer f) (startShared f) [] refl)
+      ap (λ (l : Left). writtenBack ys (onTable (loaded ys) p l)) (pick-true _ _ _ fresh-long ∙ pick-true _ _ _ (eq-eqb _ 0 fresh-granted))
+      ∙ ap (writtenBack ys) (on-accepted (loaded ys) p (answerOf 0 (tableOf (cores f) 4)) (startBuffer f) (startShared f) [] refl)
       ∙ ap (λ (l : List Core). lent 0 l (tableOf (cores f) 4 .semaphore) (startBuffer f) (startShared f) []) (pick-true _ _ _ refl)
 
   -- what the call by value leaves
-  value-left : freshCall f d sh ≡ left (answerOf 0 (tableOf (cores f) 4)) (startBuffer f) (startShared f) []
+  value-left : freshCall f d sh ≡ leftAs (answerOf 0 (tableOf (cores f) 4)) (startBuffer f) (startShared f) []
   unfolding freshCall
   value-left = pick-true _ _ _ (eq-eqb _ 0 fresh-granted)
 
-  module _ (t : List ℕ) (ok : Set f t) where
+  module _ (t : List ℕ) (ok : AcceptedSet f t) where
     enough : cores f ≤ length ys
     enough = go (ltb (length ys) 255) refl
       where
@@ -356,7 +356,7 @@ module _ (f : List ℕ) (ys : List Core) (p : Semaphore) (d sh : List ℕ) (e : 
     value-fresh : stateOf f (tableOf (cores f) 4) (startBuffer f) (startShared f) ≡ freshOf f
     value-fresh = fresh-state f (ok .few)
 
-    value-lendable : Lendable f t (left (answerOf 0 (tableOf (cores f) 4)) (startBuffer f) (startShared f) [])
+    value-lendable : Lendable f t (leftAs (answerOf 0 (tableOf (cores f) 4)) (startBuffer f) (startShared f) [])
     unfolding tableOf
     value-lendable = record {
       count = refl;
@@ -375,7 +375,7 @@ module _ (f : List ℕ) (ys : List Core) (p : Semaphore) (d sh : List ℕ) (e : 
 
     at : (k : ℕ) → k < cores f → recordAt (take (cores f) made) k ≡ coreOf (tableOf (cores f) 4) k
     unfolding tableOf
-    at k l = getD-take (cores f) made k noCore l ∙ stored-at (tableOf (cores f) 4) ys (cores f) (ok .few) refl enough k l
+    at k l = getD-take (cores f) made k noRecord l ∙ stored-at (tableOf (cores f) 4) ys (cores f) (ok .few) refl enough k l
 
     abbrev begun : Lent
     begun = lent 0 made (tableOf (cores f) 4 .semaphore) (startBuffer f) (startShared f) []
@@ -403,7 +403,7 @@ pub lent-interleaved : (f t : List ℕ) → ((i : ℕ) → getD f i 0 < 256) →
 unfolding freshRefusal
 lent-interleaved f t bytes trace-bytes ys p d sh e sound cs =
     let accepted : judge f ≡ 0 = next-zero _ _ (fresh-granted f ys p d sh e) .0 in
-    let ok : Set f t = accepted-set f t bytes trace-bytes accepted sound in
+    let ok : AcceptedSet f t = accepted-set f t bytes trace-bytes accepted sound in
     let y = lent-calls-counted f t ok cs (freshLent f ys p d sh) (fresh-ready f ys p d sh e t ok) in
     let ks = lentStepsOf f t cs (freshLent f ys p d sh) in
     record {
@@ -420,14 +420,14 @@ lent-fair f t bytes trace-bytes ys p d sh e sound cs = record {
 
 -- ---- steps with lent registers
 
-with-own : (s : State) (k : ℕ) → length (s .cores) ≡ 4 → withRegisters s k (registersAfter s k none) ≡ s
+with-own : (s : State) (k : ℕ) → length (s .cores) ≡ 4 → withRegisters s k (registersAfter s k noRegisters) ≡ s
 unfolding withRegisters
 with-own s k four = go (ltb k 4) refl
   where
-    go : (q : Bool) → ltb k 4 ≡ q → withRegisters s k (pick (ltb k 4) (getD (s .cores) k none) none) ≡ s
+    go : (q : Bool) → ltb k 4 ≡ q → withRegisters s k (pick (ltb k 4) (getD (s .cores) k noRegisters) noRegisters) ≡ s
     go true e =
         ap (λ (l : List Registers). record { count = s .count; semaphore = s .semaphore; cores = l; places = s .places; offsets = s .offsets })
-        (ap (set (s .cores) k) (pick-true _ _ _ e) ∙ set-getD (s .cores) k none)
+        (ap (set (s .cores) k) (pick-true _ _ _ e) ∙ set-getD (s .cores) k noRegisters)
     go false e =
         ap (λ (l : List Registers). record { count = s .count; semaphore = s .semaphore; cores = l; places = s .places; offsets = s .offsets })
         (set-out (s .cores) k _ (omega (arith, four, ltb-false k 4 e)))
@@ -475,7 +475,7 @@ mixed-interleaved f t bytes trace-bytes d sh e sound cs = record {
 -- ---- the same list by value
 
 -- the number that a call gets that is made with what can be lent: file, trace and state are sound
-module _ (f t : List ℕ) (ok : Set f t) (x : Left) (w : Lendable f t x) where
+module _ (f t : List ℕ) (ok : AcceptedSet f t) (x : Left) (w : Lendable f t x) where
   number-is : (buffer shared : ℕ) (room named : Bool) → callRefusal f t (x .answer .state) buffer shared room named ≡ next (unless (both (lentFits f buffer shared) room) 21) (unless named 20)
   unfolding callRefusal heldRefusal next
   number-is buffer shared room named =
@@ -493,11 +493,11 @@ unfolding runCall ranCall
 run-number f t h d sh order list = by-pick (λ (l : Left). l .answer .refusal ≡ runRefusal f t h d sh order list) (eqb (runRefusal f t h d sh order list) 0) _ _ (λ e. sym (eqb-true _ _ e)) (λ e. refl)
 
 -- the number of what a call left on a table
-pub table-number : (ys : List Core) (p : Semaphore) (l : Left) → written ys (onTable (loaded ys) p l) .refusal ≡ l .answer .refusal
+pub table-number : (ys : List Core) (p : Semaphore) (l : Left) → writtenBack ys (onTable (loaded ys) p l) .refusal ≡ l .answer .refusal
 table-number ys p l = by-pick (λ (x : After). x .refusal ≡ l .answer .refusal) (eqb (l .answer .refusal) 0) _ _ (λ e. sym (eqb-true _ _ e)) (λ e. refl)
 
 -- two that can be lent on have the same memories where they hold the same state
-same-of : (f t : List ℕ) (x : Lent) → Ready f t x → (y : Left) → Lendable f t y → wholeLent f x ≡ wholeOf f y → Same f x y
+same-of : (f t : List ℕ) (x : Lent) → Ready f t x → (y : Left) → Lendable f t y → wholeLent f x ≡ wholeOf f y → HoldsSame f x y
 same-of f t x w y v e =
     let h = byValue f x .answer .state in
     let s = y .answer .state in
@@ -513,7 +513,7 @@ same-of f t x w y v e =
           ∙ shared-in f (s .cores) (s .places) (s .offsets) (semaphoreOf (s .semaphore)) (y .memory) (y .shared);
     }
 
-module _ (f t : List ℕ) (ok : Set f t) (x : Lent) (w : Ready f t x) (y : Left) (v : Lendable f t y) (same : Same f x y) where
+module _ (f t : List ℕ) (ok : AcceptedSet f t) (x : Lent) (w : Ready f t x) (y : Left) (v : Lendable f t y) (same : HoldsSame f x y) where
   same-number : (a b : Lending) (room named : Bool)
       → callRefusal f t (byValue f x .answer .state) (length (lentOf a (x .memory))) (length (lentOf b (x .shared))) room named
       ≡ callRefusal f t (y .answer .state) (length (lentOf a (y .memory))) (length (lentOf b (y .shared))) room named
@@ -535,7 +535,7 @@ module _ (f t : List ℕ) (ok : Set f t) (x : Lent) (w : Ready f t x) (y : Left)
       ∙ same-number a b (leb (length order) (length list)) (allBelow (cores f) order)
       ∙ sym (run-number f t (y .answer .state) (lentOf a (y .memory)) (lentOf b (y .shared)) order list)
 
-  one-same : (c : Call) → Same f (leavesLent f t (over (cores f) c) x) (leaves f t c y)
+  one-same : (c : Call) → HoldsSame f (leavesLent f t (over (cores f) c) x) (leaves f t c y)
   one-same c =
       let m = lent-counted f t ok x w (over (cores f) c) in
       let n = call-counted f t ok y v c in
@@ -544,7 +544,7 @@ module _ (f t : List ℕ) (ok : Set f t) (x : Lent) (w : Ready f t x) (y : Left)
       ∙ ap₂ (λ (r : ℕ) (z : Whole). run (taskOf f t) (pick (eqb r 0) (stepsIn c) []) z) (one-number c) (same .whole)
       ∙ sym (n .whole))
 
-pub same-calls : (f t : List ℕ) → Set f t → (cs : List Call) (x : Lent) → Ready f t x → (y : Left) → Lendable f t y → Same f x y → SameCalls f t cs x y
+pub same-calls : (f t : List ℕ) → AcceptedSet f t → (cs : List Call) (x : Lent) → Ready f t x → (y : Left) → Lendable f t y → HoldsSame f x y → SameCalls f t cs x y
 same-calls f t ok [] x w y v same = no-call same
 same-calls f t ok (c ∷ cs) x w y v same =
     one-call same (one-number f t ok x w y v same c)
@@ -555,7 +555,7 @@ pub lent-by-value : (f t : List ℕ) → ((i : ℕ) → getD f i 0 < 256) → ((
 unfolding freshRefusal
 lent-by-value f t bytes trace-bytes ys p d sh e sound cs =
     let granted-fresh = fresh-granted f ys p d sh e in
-    let ok : Set f t = accepted-set f t bytes trace-bytes (next-zero _ _ granted-fresh .0) sound in
+    let ok : AcceptedSet f t = accepted-set f t bytes trace-bytes (next-zero _ _ granted-fresh .0) sound in
     let ready = fresh-ready f ys p d sh e t ok in
     let lends = subst (Lendable f t) (sym (value-left f ys p d sh e)) (value-lendable f ys p d sh e t ok) in
     same-calls f t ok cs (freshLent f ys p d sh) ready (freshCall f d sh) lends

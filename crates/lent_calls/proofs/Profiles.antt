@@ -11,7 +11,7 @@ use Rattle.runner.specs.Runs.{Left}
 use Rattle.calls.proofs.Profiles.{small-fresh}
 use Rattle.snapshot.specs.declared.Core.{Core}
 use Rattle.snapshot.specs.Snapshot.{madeOn, freshTableFor, freshTable}
-use Rattle.rikzord.specs.Lent.{loaded, written, freshLent, freshLentFor}
+use Rattle.rikzord.specs.Lent.{loaded, writtenBack, freshLent, freshLentFor}
 use Rattle.lent_calls.specs.Calling.{LentCall, lentCalls, lentStepsOf}
 use Rattle.lent_calls.specs.Profiles.{SmallLent}
 
@@ -19,7 +19,7 @@ module _ (f : List ℕ) (z : judgeFor Small f ≡ 0) (ys : List Core) (p : Semap
   pub small-fresh-lent : freshLentFor Small f ys p d sh ≡ freshLent f ys p d sh
   unfolding freshLentFor freshLent freshTableFor freshTable
   small-fresh-lent =
-      ap₂ (λ (n : ℕ) (l : Left). written ys (madeOn n l f (loaded ys) p d sh)) (z ∙ sym (small-is-full f z)) (small-fresh f z d sh)
+      ap₂ (λ (n : ℕ) (l : Left). writtenBack ys (madeOn n l f (loaded ys) p d sh)) (z ∙ sym (small-is-full f z)) (small-fresh f z d sh)
 
   pub small-lent : (t : List ℕ) (cs : List LentCall) → SmallLent f t ys p d sh cs
   small-lent t cs =

@@ -18,7 +18,7 @@ use Rattle.taskset.specs.Fresh.{freshOf}
 use Rattle.semaphore.specs.declared.Semaphore.{Semaphore}
 use Rattle.states.specs.declared.State.{State}
 use Rattle.states.specs.Task.{taskOf}
-use Rattle.states.specs.Set.{Set}
+use Rattle.states.specs.Set.{AcceptedSet}
 use Rattle.states.specs.Machine.{stateOf, heldAfter, dataOf}
 use Rattle.states.proofs.Accepted.{accepted-set}
 use Rattle.runner.specs.declared.Ran.{Ran}
@@ -31,9 +31,9 @@ use Rattle.calls.proofs.Back.{sized-back}
 use Rattle.rerun.specs.Calls.{reran, rerunLeft, rerunCall}
 use Rattle.rerun.proofs.Claims.{call-rerun, granted, known, fit-reran, few-listed, front-of, list-append}
 use Rattle.snapshot.specs.declared.Core.{Core}
-use Rattle.snapshot.specs.Snapshot.{noCore, counted, held, coreOf, acceptedOf, onTable, runTable, rerunTable}
+use Rattle.snapshot.specs.Snapshot.{noRecord, counted, held, coreOf, acceptedOf, onTable, runTable, rerunTable}
 use Rattle.snapshot.proofs.Laws.{on-accepted}
-use Rattle.rikzord.specs.Lent.{recordAt, loaded, stored, Lent, lent, written, runLent, freshLent, rerunLent}
+use Rattle.rikzord.specs.Lent.{recordAt, loaded, storedRecords, Lent, lent, writtenBack, runLent, freshLent, rerunLent}
 use Rattle.lent_calls.specs.Calling.{LentCall, over, leavesLent, wholeLent, countsLent, lentStepsOf}
 use Rattle.lent_calls.specs.Rerun.{writtenLentBy, writtenLentOf, LentRerun}
 use Rattle.lent_calls.proofs.Unchanged.{taken-refused}
@@ -41,7 +41,7 @@ use Rattle.lent_calls.proofs.Calling.{byValue, Ready, state-same, store
 
 -- ---- what a call wrote
 
-module _ (f t : List ℕ) (ok : Set f t) (x : Lent) (w : Ready f t x) (rows : ℕ) (a b : Lending) (order list : List ℕ) where
+module _ (f t : List ℕ) (ok : AcceptedSet f t) (x : Lent) (w : Ready f t x) (rows : ℕ) (a b : Lending) (order list : List ℕ) where
   abbrev zs : List Core
   zs = take rows (x .table)
 
@@ -84,13 +84,13 @@ module _ (f t : List ℕ) (ok : Set f t) (x : Lent) (w : Ready f t x) (rows : �
           ap (λ (n : ℕ). take n (leavesLent f t call x .order)) (taken-refused f t zs (x .semaphore) d sh order list 0 ne)
           ∙ ap (λ (ks : List ℕ). orderList (taskOf f t) ks (wholeLent f x)) (sym (pick-false _ _ _ (ap (λ (n : ℕ). eqb n 0) number ∙ e)))
 
-call-wrote : (f t : List ℕ) → Set f t → (x : Lent) → Ready f t x → (c : LentCall) → writtenLentBy f t c x ≡ orderList (taskOf f t) (countsLent f t c x) (wholeLent f x)
+call-wrote : (f t : List ℕ) → AcceptedSet f t → (x : Lent) → Ready f t x → (c : LentCall) → writtenLentBy f t c x ≡ orderList (taskOf f t) (countsLent f t c x) (wholeLent f x)
 call-wrote f t ok x w (over rows (stepping a b k)) = refl
 call-wrote f t ok x w (over rows (running a b order list)) = run-wrote f t ok x w rows a b order list
 
 -- ---- lists of calls
 
-calls-wrote : (f t : List ℕ) → Set f t → (cs : List LentCall) (x : Lent) → Ready f t x → writtenLentOf f t cs x ≡ orderList (taskOf f t) (lentStepsOf f t cs x) (wholeLent f x)
+calls-wrote : (f t : List ℕ) → AcceptedSet f t → (cs : List LentCall) (x : Lent) → Ready f t x → writtenLentOf f t cs x ≡ orderList (taskOf f t) (lentStepsOf f t cs x) (wholeLent f x)
 calls-wrote f t ok [] x w = refl
 calls-wrote f t ok (c ∷ cs) x w =
     let y = lent-counted f t ok x w c in
@@ -100,7 +100,7 @@ calls-wrote f t ok (c ∷ cs) x w =
 
 -- ---- the rerun on a table of at least n records
 
-module _ (f t list : List ℕ) (ok : Set f t) (ys : List Core) (p : Semaphore) (d sh : List ℕ) (long : cores f ≤ length ys) (fits : lentFits f (length d) (length sh) ≡ true)
+module _ (f t list : List ℕ) (ok : AcceptedSet f t) (ys : List Core) (p : Semaphore) (d sh : List ℕ) (long : cores f ≤ length ys) (fits : lentFits f (length d) (length sh) ≡ true)
     (z : rerunCall f t list d sh .answer .refusal ≡ 0) where
   long-counted : leb (cores f) (counted (length ys)) ≡ true
   long-counted = go (ltb (length ys) 255) refl
@@ -116,13 +116,13 @@ module _ (f t list : List ℕ) (ok : Set f t) (ys : List Core) (p : Semaphore) (
   done = record { refusal = 0; taken = length list; state = s }
 
   abbrev made : List Core
-  made = stored ys (acceptedOf (loaded ys) s)
+  made = storedRecords ys (acceptedOf (loaded ys) s)
 
   rerun-left : rerunLent f t list ys p d sh ≡ lent 0 made (s .semaphore) (dataOf (reran f t list)) (reran f t list .plant .shared) []
   unfolding rerunLent rerunTable rerunLeft
   rerun-left =
-      ap (λ (l : Left). written ys (onTable (loaded ys) p l)) (pick-true _ _ _ long-counted ∙ granted f t list d sh ok fits (known f t list d sh ok fits z))
-      ∙ ap (written ys) (on-accepted (loaded ys) p done (dataOf (reran f t list)) (reran f t list .plant .shared) [] refl)
+      ap (λ (l : Left). writtenBack ys (onTable (loaded ys) p l)) (pick-true _ _ _ long-counted ∙ granted f t list d sh ok fits (known f t list d sh ok fits z))
+      ∙ ap (writtenBack ys) (on-accepted (loaded ys) p done (dataOf (reran f t list)) (reran f t list .plant .shared) [] refl)
       ∙ ap (λ (l : List Core). lent 0 l (s .semaphore) (dataOf (reran f t list)) (reran f t list .plant .shared) []) (pick-true _ _ _ refl)
 
   full : length (take (cores f) made) ≡ cores f
@@ -130,7 +130,7 @@ module _ (f t list : List ℕ) (ok : Set f t) (ys : List Core) (p : Semaphore) (
 
   at : (k : ℕ) → k < cores f → recordAt (take (cores f) made) k ≡ coreOf s k
   unfolding heldAfter tableOf
-  at k l = getD-take (cores f) made k noCore l ∙ stored-at s ys (cores f) (ok .few) refl long k l
+  at k l = getD-take (cores f) made k noRecord l ∙ stored-at s ys (cores f) (ok .few) refl long k l
 
   rerun-whole : wholeLent f (rerunLent f t list ys p d sh) ≡ wholeOf f (rerunCall f t list d sh)
   unfolding rerunLeft
@@ -147,7 +147,7 @@ pub lent-rerun : (f t : List ℕ) → ((i : ℕ) → getD f i 0 < 256) → ((i :
     → lentFits f (length d′) (length sh′) ≡ true → LentRerun f t ys p d sh cs ys′ p′ d′ sh′
 unfolding freshRefusal
 lent-rerun f t bytes trace-bytes ys p d sh e sound cs ys′ p′ d′ sh′ long fits =
-    let ok : Set f t = accepted-set f t bytes trace-bytes (next-zero _ _ (fresh-granted f ys p d sh e) .0) sound in
+    let ok : AcceptedSet f t = accepted-set f t bytes trace-bytes (next-zero _ _ (fresh-granted f ys p d sh e) .0) sound in
     let x = freshLent f ys p d sh in
     let ks = lentStepsOf f t cs x in
     let list = writtenLentOf f t cs x in

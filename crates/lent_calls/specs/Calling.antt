@@ -18,7 +18,7 @@ use Rattle.records.specs.File.{cores}
 use Rattle.taskset.specs.Fresh.{freshOf}
 use Rattle.semaphore.specs.declared.Semaphore.{Semaphore}
 use Rattle.states.specs.Task.{taskOf}
-use Rattle.states.specs.Machine.{none, stateOf}
+use Rattle.states.specs.Machine.{noRegisters, stateOf}
 use Rattle.runner.specs.Runs.{Left}
 use Rattle.calls.specs.Calling.{Lending, lentOf, replaced, Call, stepping, running, restored, leaves, calls, wholeOf, stepsIn, CallsInterleaved}
 use Rattle.machine.specs.Calls.{freshCall}
@@ -85,7 +85,7 @@ pub record LentFair (f t : List ℕ) (ys : List Core) (p : Semaphore) (d sh : Li
 
 -- the registers that are lent for core k
 abbrev pub lentRegisters : Left → ℕ → Registers
-lentRegisters x k = registersAfter (x .answer .state) k none
+lentRegisters x k = registersAfter (x .answer .state) k noRegisters
 
 abbrev pub leavesRegisters : List ℕ → List ℕ → Lending → Lending → ℕ → Left → Left
 leavesRegisters f t a b k x = restored a b x (stepRegisters f t (x .answer .state) (lentRegisters x k) (lentOf a (x .memory)) (lentOf b (x .shared)) k)
@@ -121,14 +121,14 @@ pub record MixedInterleaved (f t d sh : List ℕ) (cs : List MixedCall) : Type 0
 
 -- What x has is what y has: the table's first n records hold the state, and the memories are the same. `lent-by-value` proves it of the calls cs over
 -- the lent table and by value, each list from its call for the fresh state; and that each call answers the same number.
-pub record Same (f : List ℕ) (x : Lent) (y : Left) : Type 0 where
+pub record HoldsSame (f : List ℕ) (x : Lent) (y : Left) : Type 0 where
   pub whole : wholeLent f x ≡ wholeOf f y
   pub memory : x .memory ≡ y .memory
   pub shared : x .shared ≡ y .shared
 
 pub data SameCalls (f t : List ℕ) : List Call → Lent → Left → Type 0 where
-  no-call : {x : Lent} {y : Left} → Same f x y → SameCalls f t [] x y
-  one-call : {c : Call} {cs : List Call} {x : Lent} {y : Left} → Same f x y → leavesLent f t (over (cores f) c) x .refusal ≡ leaves f t c y .answer .refusal
+  no-call : {x : Lent} {y : Left} → HoldsSame f x y → SameCalls f t [] x y
+  one-call : {c : Call} {cs : List Call} {x : Lent} {y : Left} → HoldsSame f x y → leavesLent f t (over (cores f) c) x .refusal ≡ leaves f t c y .answer .refusal
       → SameCalls f t cs (leavesLent f t (over (cores f) c) x) (leaves f t c y) → SameCalls f t (c ∷ cs) x y
 
 -- ---- the takings of a run over a lent table

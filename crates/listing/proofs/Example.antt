@@ -6,7 +6,7 @@ use Rattle.verdict.specs.Verdict.{pick}
 use Rattle.memory.specs.Memory.{flat}
 use Rattle.protocol.specs.declared.Registers.{Registers}
 use Rattle.states.specs.declared.State.{State}
-use Rattle.listing.specs.Listing.{digits, decimal, column, header, coreLine, coreLines, kind, takingText, orderWord, orderLine, listing}
+use Rattle.listing.specs.Listing.{digits, decimal, column, header, coreLine, coreLines, kindLetter, takingText, orderWord, orderLine, listing}
 
 -- core 0 after its first cycle
 abbrev after : Registers
@@ -20,7 +20,7 @@ pub document-example : listing 1 ended (0 ∷ 16 ∷ []) ≡
     header
     ++ (48 ∷ 32 ∷ 48 ∷ 32 ∷ 49 ∷ 32 ∷ 48 ∷ 32 ∷ 49 ∷ 10
     ∷ 111 ∷ 114 ∷ 100 ∷ 101 ∷ 114 ∷ 32 ∷ 48 ∷ 114 ∷ 32 ∷ 48 ∷ 119 ∷ 10 ∷ [])
-unfolding listing coreLines coreLine column decimal digits pick orderLine orderWord takingText kind flat
+unfolding listing coreLines coreLine column decimal digits pick orderLine orderWord takingText kindLetter flat
 document-example = refl
 
 pub numbers : (decimal 0 ≡ 48 ∷ []) × (decimal 10 ≡ 49 ∷ 48 ∷ []) × (decimal 65535 ≡ 54 ∷ 53 ∷ 53 ∷ 51 ∷ 53 ∷ [])

@@ -63,11 +63,11 @@ coreLines k (r ∷ rs) = coreLine k r ++ coreLines (k + 1) rs
 -- ---- the takings
 
 -- r for a reading, w for a writing; the order list's byte is the core, plus 16 for a writing
-unfoldable pub kind : ℕ → ℕ
-kind b = pick (ltb b 16) 114 119
+unfoldable pub kindLetter : ℕ → ℕ
+kindLetter b = pick (ltb b 16) 114 119
 
 unfoldable pub takingText : ℕ → List ℕ
-takingText b = space ∷ digit (b % 16) ∷ kind b ∷ []
+takingText b = space ∷ digit (b % 16) ∷ kindLetter b ∷ []
 
 -- "order"
 unfoldable pub orderWord : List ℕ

@@ -10,9 +10,9 @@ use Rattle.listing.specs.declared.Written.{Written}
 use Rattle.listing.specs.declared.Written.the-variants.{Text, Refused}
 
 -- each case of the answer: its refusal number, 0 for none
-abbrev pub numberOf : Written → ℕ
-numberOf (Text n) = 0
-numberOf (Refused r) = r
+abbrev pub textRefusal : Written → ℕ
+textRefusal (Text n) = 0
+textRefusal (Refused r) = r
 
 -- the answer with its number, and every lent byte
 pub record TextLeft : Type 0 where
@@ -21,7 +21,7 @@ pub record TextLeft : Type 0 where
   pub bytes : List ℕ
 
 abbrev pub textLeft : Written → List ℕ → TextLeft
-textLeft w bytes = record { answer = w; number = numberOf w; bytes = bytes }
+textLeft w bytes = record { answer = w; number = textRefusal w; bytes = bytes }
 
 -- the text at the front of the lent bytes, and its length; bytes after it stay
 unfoldable pub textCall : List ℕ → List ℕ → TextLeft

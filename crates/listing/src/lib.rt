@@ -7,7 +7,7 @@ ghost use mathlib.Core.List.{_∷_, [], map};
 ghost use Prim.Native.Nat.{_+_, _*_, _<_, _≤_, min};
 ghost use lib.ListN.{length, take};
 ghost use Rattle.memory.specs.Memory.{splice, flat};
-ghost use Rattle.listing.specs.Listing.{decimal, column, coreLine, coreLines, kind, takingText, head, listing, refusedText, longText};
+ghost use Rattle.listing.specs.Listing.{decimal, column, coreLine, coreLines, kindLetter, takingText, head, listing, refusedText, longText};
 ghost use Rattle.listing.specs.Writers.{textLeft, textCall};
 use protocol::Registers;
 use states::State;
@@ -120,7 +120,7 @@ fn write_lines(out: &mut [u8], at: usize, s: State, n: usize) -> usize
 // ---- the takings
 
 fn kind_of(byte: u8) -> u8
-    ensures { λ r. ⌜ r ≡ kind byte ⌝ }
+    ensures { λ r. ⌜ r ≡ kindLetter byte ⌝ }
 {
     if byte < WRITING {
         return b'r';

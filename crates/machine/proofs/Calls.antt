@@ -32,7 +32,7 @@ use Rattle.states.specs.Fit.{stateRefusal}
 use Rattle.states.specs.Tasks.{tasksOf}
 use Rattle.states.specs.Preparing.{heldRefusal, prepared}
 use Rattle.runner.specs.declared.Ran.{Ran}
-use Rattle.runner.specs.Runs.{allBelow, Left, left, ranCall}
+use Rattle.runner.specs.Runs.{allBelow, Left, leftAs, ranCall}
 use Rattle.machine.specs.Calls.{lentFits, setRefusal, callRefusal, answerOf, tableOf, freshRefusalFor, freshRefusal, freshCallFor, freshCall, runRefusal, runCall, freshLeft}
 
 -- ---- loading
@@ -172,10 +172,10 @@ granted f t h buffer shared room named e =
 -- ---- the answers
 
 module _ (f t : List ℕ) (h : State) (d sh order list : List ℕ) where
-  pub run-refused : {r : ℕ} (x : Ran) → r ≡ runRefusal f t h d sh order list → r ≢ 0 → x ≡ answerOf r h → left x d sh list ≡ runCall f t h d sh order list
+  pub run-refused : {r : ℕ} (x : Ran) → r ≡ runRefusal f t h d sh order list → r ≢ 0 → x ≡ answerOf r h → leftAs x d sh list ≡ runCall f t h d sh order list
   unfolding runCall
   run-refused x e n q =
-      ap (λ (y : Ran). left y d sh list) (q ∙ ap (λ (m : ℕ). answerOf m h) e)
+      ap (λ (y : Ran). leftAs y d sh list) (q ∙ ap (λ (m : ℕ). answerOf m h) e)
       ∙ sym (pick-false _ _ _ (ne-eqb _ _ (λ w. n (e ∙ w))))
 
   pub run-granted : (x : Left) → runRefusal f t h d sh order list ≡ 0 → x ≡ ranCall f t h d sh order list → x ≡ runCall f t h d sh order list
@@ -198,16 +198,16 @@ module _ (o : Profile) (f : List ℕ) (d sh : List ℕ) where
   pub fresh-none-for : judgeFor o f ≡ 0 → lentFits f (length d) (length sh) ≡ true → freshRefusalFor o f (length d) (length sh) ≡ 0
   fresh-none-for z e = next-none _ _ z (yes _ 21 e)
 
-  pub fresh-refused-for : {r : ℕ} (x : Ran) → r ≡ freshRefusalFor o f (length d) (length sh) → r ≢ 0 → x ≡ answerOf r (tableOf 0 0) → left x d sh [] ≡ freshCallFor o f d sh
+  pub fresh-refused-for : {r : ℕ} (x : Ran) → r ≡ freshRefusalFor o f (length d) (length sh) → r ≢ 0 → x ≡ answerOf r (tableOf 0 0) → leftAs x d sh [] ≡ freshCallFor o f d sh
   unfolding freshCallFor
   fresh-refused-for x e n q =
-      ap (λ (y : Ran). left y d sh []) (q ∙ ap (λ (m : ℕ). answerOf m (tableOf 0 0)) e)
+      ap (λ (y : Ran). leftAs y d sh []) (q ∙ ap (λ (m : ℕ). answerOf m (tableOf 0 0)) e)
       ∙ sym (pick-false _ _ _ (ne-eqb _ _ (λ w. n (e ∙ w))))
 
   pub fresh-granted-for : (x : Ran) (d′ sh′ : List ℕ) → freshRefusalFor o f (length d) (length sh) ≡ 0 → x ≡ answerOf 0 (tableOf (cores f) 4) → d′ ≡ startBuffer f → sh′ ≡ startShared f
-      → left x d′ sh′ [] ≡ freshCallFor o f d sh
+      → leftAs x d′ sh′ [] ≡ freshCallFor o f d sh
   unfolding freshCallFor
-  fresh-granted-for x d′ sh′ e q a b = ap₂ (λ (y : Ran) (l : List ℕ). left y l sh′ []) q a ∙ ap (λ (l : List ℕ). left (answerOf 0 (tableOf (cores f) 4)) (startBuffer f) l []) b ∙ sym (pick-true _ _ _ (eq-eqb _ _ e))
+  fresh-granted-for x d′ sh′ e q a b = ap₂ (λ (y : Ran) (l : List ℕ). leftAs y l sh′ []) q a ∙ ap (λ (l : List ℕ). leftAs (answerOf 0 (tableOf (cores f) 4)) (startBuffer f) l []) b ∙ sym (pick-true _ _ _ (eq-eqb _ _ e))
 
 -- under the full one
 pub fresh-none : (f d sh : List ℕ) → judge f ≡ 0 → lentFits f (length d) (length sh) ≡ true → freshRefusal f (length d) (length sh) ≡ 0

@@ -14,16 +14,16 @@ use Rattle.taskset.specs.Layout.{layoutOf}
 use Rattle.taskset.proofs.Exact.{keeps-rules}
 use Rattle.states.specs.declared.State.{State}
 use Rattle.states.specs.declared.CoreTask.{CoreTask}
-use Rattle.states.specs.Set.{Set}
+use Rattle.states.specs.Set.{AcceptedSet}
 use Rattle.states.specs.Fit.{Fit}
-use Rattle.states.specs.Machine.{none, stateOf}
+use Rattle.states.specs.Machine.{noRegisters, stateOf}
 use Rattle.states.specs.Tasks.{tasksOf}
 use Rattle.states.proofs.Accepted.{accepted-set}
 use Rattle.states.proofs.Exactly.{fit-accepted}
 use Rattle.states.proofs.Tasks.{tasks-at}
-use Rattle.steps.specs.Moving.{Aimed}
+use Rattle.steps.specs.Moving.{CursorAimed}
 use Rattle.runner.specs.Runs.{allBelow}
-use Rattle.runner.specs.Going.{Going}
+use Rattle.runner.specs.Going.{RunGiven}
 use Rattle.machine.specs.Calls.{runRefusal}
 use Rattle.machine.proofs.Calls.{Granted, granted}
 
@@ -46,14 +46,14 @@ module _ (f t : List ℕ) (h : State) (d sh order list : List ℕ) (e : runRefus
   end-is = rw laid (sym (place-of f (variables f)))
 
   module _ (bytes : (i : ℕ) → getD f i 0 < 256) (trace-bytes : (i : ℕ) → getD t i 0 < 256) (places : length (h .places) ≡ 64) (offsets : length (h .offsets) ≡ 64) where
-    pub set-of : Set f t
+    pub set-of : AcceptedSet f t
     set-of = accepted-set f t bytes trace-bytes (known .accepted) (known .sound)
 
     pub fit-of : Fit f t (stateOf f h d sh)
     fit-of = fit-accepted f t set-of h d sh record { memory = known .memory; shared = known .shared-memory; places = places; offsets = offsets } (known .state) .1
 
-    pub going : (tasks : List CoreTask) → tasks ≡ tasksOf f t → (aim : Cursor) → ((k : ℕ) → k < cores f → h .semaphore .holder ≡ suc k → Aimed f k (getD (h .cores) k none) aim)
-        → Going f t tasks (l .first) (l .first + 12 * l .variables) order h aim d sh list
+    pub going : (tasks : List CoreTask) → tasks ≡ tasksOf f t → (aim : Cursor) → ((k : ℕ) → k < cores f → h .semaphore .holder ≡ suc k → CursorAimed f k (getD (h .cores) k noRegisters) aim)
+        → RunGiven f t tasks (l .first) (l .first + 12 * l .variables) order h aim d sh list
     going tasks a aim b = record {
       accepted = set-of;
       tasked = tasks-at f t set-of tasks a;

@@ -13,7 +13,7 @@ use Rattle.records.specs.File.{cores}
 use Rattle.taskset.specs.Judge.{judge}
 use Rattle.states.specs.declared.State.{State}
 use Rattle.states.specs.Machine.{Sized, stateOf}
-use Rattle.states.specs.Set.{Set}
+use Rattle.states.specs.Set.{AcceptedSet}
 use Rattle.states.specs.Preparing.{heldRefusal}
 use Rattle.states.proofs.Accepted.{accepted-set}
 use Rattle.states.proofs.Exactly.{fit-accepted}
@@ -23,7 +23,7 @@ use Rattle.table.specs.Next.{NextCore}
 use Rattle.table.proofs.Next.{next-core}
 use Rattle.machine.specs.declared.Next.{Next}
 use Rattle.machine.specs.declared.Next.the-variants.{Refused, Found}
-use Rattle.machine.specs.Calls.{nextRefusal, nextCall, namedBy, nextSays, nextSaid}
+use Rattle.machine.specs.Calls.{nextRefusal, nextCall, coresNamed, nextSays, nextSaid}
 use Rattle.machine.proofs.Calls.{held-none}
 
 module _ (f t : List ℕ) (h : State) (given : ℕ) where
@@ -51,8 +51,8 @@ module _ (f t : List ℕ) (h : State) (given : ℕ) where
   says x e = (e, ap nextSays e ∙ go (eqb (nextRefusal f t h given) 0) refl)
     where
       go : (b : Bool) → eqb (nextRefusal f t h given) 0 ≡ b
-          → nextSays (pick b (Found (nextMoving f t h given)) (Refused (nextRefusal f t h given))) ≡ record { number = nextRefusal f t h given; named = pick b (namedBy (nextMoving f t h given)) [] }
-      go true e = ap (λ (n : ℕ). record { number = n; named = namedBy (nextMoving f t h given) }) (sym (eqb-true _ _ e))
+          → nextSays (pick b (Found (nextMoving f t h given)) (Refused (nextRefusal f t h given))) ≡ record { number = nextRefusal f t h given; named = pick b (coresNamed (nextMoving f t h given)) [] }
+      go true e = ap (λ (n : ℕ). record { number = n; named = coresNamed (nextMoving f t h given) }) (sym (eqb-true _ _ e))
       go false e = refl
 
   pub next-refused : (r : ℕ) → r ≡ nextRefusal f t h given → r ≢ 0 → (Refused r ≡ nextCall f t h given) × (nextSays (Refused r) ≡ nextSaid f t h given)
@@ -71,5 +71,5 @@ module _ (f t : List ℕ) (h : State) (given : ℕ) where
       let x = next-zero _ _ e in
       let y = next-zero _ _ (x .1) in
       let held = held-none f t h (y .0) in
-      let ok : Set f t = accepted-set f t a b (x .0) (held .0) in
+      let ok : AcceptedSet f t = accepted-set f t a b (x .0) (held .0) in
       (pick-true _ _ _ (eq-eqb _ _ e), next-core f t h d sh ok (fit-accepted f t ok h d sh z (held .1) .1) given (ltb-true _ _ (unless-zero _ 19 (y .1))))

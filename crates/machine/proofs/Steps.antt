@@ -13,12 +13,12 @@ use Rattle.states.specs.declared.State.{State}
 use Rattle.states.specs.Task.{taskOf}
 use Rattle.states.specs.Machine.{stateOf, heldAfter, dataOf}
 use Rattle.runner.specs.declared.Ran.{Ran}
-use Rattle.runner.specs.Runs.{Left, left, ranCall}
+use Rattle.runner.specs.Runs.{Left, leftAs, ranCall}
 use Rattle.machine.specs.Calls.{callRefusal, answerOf, runRefusal, runCall, stepRefusal, stepped, stepCall}
 
 -- what a call leaves without its order list
 abbrev unlisted : Left → Left
-unlisted x = left (x .answer) (x .memory) (x .shared) []
+unlisted x = leftAs (x .answer) (x .memory) (x .shared) []
 
 counted : (xs : List Taking) → length (map encoded (xs ++ [])) ≡ length xs
 counted [] = refl
@@ -35,14 +35,14 @@ module _ (f t : List ℕ) (h : State) (d sh : List ℕ) (k b : ℕ) where
 
   one-ran : unlisted (ranCall f t h d sh (k ∷ []) (b ∷ [])) ≡ stepped f t h d sh k
   unfolding ranCall
-  one-ran = ap (λ (n : ℕ). left (record { refusal = 0; taken = n; state = heldAfter (cores f) h (step (taskOf f t) k (stateOf f h d sh)) }) (dataOf (step (taskOf f t) k (stateOf f h d sh))) (step (taskOf f t) k (stateOf f h d sh) .plant .shared) [])
+  one-ran = ap (λ (n : ℕ). leftAs (record { refusal = 0; taken = n; state = heldAfter (cores f) h (step (taskOf f t) k (stateOf f h d sh)) }) (dataOf (step (taskOf f t) k (stateOf f h d sh))) (step (taskOf f t) k (stateOf f h d sh) .plant .shared) [])
       (counted (takingOf (taskOf f t) k (stateOf f h d sh)))
 
   one-call : unlisted (runCall f t h d sh (k ∷ []) (b ∷ [])) ≡ stepCall f t h d sh k
   unfolding runCall stepCall
   one-call =
       pick-ap unlisted (eqb (runRefusal f t h d sh (k ∷ []) (b ∷ [])) 0) _ _
-      ∙ ap₂ (λ (r : ℕ) (x : Left). pick (eqb r 0) x (left (answerOf r h) d sh [])) one-refusal one-ran
+      ∙ ap₂ (λ (r : ℕ) (x : Left). pick (eqb r 0) x (leftAs (answerOf r h) d sh [])) one-refusal one-ran
 
-  pub step-as-run : (x : Ran) (d′ sh′ list′ : List ℕ) → left x d′ sh′ list′ ≡ runCall f t h d sh (k ∷ []) (b ∷ []) → left x d′ sh′ [] ≡ stepCall f t h d sh k
+  pub step-as-run : (x : Ran) (d′ sh′ list′ : List ℕ) → leftAs x d′ sh′ list′ ≡ runCall f t h d sh (k ∷ []) (b ∷ []) → leftAs x d′ sh′ [] ≡ stepCall f t h d sh k
   step-as-run x d′ sh′ list′ e = ap unlisted e ∙ one-call

@@ -21,7 +21,7 @@ use Rattle.states.specs.Task.{taskOf}
 use Rattle.states.specs.Machine.{stateOf, heldAfter, dataOf}
 use Rattle.states.specs.Preparing.{heldRefusal}
 use Rattle.runner.specs.declared.Ran.{Ran}
-use Rattle.runner.specs.Runs.{allBelow, Left, left, ranCall}
+use Rattle.runner.specs.Runs.{allBelow, Left, leftAs, ranCall}
 use Rattle.table.specs.declared.Moving.{Moving}
 use Rattle.table.specs.declared.Moving.the-variants.{Core, Nothing}
 use Rattle.table.specs.Table.{nextMoving}
@@ -71,8 +71,8 @@ freshRefusalFor profile f buffer shared = next (judgeFor profile f) (unless (len
 abbrev pub freshLeft : ℕ → List ℕ → List ℕ → List ℕ → Left
 freshLeft r f d sh =
     pick (eqb r 0)
-    (left (answerOf 0 (tableOf (cores f) 4)) (startBuffer f) (startShared f) [])
-    (left (answerOf r (tableOf 0 0)) d sh [])
+    (leftAs (answerOf 0 (tableOf (cores f) 4)) (startBuffer f) (startShared f) [])
+    (leftAs (answerOf r (tableOf 0 0)) d sh [])
 
 unfoldable pub freshCallFor : Profile → List ℕ → List ℕ → List ℕ → Left
 freshCallFor profile f d sh = freshLeft (freshRefusalFor profile f (length d) (length sh)) f d sh
@@ -93,7 +93,7 @@ unfoldable pub runCall : List ℕ → List ℕ → State → List ℕ → List �
 runCall f t h d sh order list =
     pick (eqb (runRefusal f t h d sh order list) 0)
     (ranCall f t h d sh order list)
-    (left (answerOf (runRefusal f t h d sh order list) h) d sh list)
+    (leftAs (answerOf (runRefusal f t h d sh order list) h) d sh list)
 
 -- ---- a step of core k; no order list is lent
 
@@ -102,7 +102,7 @@ stepRefusal f t h d sh k = callRefusal f t h (length d) (length sh) true (ltb k 
 
 abbrev pub stepped : List ℕ → List ℕ → State → List ℕ → List ℕ → ℕ → Left
 stepped f t h d sh k =
-    left
+    leftAs
     (record { refusal = 0; taken = length (takingOf (taskOf f t) k (stateOf f h d sh)); state = heldAfter (cores f) h (step (taskOf f t) k (stateOf f h d sh)) })
     (dataOf (step (taskOf f t) k (stateOf f h d sh)))
     (step (taskOf f t) k (stateOf f h d sh) .plant .shared)
@@ -112,7 +112,7 @@ unfoldable pub stepCall : List ℕ → List ℕ → State → List ℕ → List 
 stepCall f t h d sh k =
     pick (eqb (stepRefusal f t h d sh k) 0)
     (stepped f t h d sh k)
-    (left (answerOf (stepRefusal f t h d sh k) h) d sh [])
+    (leftAs (answerOf (stepRefusal f t h d sh k) h) d sh [])
 
 -- ---- the next core to move after a given one; no memory is lent
 
@@ -131,16 +131,16 @@ pub record Says : Type 0 where
   pub named : List ℕ
 
 -- each case of the answer: a refusal names no core and says nothing of the table; "none" names no core and is no refusal
-abbrev pub namedBy : Moving → List ℕ
-namedBy (Core k) = k ∷ []
-namedBy Nothing = []
+abbrev pub coresNamed : Moving → List ℕ
+coresNamed (Core k) = k ∷ []
+coresNamed Nothing = []
 
 abbrev pub nextSays : Next → Says
 nextSays (Refused r) = record { number = r; named = [] }
-nextSays (Found m) = record { number = 0; named = namedBy m }
+nextSays (Found m) = record { number = 0; named = coresNamed m }
 
 unfoldable pub nextSaid : List ℕ → List ℕ → State → ℕ → Says
 nextSaid f t h given = record {
   number = nextRefusal f t h given;
-  named = pick (eqb (nextRefusal f t h given) 0) (namedBy (nextMoving f t h given)) [];
+  named = pick (eqb (nextRefusal f t h given) 0) (coresNamed (nextMoving f t h given)) [];
 }

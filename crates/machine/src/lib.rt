@@ -21,12 +21,12 @@ ghost use Rattle.records.specs.File.{cores, recordPlace, variables};
 ghost use Rattle.taskset.specs.Judge.{judgeFor, judge};
 ghost use Rattle.taskset.specs.Layout.{layoutOf};
 ghost use Rattle.taskset.specs.Task.{sizesOf};
-ghost use Rattle.states.specs.Machine.{none, stateOf};
-ghost use Rattle.states.specs.Set.{Set};
+ghost use Rattle.states.specs.Machine.{noRegisters, stateOf};
+ghost use Rattle.states.specs.Set.{AcceptedSet};
 ghost use Rattle.states.specs.Tasks.{tasksOf};
 ghost use Rattle.states.specs.Fit.{Fit};
-ghost use Rattle.steps.specs.Moving.{Aimed};
-ghost use Rattle.runner.specs.Runs.{allBelow, left, ranCall};
+ghost use Rattle.steps.specs.Moving.{CursorAimed};
+ghost use Rattle.runner.specs.Runs.{allBelow, leftAs, ranCall};
 ghost use Rattle.machine.specs.Calls.{bufferSize, lentFits, setRefusal, answerOf, tableOf, freshCallFor, freshCall, runRefusal, runCall, stepCall, nextCall, nextSays, nextSaid};
 
 // Bytes of shared memory.
@@ -132,7 +132,7 @@ pub fn table_of(n: u8, flags: u8) -> State
 // The fresh state of an accepted file, in memories of its sizes: zero but for the start values.
 pub fn fresh_judged(file: &[u8], layout: Layout, buffer: &mut [u8], shared: &mut [u8]) -> Ran
     requires { ⌜ (judge (now file) ≡ 0) × (layout ≡ layoutOf (now file)) × (lentFits (now file) (length (now buffer)) (length (now shared)) ≡ true) ⌝ }
-    ensures { λ r. ⌜ left r (now (buffer .exit)) (now (shared .exit)) [] ≡ freshCall (now (file .entry)) (now (buffer .entry)) (now (shared .entry)) ⌝ }
+    ensures { λ r. ⌜ leftAs r (now (buffer .exit)) (now (shared .exit)) [] ≡ freshCall (now (file .entry)) (now (buffer .entry)) (now (shared .entry)) ⌝ }
 {
     starts::fill(file, layout, buffer, shared);
     answer(0, table_of(layout.cores as u8, COLD_START))
@@ -140,7 +140,7 @@ pub fn fresh_judged(file: &[u8], layout: Layout, buffer: &mut [u8], shared: &mut
 
 // The fresh state of a file that is loaded under a profile: memories zero but for the start values, mode 0, registers 0, flags 4, semaphore free, nobody in line. A refused call gives a table of no cores.
 pub fn fresh_for(profile: Profile, file: &[u8], buffer: &mut [u8], shared: &mut [u8]) -> Ran
-    ensures { λ r. ⌜ left r (now (buffer .exit)) (now (shared .exit)) [] ≡ freshCallFor profile (now (file .entry)) (now (buffer .entry)) (now (shared .entry)) ⌝ }
+    ensures { λ r. ⌜ leftAs r (now (buffer .exit)) (now (shared .exit)) [] ≡ freshCallFor profile (now (file .entry)) (now (buffer .entry)) (now (shared .entry)) ⌝ }
 {
     let loaded = taskset::load_for(profile, file);
     if loaded.refusal != 0 {
@@ -155,7 +155,7 @@ pub fn fresh_for(profile: Profile, file: &[u8], buffer: &mut [u8], shared: &mut 
 
 // Under the full profile.
 pub fn fresh(file: &[u8], buffer: &mut [u8], shared: &mut [u8]) -> Ran
-    ensures { λ r. ⌜ left r (now (buffer .exit)) (now (shared .exit)) [] ≡ freshCall (now (file .entry)) (now (buffer .entry)) (now (shared .entry)) ⌝ }
+    ensures { λ r. ⌜ leftAs r (now (buffer .exit)) (now (shared .exit)) [] ≡ freshCall (now (file .entry)) (now (buffer .entry)) (now (shared .entry)) ⌝ }
 {
     fresh_for(Profile::Full, file, buffer, shared)
 }
@@ -190,8 +190,8 @@ fn aim_of(
     buffer: &[u8],
     shared: &[u8],
 ) -> Cursor
-    requires { ⌜ Set (now file) (now trace) × (first ≡ recordPlace (now file) 0) × (end ≡ recordPlace (now file) (variables (now file))) × Fit (now file) (now trace) (stateOf (now file) s (now buffer) (now shared)) ⌝ }
-    ensures { λ r. ⌜ ((k : ℕ) → k < cores (now (file .entry)) → s .semaphore .holder ≡ suc k → Aimed (now (file .entry)) k (getD (s .cores) k none) r) ⌝ }
+    requires { ⌜ AcceptedSet (now file) (now trace) × (first ≡ recordPlace (now file) 0) × (end ≡ recordPlace (now file) (variables (now file))) × Fit (now file) (now trace) (stateOf (now file) s (now buffer) (now shared)) ⌝ }
+    ensures { λ r. ⌜ ((k : ℕ) → k < cores (now (file .entry)) → s .semaphore .holder ≡ suc k → CursorAimed (now (file .entry)) k (getD (s .cores) k noRegisters) r) ⌝ }
 {
     let none = Cursor { record: 0, byte: 0 };
     let holder = s.semaphore.holder;
@@ -253,7 +253,7 @@ fn run_judged(
     list: &mut [u8],
 ) -> Ran
     requires { ⌜ (layout ≡ layoutOf (now file)) × (tasks ≡ tasksOf (now file) (now trace)) × (runRefusal (now file) (now trace) s (now buffer) (now shared) (now order) (now list) ≡ 0) ⌝ }
-    ensures { λ r. ⌜ left r (now (buffer .exit)) (now (shared .exit)) (now (list .exit)) ≡ ranCall (now (file .entry)) (now (trace .entry)) s (now (buffer .entry)) (now (shared .entry)) (now (order .entry)) (now (list .entry)) ⌝ }
+    ensures { λ r. ⌜ leftAs r (now (buffer .exit)) (now (shared .exit)) (now (list .exit)) ≡ ranCall (now (file .entry)) (now (trace .entry)) s (now (buffer .entry)) (now (shared .entry)) (now (order .entry)) (now (list .entry)) ⌝ }
 {
     // for the lengths of the arrays alone
     let places = runner::places_of(s);
@@ -286,7 +286,7 @@ pub fn run(
     order: &[u8],
     list: &mut [u8],
 ) -> Ran
-    ensures { λ r. ⌜ left r (now (buffer .exit)) (now (shared .exit)) (now (list .exit)) ≡ runCall (now (file .entry)) (now (trace .entry)) s (now (buffer .entry)) (now (shared .entry)) (now (order .entry)) (now (list .entry)) ⌝ }
+    ensures { λ r. ⌜ leftAs r (now (buffer .exit)) (now (shared .exit)) (now (list .exit)) ≡ runCall (now (file .entry)) (now (trace .entry)) s (now (buffer .entry)) (now (shared .entry)) (now (order .entry)) (now (list .entry)) ⌝ }
 {
     let loaded = taskset::load(file);
     if loaded.refusal != 0 {
@@ -313,7 +313,7 @@ pub fn step(
     shared: &mut [u8],
     core: u8,
 ) -> Ran
-    ensures { λ r. ⌜ left r (now (buffer .exit)) (now (shared .exit)) [] ≡ stepCall (now (file .entry)) (now (trace .entry)) s (now (buffer .entry)) (now (shared .entry)) core ⌝ }
+    ensures { λ r. ⌜ leftAs r (now (buffer .exit)) (now (shared .exit)) [] ≡ stepCall (now (file .entry)) (now (trace .entry)) s (now (buffer .entry)) (now (shared .entry)) core ⌝ }
 {
     let order = [core];
     let mut list = [0u8; 1];

@@ -18,7 +18,7 @@ use Rattle.values.specs.Values.{typed, patternOf, stored, readValue}
 use Rattle.values.specs.Commands.{onKinds, onBits, ADD, MUL, DIV, MOD, AND, OR, NOT, SHL, ROL, result, resultType, command}
 use Rattle.protocol.specs.State.{State, Task, core, mode}
 use Rattle.protocol.specs.Step.{inLine, turnIn, wait, takeWrite, step}
-use Rattle.marked.specs.Marked.{resultOf, given, said, RS, SR, WaitsToWrite, cases}
+use Rattle.marked.specs.Marked.{resultOf, definedOutcome, documentOutcome, RS, SR, WaitsToWrite, cases}
 
 -- ---- mode 3 against a held semaphore
 
@@ -47,6 +47,6 @@ held-stays : (t : Task) (k : ℕ) (s : State) → WaitsToWrite k s → step t k 
 unfolding pick
 held-stays t k s w = rw (held-joins t k s w, held-waits t k (record { plant = s .plant; semaphore = record { holder = s .semaphore .holder; line = s .semaphore .line ++ (k ∷ []) } }) (w .mode-3) (w .held), stands k (s .semaphore .line))
 
-pub marked : (t : Task) (k : ℕ) (s : State) → WaitsToWrite k s → map given (cases t k s) ≡ map said (cases t k s)
-unfolding resultOf given said RS SR cases command result resultType typed patternOf stored readValue widthOf pick part valueLE readLE pattern signed wrap turned shiftLeft rotateLeft onKinds onBits signedRemainder ADD MUL DIV MOD AND OR NOT SHL ROL Ieee.add Ieee.ofBits Ieee.toBits
+pub marked : (t : Task) (k : ℕ) (s : State) → WaitsToWrite k s → map definedOutcome (cases t k s) ≡ map documentOutcome (cases t k s)
+unfolding resultOf definedOutcome documentOutcome RS SR cases command result resultType typed patternOf stored readValue widthOf pick part valueLE readLE pattern signed wrap turned shiftLeft rotateLeft onKinds onBits signedRemainder ADD MUL DIV MOD AND OR NOT SHL ROL Ieee.add Ieee.ofBits Ieee.toBits
 marked t k s w = rw (held-stays t k s w, held-joins t k s w)

@@ -32,20 +32,20 @@ unfoldable pub resultOf : ℕ → ℕ → Value → Value → Value
 resultOf code t a b = typed t (command code t (stored t a) (stored t b))
 
 -- what the definitions give, a value or a state
-unfoldable pub given : Case → Value ⊎ State
-given (does code t a b v) = inl (resultOf code t a b)
-given (reads t bytes v) = inl (readValue bytes t 0)
-given (latches f s r q v) = inl (f s r q)
-given (joins t k s) = inr (step t k s)
-given (waits t k s) = inr (step t k s)
+unfoldable pub definedOutcome : Case → Value ⊎ State
+definedOutcome (does code t a b v) = inl (resultOf code t a b)
+definedOutcome (reads t bytes v) = inl (readValue bytes t 0)
+definedOutcome (latches f s r q v) = inl (f s r q)
+definedOutcome (joins t k s) = inr (step t k s)
+definedOutcome (waits t k s) = inr (step t k s)
 
 -- what the document says
-unfoldable pub said : Case → Value ⊎ State
-said (does code t a b v) = inl v
-said (reads t bytes v) = inl v
-said (latches f s r q v) = inl v
-said (joins t k s) = inr record { plant = s .plant; semaphore = record { holder = s .semaphore .holder; line = s .semaphore .line ++ (k ∷ []) } }
-said (waits t k s) = inr s
+unfoldable pub documentOutcome : Case → Value ⊎ State
+documentOutcome (does code t a b v) = inl v
+documentOutcome (reads t bytes v) = inl v
+documentOutcome (latches f s r q v) = inl v
+documentOutcome (joins t k s) = inr record { plant = s .plant; semaphore = record { holder = s .semaphore .holder; line = s .semaphore .line ++ (k ∷ []) } }
+documentOutcome (waits t k s) = inr s
 
 -- ---- the latches, by the BOOL commands NOT (27), AND (24) and OR (25)
 

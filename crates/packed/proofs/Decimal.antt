@@ -18,7 +18,7 @@ use Rattle.values.specs.declared.Value.the-variants.{Unsigned}
 use Rattle.conversions.specs.declared.Converted.{Converted}
 use Rattle.conversions.specs.declared.Converted.the-variants.{Gives, NotHeld}
 use Rattle.conversions.specs.Conversions.{stores, resultAs}
-use Rattle.packed.specs.Packed.{recoded, allBelow, packedDigits, unpackedDigits, packedAt, unpackedAt, packed, unpacked}
+use Rattle.packed.specs.Packed.{recoded, digitsBelow, packedDigits, unpackedDigits, packedAt, unpackedAt, packed, unpacked}
 use Rattle.conversions.proofs.Types.{patternIn, isStored}
 
 -- ---- there and back
@@ -38,38 +38,38 @@ module _ (a b : ℕ) (A : 0 < a) where
   fewer : (d n : ℕ) → n < a ^ suc d → n / a < a ^ d
   fewer d n h = div-lt-iff-lt-mul A .1 (subst (λ (x : ℕ). n < x) (pow-suc a d) h)
 
-  pub back : (d n : ℕ) → n < a ^ d → T (allBelow a b d n) → recoded b a d (recoded a b d n) ≡ n
-  unfolding recoded allBelow
+  pub back : (d n : ℕ) → n < a ^ d → T (digitsBelow a b d n) → recoded b a d (recoded a b d n) ≡ n
+  unfolding recoded digitsBelow
   back zero n h t = small n (subst (λ (x : ℕ). n < x) (pow-zero a) h)
     where
       small : (n : ℕ) → n < 1 → 0 ≡ n
       small n h = omega arith
   back (suc d) n h t =
-      let l : n % a < b = ltb→lt (n % a) b (and-l (ltb (n % a) b) (allBelow a b d (n / a)) t) in
+      let l : n % a < b = ltb→lt (n % a) b (and-l (ltb (n % a) b) (digitsBelow a b d (n / a)) t) in
       let q = recoded a b d (n / a) in
       ap (λ (x : ℕ). x + a * recoded b a d ((n % a + b * q) / b)) (low-digit (n % a) q l)
       ∙ ap (λ (x : ℕ). n % a + a * recoded b a d x) (high-digits (n % a) q l)
-      ∙ ap (λ (x : ℕ). n % a + a * x) (back d (n / a) (fewer d n h) (and-r (ltb (n % a) b) (allBelow a b d (n / a)) t))
+      ∙ ap (λ (x : ℕ). n % a + a * x) (back d (n / a) (fewer d n h) (and-r (ltb (n % a) b) (digitsBelow a b d (n / a)) t))
       ∙ mod-add-div n a
 
   -- the digits of what was recoded are the digits that it was recoded from
-  pub digits-below : (d n : ℕ) → T (allBelow a b d n) → T (allBelow b a d (recoded a b d n))
-  unfolding recoded allBelow
+  pub digits-below : (d n : ℕ) → T (digitsBelow a b d n) → T (digitsBelow b a d (recoded a b d n))
+  unfolding recoded digitsBelow
   digits-below zero n t = tt
   digits-below (suc d) n t =
-      let l : n % a < b = ltb→lt (n % a) b (and-l (ltb (n % a) b) (allBelow a b d (n / a)) t) in
+      let l : n % a < b = ltb→lt (n % a) b (and-l (ltb (n % a) b) (digitsBelow a b d (n / a)) t) in
       let q = recoded a b d (n / a) in
-      and-i (ltb ((n % a + b * q) % b) a) (allBelow b a d ((n % a + b * q) / b))
+      and-i (ltb ((n % a + b * q) % b) a) (digitsBelow b a d ((n % a + b * q) / b))
       (lt→ltb ((n % a + b * q) % b) a (subst (λ (x : ℕ). x < a) (sym (low-digit (n % a) q l)) (mod-lt n A)))
-      (subst (λ (x : ℕ). T (allBelow b a d x)) (sym (high-digits (n % a) q l)) (digits-below d (n / a) (and-r (ltb (n % a) b) (allBelow a b d (n / a)) t)))
+      (subst (λ (x : ℕ). T (digitsBelow b a d x)) (sym (high-digits (n % a) q l)) (digits-below d (n / a) (and-r (ltb (n % a) b) (digitsBelow a b d (n / a)) t)))
 
   -- and there are d of them
-  pub recoded-lt : (d n : ℕ) → T (allBelow a b d n) → recoded a b d n < b ^ d
-  unfolding recoded allBelow
+  pub recoded-lt : (d n : ℕ) → T (digitsBelow a b d n) → recoded a b d n < b ^ d
+  unfolding recoded digitsBelow
   recoded-lt zero n t = subst (λ (x : ℕ). 0 < x) (sym (pow-zero b)) (zero-lt-suc 0)
   recoded-lt (suc d) n t =
-      let l : n % a < b = ltb→lt (n % a) b (and-l (ltb (n % a) b) (allBelow a b d (n / a)) t) in
-      let g : recoded a b d (n / a) < b ^ d = recoded-lt d (n / a) (and-r (ltb (n % a) b) (allBelow a b d (n / a)) t) in
+      let l : n % a < b = ltb→lt (n % a) b (and-l (ltb (n % a) b) (digitsBelow a b d (n / a)) t) in
+      let g : recoded a b d (n / a) < b ^ d = recoded-lt d (n / a) (and-r (ltb (n % a) b) (digitsBelow a b d (n / a)) t) in
       subst (λ (x : ℕ). n % a + b * recoded a b d (n / a) < x) (sym (pow-succ' b d)) (under (n % a) (recoded a b d (n / a)) (b ^ d) l g)
     where
       under : (r q p : ℕ) → r < b → q < p → r + b * q < b * p
@@ -79,10 +79,10 @@ module _ (a b : ℕ) (A : 0 < a) where
           omega (arith, m, s, mul-comm b q, mul-comm b p)
 
   -- the digits of a smaller base are below a larger one
-  pub always-below : a ≤ b → (d n : ℕ) → T (allBelow a b d n)
-  unfolding allBelow
+  pub always-below : a ≤ b → (d n : ℕ) → T (digitsBelow a b d n)
+  unfolding digitsBelow
   always-below h zero n = tt
-  always-below h (suc d) n = and-i (ltb (n % a) b) (allBelow a b d (n / a)) (lt→ltb (n % a) b (lt-of-lt-of-le (mod-lt n A) h)) (always-below h d (n / a))
+  always-below h (suc d) n = and-i (ltb (n % a) b) (digitsBelow a b d (n / a)) (lt→ltb (n % a) b (lt-of-lt-of-le (mod-lt n A) h)) (always-below h d (n / a))
 
 -- ---- the two commands, at every width
 abbrev numberOf : Converted → ℕ
@@ -105,10 +105,10 @@ less = omega arith
 packed-back : (w n : ℕ) → n < 10 ^ (2 * w) → unpackedAt w (packedDigits (2 * w) n) ≡ Gives (Unsigned n)
 unfolding unpackedAt pick
 packed-back w n h =
-    rw (is-true (allBelow 16 10 (2 * w) (packedDigits (2 * w) n)) (digits-below 10 16 ten (2 * w) n (always-below 10 16 ten less (2 * w) n)))
+    rw (is-true (digitsBelow 16 10 (2 * w) (packedDigits (2 * w) n)) (digits-below 10 16 ten (2 * w) n (always-below 10 16 ten less (2 * w) n)))
     (ap (λ (x : ℕ). Gives (Unsigned x)) (back 10 16 ten (2 * w) n h (always-below 10 16 ten less (2 * w) n)))
 
-unpacked-back : (w p : ℕ) → p < 16 ^ (2 * w) → T (allBelow 16 10 (2 * w) p) → packedAt w (unpackedDigits (2 * w) p) ≡ Gives (Unsigned p)
+unpacked-back : (w p : ℕ) → p < 16 ^ (2 * w) → T (digitsBelow 16 10 (2 * w) p) → packedAt w (unpackedDigits (2 * w) p) ≡ Gives (Unsigned p)
 unfolding packedAt pick
 unpacked-back w p h t =
     rw (lt-ltb (unpackedDigits (2 * w) p) (10 ^ (2 * w)) (recoded-lt 16 10 sixteen (2 * w) p t))
@@ -125,9 +125,9 @@ there-and-back w n p = go (ltb n (10 ^ (2 * w))) (ltb→lt n (10 ^ (2 * w)))
 
 pub back-and-there : (w p n : ℕ) → p < 16 ^ (2 * w) → unpackedAt w p ≡ Gives (Unsigned n) → packedAt w n ≡ Gives (Unsigned p)
 unfolding unpackedAt pick
-back-and-there w p n l = go (allBelow 16 10 (2 * w) p) (λ t. t)
+back-and-there w p n l = go (digitsBelow 16 10 (2 * w) p) (λ t. t)
   where
-    go : (b : Bool) → (T b → T (allBelow 16 10 (2 * w) p)) → pick b (Gives (Unsigned (unpackedDigits (2 * w) p))) NotHeld ≡ Gives (Unsigned n) → packedAt w n ≡ Gives (Unsigned p)
+    go : (b : Bool) → (T b → T (digitsBelow 16 10 (2 * w) p)) → pick b (Gives (Unsigned (unpackedDigits (2 * w) p))) NotHeld ≡ Gives (Unsigned n) → packedAt w n ≡ Gives (Unsigned p)
     go true h e = ap (λ (x : ℕ). packedAt w x) (sym (ap numberOf e)) ∙ unpacked-back w p l (h tt)
     go false h e = absurd (subst T (sym (ap isHeld e)) tt)
 
@@ -173,7 +173,7 @@ packed-unpacked t n q = go (ltb n (10 ^ (2 * w))) (ltb→lt n (10 ^ (2 * w)))
 -- and the other way round
 pub unpacked-packed : (t p n : ℕ) → p < 2 ^ (8 * widthOf t) → unpacked t p ≡ stores n → packed t n ≡ stores p
 unfolding packed unpacked unpackedAt pick stored patternOf
-unpacked-packed t p n room = go (allBelow 16 10 (2 * w) p) (λ x. x)
+unpacked-packed t p n room = go (digitsBelow 16 10 (2 * w) p) (λ x. x)
   where
     w : ℕ
     w = widthOf t
@@ -181,7 +181,7 @@ unpacked-packed t p n room = go (allBelow 16 10 (2 * w) p) (λ x. x)
     D : ℕ
     D = unpackedDigits (2 * w) p
 
-    go : (b : Bool) → (T b → T (allBelow 16 10 (2 * w) p)) → resultAs t (pick b (Gives (Unsigned D)) NotHeld) ≡ stores n → resultAs t (packedAt w n) ≡ stores p
+    go : (b : Bool) → (T b → T (digitsBelow 16 10 (2 * w) p)) → resultAs t (pick b (Gives (Unsigned D)) NotHeld) ≡ stores n → resultAs t (packedAt w n) ≡ stores p
     go true h e =
         let low : D < 2 ^ (8 * w) = lt-of-lt-of-le (recoded-lt 16 10 sixteen (2 * w) p (h tt)) (le-trans (tens (2 * w)) (le-of-eq (fours w))) in
         let same : n ≡ D = sym (ap patternIn e) ∙ mod-eq-of-lt low in
@@ -204,16 +204,16 @@ module _ (a b : ℕ) where
       left : (d i : ℕ) → d ≤ i → d - i ≡ 0
       left d i h = omega arith
 
-  pub step-below : (d i n : ℕ) → i < d → allBelow a b (d - i) n ≡ ltb (n % a) b && allBelow a b (d - (i + 1)) (n / a)
-  unfolding allBelow
-  step-below d i n h = ap (λ (k : ℕ). allBelow a b k n) (next d i h)
+  pub step-below : (d i n : ℕ) → i < d → digitsBelow a b (d - i) n ≡ ltb (n % a) b && digitsBelow a b (d - (i + 1)) (n / a)
+  unfolding digitsBelow
+  step-below d i n h = ap (λ (k : ℕ). digitsBelow a b k n) (next d i h)
     where
       next : (d i : ℕ) → i < d → d - i ≡ suc (d - (i + 1))
       next d i h = omega arith
 
-  pub none-below : (d i n : ℕ) → d ≤ i → allBelow a b (d - i) n ≡ true
-  unfolding allBelow
-  none-below d i n h = ap (λ (k : ℕ). allBelow a b k n) (left d i h)
+  pub none-below : (d i n : ℕ) → d ≤ i → digitsBelow a b (d - i) n ≡ true
+  unfolding digitsBelow
+  none-below d i n h = ap (λ (k : ℕ). digitsBelow a b k n) (left d i h)
     where
       left : (d i : ℕ) → d ≤ i → d - i ≡ 0
       left d i h = omega arith

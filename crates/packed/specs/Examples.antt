@@ -10,24 +10,24 @@ use Rattle.conversions.specs.Conversions.{Result, stores, not-held}
 use Rattle.packed.specs.Packed.{packed, unpacked}
 
 -- code byte, type, the source's pattern, and the result
-pub record Example : Type 0 where
+pub record PackedExample : Type 0 where
   pub code : ℕ
   pub type : ℕ
   pub source : ℕ
   pub result : Result
 
-abbrev example : ℕ → ℕ → ℕ → Result → Example
+abbrev example : ℕ → ℕ → ℕ → Result → PackedExample
 example c t p a = record { code = c; type = t; source = p; result = a }
 
-unfoldable pub given : Example → Result
+unfoldable pub packedGiven : PackedExample → Result
 unfolding packed unpacked
-given x = pick (eqb (x .code) 44) (packed (x .type) (x .source)) (unpacked (x .type) (x .source))
+packedGiven x = pick (eqb (x .code) 44) (packed (x .type) (x .source)) (unpacked (x .type) (x .source))
 
-unfoldable pub said : Example → Result
-said x = x .result
+unfoldable pub packedSaid : PackedExample → Result
+packedSaid x = x .result
 
-unfoldable pub examples : List Example
-examples =
+unfoldable pub packedExamples : List PackedExample
+packedExamples =
     example 44 2 98 (stores 152)
     ∷ example 45 2 152 (stores 98)
     ∷ example 44 2 100 not-held
@@ -36,6 +36,6 @@ examples =
     ∷ example 44 8 10000000000000000 not-held
     ∷ []
 
-pub examples-hold : map given examples ≡ map said examples
-unfolding given said examples pick patternOf widthOf
-examples-hold = refl
+pub packed-examples-hold : map packedGiven packedExamples ≡ map packedSaid packedExamples
+unfolding packedGiven packedSaid packedExamples pick patternOf widthOf
+packed-examples-hold = refl

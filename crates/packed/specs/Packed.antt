@@ -19,9 +19,9 @@ recoded a b zero n = 0
 recoded a b (suc d) n = n % a + b * recoded a b d (n / a)
 
 -- whether the lowest d digits of n in base a are below b
-unfoldable pub allBelow : ℕ → ℕ → ℕ → ℕ → Bool
-allBelow a b zero n = true
-allBelow a b (suc d) n = ltb (n % a) b && allBelow a b d (n / a)
+unfoldable pub digitsBelow : ℕ → ℕ → ℕ → ℕ → Bool
+digitsBelow a b zero n = true
+digitsBelow a b (suc d) n = ltb (n % a) b && digitsBelow a b d (n / a)
 
 -- whole to packed, and packed to whole, d digits
 abbrev pub packedDigits : ℕ → ℕ → ℕ
@@ -37,8 +37,8 @@ unfolding recoded
 packedAt w n = pick (ltb n (10 ^ (2 * w))) (Gives (Unsigned (packedDigits (2 * w) n))) NotHeld
 
 unfoldable pub unpackedAt : ℕ → ℕ → Converted
-unfolding recoded allBelow
-unpackedAt w p = pick (allBelow 16 10 (2 * w) p) (Gives (Unsigned (unpackedDigits (2 * w) p))) NotHeld
+unfolding recoded digitsBelow
+unpackedAt w p = pick (digitsBelow 16 10 (2 * w) p) (Gives (Unsigned (unpackedDigits (2 * w) p))) NotHeld
 
 -- ---- by type number: 2 BYTE, 4 WORD, 6 DWORD, 8 LWORD, whose patterns are the numbers
 

@@ -4,7 +4,7 @@ ghost use mathlib.Core.Path.{_≡_};
 ghost use Prim.Native.Nat.{ℕ, _+_, _*_, _/_, _^_, _≤_, _<_};
 ghost use lib.ListN.{length};
 ghost use Rattle.conversions.specs.Data.{ended};
-ghost use Rattle.packed.specs.Packed.{packedDigits, unpackedDigits, allBelow, packedAt, unpackedAt};
+ghost use Rattle.packed.specs.Packed.{packedDigits, unpackedDigits, digitsBelow, packedAt, unpackedAt};
 ghost use Rattle.packed.specs.Data.{packing, unpacking};
 use conversions::Conversion;
 use conversions::Converted;
@@ -41,7 +41,7 @@ fn pack(d: usize, n: u64) -> Digits
 
 // Whether the lowest d fours of bits are decimal digits.
 fn all_digits(d: usize, p: u64) -> bool
-    ensures { λ r. ⌜ r ≡ allBelow 16 10 d p ⌝ }
+    ensures { λ r. ⌜ r ≡ digitsBelow 16 10 d p ⌝ }
 {
     let mut rest = p;
     let mut i: usize = 0;

@@ -26,8 +26,8 @@ use Rattle.code.proofs.Sound.{Sound, sound}
 use Rattle.values.specs.Width.{Width}
 use Rattle.values.proofs.Commands.{last-code}
 use Rattle.commands.specs.declared.Operands.{Operands}
-use Rattle.commands.specs.Attempts.{Given}
-use Rattle.processor.specs.Executable.{Executable, Stands}
+use Rattle.commands.specs.Attempts.{OperandsGiven}
+use Rattle.processor.specs.Executable.{Executable, InstructionStands}
 use Rattle.processor.specs.Typed.{operandsAt, Low}
 
 -- ---- the typed commands by their code byte
@@ -125,15 +125,15 @@ module _ (c : List ℕ) (r : Registers) (d : List ℕ) (x : Executable c r d) wh
   pub inside-code : r .counter < length c
   inside-code = here .inside
 
-  pub stands : (op : ℕ) → byte c (r .counter) ≡ op → Stands op (lengthOf op) c r
+  pub stands : (op : ℕ) → byte c (r .counter) ≡ op → InstructionStands op (lengthOf op) c r
   stands op e = record { here = e; whole = rw e at (here .here .fixed); short = x .short }
 
-  pub stands-report : (op k : ℕ) → byte c (r .counter) ≡ op → op ≡ k → lengthOf k ≡ 3 → Stands op 3 c r
+  pub stands-report : (op k : ℕ) → byte c (r .counter) ≡ op → op ≡ k → lengthOf k ≡ 3 → InstructionStands op 3 c r
   stands-report op k e f l =
       let s = stands op e in
       record { here = e; whole = omega (arith, s .whole, ap lengthOf f ∙ l); short = x .short }
 
-  pub stands-constant : byte c (r .counter) ≡ 6 → Stands 6 (4 + byte c (r .counter + 3)) c r
+  pub stands-constant : byte c (r .counter) ≡ 6 → InstructionStands 6 (4 + byte c (r .counter + 3)) c r
   unfolding instructionLength lengthOf rowOf pick kindAt
   stands-constant e =
       let l : r .counter + (4 + byte c (r .counter + 3)) ≤ length c = rw e at (here .here .inside) in
@@ -145,7 +145,7 @@ module _ (c : List ℕ) (r : Registers) (d : List ℕ) (x : Executable c r d) wh
   element-size op (inr z) e = width-listed _ (both-true _ _ (rw (e, z) at (here .here .listed)) .0)
 
   pub stands-element : (op : ℕ) → byte c (r .counter) ≡ op → 4 ≤ op → op < 10 → (op ≡ 4 → ⊥) → (op ≡ 5 → ⊥) → (op ≡ 6 → ⊥) → (op ≡ 7 → ⊥)
-      → ((op ≡ 8) ⊎ (op ≡ 9)) × Stands op 10 c r × Width (byte c (r .counter + 7))
+      → ((op ≡ 8) ⊎ (op ≡ 9)) × InstructionStands op 10 c r × Width (byte c (r .counter + 7))
   unfolding lengthOf rowOf pick kindAt
   stands-element op e k h n4 n5 n6 n7 =
       let o : (op ≡ 8) ⊎ (op ≡ 9) = two-of 8 op h (omega arith) in
@@ -154,7 +154,7 @@ module _ (c : List ℕ) (r : Registers) (d : List ℕ) (x : Executable c r d) wh
       (o, record { here = e; whole = omega (arith, s .whole); short = x .short }, element-size op o e)
 
   -- a conversion: both types are numbers
-  pub stands-conversion : byte c (r .counter) ≡ 43 → Stands 43 7 c r × (byte c (r .counter + 1) < 12) × (byte c (r .counter + 2) < 12)
+  pub stands-conversion : byte c (r .counter) ≡ 43 → InstructionStands 43 7 c r × (byte c (r .counter + 1) < 12) × (byte c (r .counter + 2) < 12)
   unfolding instructionAt typedAt lengthOf rowOf pick kindAt
   stands-conversion e =
       let l : convertible (byte c (r .counter + 1)) (byte c (r .counter + 2)) ≡ true = rw e at (here .here .listed) in
@@ -168,11 +168,11 @@ module _ (c : List ℕ) (r : Registers) (d : List ℕ) (x : Executable c r d) wh
   packed-type : {t : ℕ} → packable t ≡ true → t < 12
   packed-type {t} f = omega (arith, inside-true 2 8 t (both-true (within 2 8 t) _ f .0) .1)
 
-  pub stands-packing : byte c (r .counter) ≡ 44 → Stands 44 6 c r × (byte c (r .counter + 1) < 12)
+  pub stands-packing : byte c (r .counter) ≡ 44 → InstructionStands 44 6 c r × (byte c (r .counter + 1) < 12)
   unfolding instructionAt typedAt lengthOf rowOf pick kindAt
   stands-packing e = let l : packable (byte c (r .counter + 1)) ≡ true = rw e at (here .here .listed) in (stands 44 e, packed-type l)
 
-  pub stands-unpacking : byte c (r .counter) ≡ 45 → Stands 45 6 c r × (byte c (r .counter + 1) < 12)
+  pub stands-unpacking : byte c (r .counter) ≡ 45 → InstructionStands 45 6 c r × (byte c (r .counter + 1) < 12)
   unfolding instructionAt typedAt lengthOf rowOf pick kindAt
   stands-unpacking e = let l : packable (byte c (r .counter + 1)) ≡ true = rw e at (here .here .listed) in (stands 45 e, packed-type l)
 
@@ -183,14 +183,14 @@ module _ (c : List ℕ) (r : Registers) (d : List ℕ) (x : Executable c r d) wh
   typed-taken : (op n : ℕ) → TypedAt c (r .counter) op n → takes op (byte c (r .counter + 1)) ≡ true
   typed-taken op n t = rw (t .is) at (here .here .listed)
 
-  pub typed-given : (op n : ℕ) (o : Operands) → TypedAt c (r .counter) op n → (o ≡ operandsAt n c r) × Low o → Given op o
+  pub typed-given : (op n : ℕ) (o : Operands) → TypedAt c (r .counter) op n → (o ≡ operandsAt n c r) × Low o → OperandsGiven op o
   typed-given op n o t e = record { taken = rw (e .0) (typed-taken op n t); to-low = e .1 .0; first-low = e .1 .1; second-low = e .1 .2 }
 
   -- the same of a command with three addresses, by its code byte
   pub three-inside : (op : ℕ) → byte c (r .counter) ≡ op → three op ≡ true → (r .counter + 8 ≤ length c) × (length c ≤ 8192)
   three-inside op e t = typed-inside op 6 (three-here c (r .counter) op e t)
 
-  pub three-given : (op : ℕ) (o : Operands) → byte c (r .counter) ≡ op → three op ≡ true → (o ≡ operandsAt 6 c r) × Low o → Given op o
+  pub three-given : (op : ℕ) (o : Operands) → byte c (r .counter) ≡ op → three op ≡ true → (o ≡ operandsAt 6 c r) × Low o → OperandsGiven op o
   three-given op o e t = typed-given op 6 o (three-here c (r .counter) op e t)
 
   pub next-fits : Fits w16 (r .counter + 8)

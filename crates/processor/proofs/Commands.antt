@@ -31,7 +31,7 @@ use Rattle.conversions.specs.Data.{Ended, ended, settled, tried, converting}
 use Rattle.packed.specs.Packed.{packed, unpacked}
 use Rattle.packed.specs.Data.{packing, unpacking}
 use Rattle.processor.specs.Executable.{Reports}
-use Rattle.processor.specs.Processor.{placeOf, answer, branched, called, passed, decided, faultIf, changed, elementAt, ofElement, ofConversion, dataPart, executed}
+use Rattle.processor.specs.Processor.{placeOf, answer, branched, callMade, passed, decided, faultIf, changed, elementAt, ofElement, ofConversion, dataPart, executed}
 use Rattle.processor.specs.Typed.{operandsAt, outcomeBy, conversionOutcome}
 use Rattle.processor.proofs.Accepted.{TypedAt, three-here, three-given, next-fits}
 
@@ -77,7 +77,7 @@ module _ (c : List ℕ) (r : Registers) (d : List ℕ) where
   call-instance-at : byte c (r .counter) ≡ 4
       → executed c r d
       ≡ pick (eqb (r .depth) 16) (halted 5 d)
-      (called (r .counter + 5) (wordAt 3) d
+      (callMade (r .counter + 5) (wordAt 3) d
       (faultIf (leb (length d) (operandAt 1)) 4 (decided false (operandAt 1) d)))
   unfolding executed dataPart instructionAt instructionLength lengthOf rowOf pick kindAt targetAt
   call-instance-at e = rw e

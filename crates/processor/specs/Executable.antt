@@ -17,7 +17,7 @@ pub record Executable (c : List ℕ) (r : Registers) (d : List ℕ) : Type 0 whe
   pub small : length d ≤ 4096
 
 -- the instruction at the program counter has this code byte, and n bytes of it lie in the code
-pub record Stands (code n : ℕ) (c : List ℕ) (r : Registers) : Type 0 where
+pub record InstructionStands (code n : ℕ) (c : List ℕ) (r : Registers) : Type 0 where
   pub here : byte c (r .counter) ≡ code
   pub whole : r .counter + n ≤ length c
   pub short : length c ≤ 8192

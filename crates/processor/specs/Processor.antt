@@ -110,9 +110,9 @@ abbrev pub branched : ℕ → ℕ → List ℕ → Decided → Executed
 branched next target d (refused b) = halted b d
 branched next target d (decided made offset m) = answer (Next (pick made target next)) d
 
-abbrev pub called : ℕ → ℕ → List ℕ → Decided → Executed
-called next target d (refused b) = halted b d
-called next target d (decided made offset m) = answer (Call next target offset) d
+abbrev pub callMade : ℕ → ℕ → List ℕ → Decided → Executed
+callMade next target d (refused b) = halted b d
+callMade next target d (decided made offset m) = answer (Call next target offset) d
 
 abbrev pub passed : ℕ → List ℕ → Decided → Executed
 passed next d (refused b) = halted b d
@@ -124,7 +124,7 @@ abbrev pub controlled : Kind → ℕ → ℕ → ℕ → List ℕ → Decided �
 controlled Returns next target depth d x = answer Returned d
 controlled Jumps next target depth d x = answer (Next target) d
 controlled Branches next target depth d x = branched next target d x
-controlled Calls next target depth d x = pick (eqb depth 16) (halted callBit d) (called next target d x)
+controlled Calls next target depth d x = pick (eqb depth 16) (halted callBit d) (callMade next target d x)
 controlled Passes next target depth d x = passed next d x
 
 -- ---- one instruction

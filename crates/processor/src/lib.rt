@@ -16,7 +16,7 @@ ghost use Rattle.values.specs.Width.{Width};
 ghost use Rattle.values.specs.Commands.{beyond, anyBeyond};
 ghost use Rattle.processor.specs.Processor.{placeOf, answer, executed};
 ghost use Rattle.processor.specs.Typed.{operandsAt, Low, outcomeOf, conversionOutcome};
-ghost use Rattle.processor.specs.Executable.{Executable, Stands, Reports};
+ghost use Rattle.processor.specs.Executable.{Executable, InstructionStands, Reports};
 
 // The entries of the table of lengths that lead to the next instruction.
 const BRANCH: u16 = code::LENGTHS[2] as u16;
@@ -97,7 +97,7 @@ fn any_beyond(size: usize, p: usize, n: usize, q: usize, m: usize) -> bool
 
 // JZ and JNZ, by the code byte.
 fn branch(op: u8, r: Registers, code: &[u8], d: &[u8]) -> Outcome
-    requires { ⌜ ((op ≡ 2) ⊎ (op ≡ 3)) × Stands op 5 (now code) r ⌝ }
+    requires { ⌜ ((op ≡ 2) ⊎ (op ≡ 3)) × InstructionStands op 5 (now code) r ⌝ }
     ensures { λ o. ⌜ answer o (now (d .entry)) ≡ executed (now (code .entry)) r (now (d .entry)) ⌝ }
 {
     let p = r.counter as usize;
@@ -118,7 +118,7 @@ const DEEPEST: u8 = 16;
 
 // CALB
 fn call_instance(r: Registers, code: &[u8], d: &[u8]) -> Outcome
-    requires { ⌜ Stands 4 5 (now code) r × (length (now d) ≤ 4096) ⌝ }
+    requires { ⌜ InstructionStands 4 5 (now code) r × (length (now d) ≤ 4096) ⌝ }
     ensures { λ o. ⌜ answer o (now (d .entry)) ≡ executed (now (code .entry)) r (now (d .entry)) ⌝ }
 {
     if r.depth == DEEPEST {
@@ -134,7 +134,7 @@ fn call_instance(r: Registers, code: &[u8], d: &[u8]) -> Outcome
 
 // CALF
 fn call_function(r: Registers, code: &[u8], d: &[u8]) -> Outcome
-    requires { ⌜ Stands 5 3 (now code) r ⌝ }
+    requires { ⌜ InstructionStands 5 3 (now code) r ⌝ }
     ensures { λ o. ⌜ answer o (now (d .entry)) ≡ executed (now (code .entry)) r (now (d .entry)) ⌝ }
 {
     if r.depth == DEEPEST {
@@ -148,7 +148,7 @@ fn call_function(r: Registers, code: &[u8], d: &[u8]) -> Outcome
 
 // MCD
 fn move_constant(r: Registers, code: &[u8], d: &mut [u8]) -> Outcome
-    requires { ⌜ Stands 6 (4 + byte (now code) (r .counter + 3)) (now code) r ⌝ }
+    requires { ⌜ InstructionStands 6 (4 + byte (now code) (r .counter + 3)) (now code) r ⌝ }
     ensures { λ o. ⌜ answer o (now (d .exit)) ≡ executed (now (code .entry)) r (now (d .entry)) ⌝ }
 {
     let p = r.counter as usize;
@@ -163,7 +163,7 @@ fn move_constant(r: Registers, code: &[u8], d: &mut [u8]) -> Outcome
 
 // MEMCP
 fn copy_memory(r: Registers, code: &[u8], d: &mut [u8]) -> Outcome
-    requires { ⌜ Stands 7 7 (now code) r × (length (now d) ≤ 4096) ⌝ }
+    requires { ⌜ InstructionStands 7 7 (now code) r × (length (now d) ≤ 4096) ⌝ }
     ensures { λ o. ⌜ answer o (now (d .exit)) ≡ executed (now (code .entry)) r (now (d .entry)) ⌝ }
 {
     let p = r.counter as usize;
@@ -212,7 +212,7 @@ fn element_place(array: usize, i: u16, size: usize) -> usize
 
 // AURD and AUWD, by the code byte.
 fn access_element(op: u8, r: Registers, code: &[u8], d: &mut [u8]) -> Outcome
-    requires { ⌜ ((op ≡ 8) ⊎ (op ≡ 9)) × Stands op 10 (now code) r × Width (byte (now code) (r .counter + 7)) ⌝ }
+    requires { ⌜ ((op ≡ 8) ⊎ (op ≡ 9)) × InstructionStands op 10 (now code) r × Width (byte (now code) (r .counter + 7)) ⌝ }
     ensures { λ o. ⌜ answer o (now (d .exit)) ≡ executed (now (code .entry)) r (now (d .entry)) ⌝ }
 {
     let p = r.counter as usize;
@@ -293,7 +293,7 @@ fn store_number(
     width: usize,
     value: u64,
 ) -> Outcome
-    requires { ⌜ Reports op r width value × Stands op 3 (now code) r ⌝ }
+    requires { ⌜ Reports op r width value × InstructionStands op 3 (now code) r ⌝ }
     ensures { λ o. ⌜ answer o (now (d .exit)) ≡ executed (now (code .entry)) r (now (d .entry)) ⌝ }
 {
     let p = r.counter as usize;
@@ -320,7 +320,7 @@ fn conversion_outcome(conversion: Conversion, next: u16) -> Outcome
 
 // 43
 fn convert(r: Registers, code: &[u8], d: &mut [u8]) -> Outcome
-    requires { ⌜ Stands 43 7 (now code) r × (byte (now code) (r .counter + 1) < 12) × (byte (now code) (r .counter + 2) < 12) ⌝ }
+    requires { ⌜ InstructionStands 43 7 (now code) r × (byte (now code) (r .counter + 1) < 12) × (byte (now code) (r .counter + 2) < 12) ⌝ }
     ensures { λ o. ⌜ answer o (now (d .exit)) ≡ executed (now (code .entry)) r (now (d .entry)) ⌝ }
 {
     let p = r.counter as usize;
@@ -336,7 +336,7 @@ fn convert(r: Registers, code: &[u8], d: &mut [u8]) -> Outcome
 
 // 44
 fn pack(r: Registers, code: &[u8], d: &mut [u8]) -> Outcome
-    requires { ⌜ Stands 44 6 (now code) r × (byte (now code) (r .counter + 1) < 12) ⌝ }
+    requires { ⌜ InstructionStands 44 6 (now code) r × (byte (now code) (r .counter + 1) < 12) ⌝ }
     ensures { λ o. ⌜ answer o (now (d .exit)) ≡ executed (now (code .entry)) r (now (d .entry)) ⌝ }
 {
     let o = single(r, code);
@@ -348,7 +348,7 @@ fn pack(r: Registers, code: &[u8], d: &mut [u8]) -> Outcome
 
 // 45
 fn unpack(r: Registers, code: &[u8], d: &mut [u8]) -> Outcome
-    requires { ⌜ Stands 45 6 (now code) r × (byte (now code) (r .counter + 1) < 12) ⌝ }
+    requires { ⌜ InstructionStands 45 6 (now code) r × (byte (now code) (r .counter + 1) < 12) ⌝ }
     ensures { λ o. ⌜ answer o (now (d .exit)) ≡ executed (now (code .entry)) r (now (d .entry)) ⌝ }
 {
     let o = single(r, code);

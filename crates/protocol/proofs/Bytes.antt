@@ -9,7 +9,7 @@ use native.Mathlib.Omega.{arith}
 use lib.Dec.{T}
 use Rattle.verdict.specs.Verdict.{pick}
 use Rattle.protocol.specs.State.{State, Move, Task}
-use Rattle.protocol.specs.Variables.{Variable, local, writesIt, readsIt, span, moves, readsOf, writesOf, In, Pairwise, Clear, Accepted}
+use Rattle.protocol.specs.Variables.{Variable, local, writesIt, readsIt, span, movesOf, readsOf, writesOf, In, Pairwise, Clear, Accepted}
 use Rattle.protocol.proofs.Copy.{Distinct, Sound}
 
 -- ---- membership
@@ -98,19 +98,19 @@ module _ (named : Variable → Bool) (from to : Variable → ℕ) where
   own-named : (v : Variable) (m : Move) → In m (own v) → T (named v)
   own-named v m h = pick-in m (span (v .width) (from v) (to v)) (named v) h .0
 
-  owner : (vs : List Variable) (m : Move) → In m (moves named from to vs) → Owner named to vs m
+  owner : (vs : List Variable) (m : Move) → In m (movesOf named from to vs) → Owner named to vs m
   owner [] m h = absurd h
-  owner (v ∷ vs) m h = go (λ i. owner vs m i) (in-append m (own v) (moves named from to vs) h)
+  owner (v ∷ vs) m h = go (λ i. owner vs m i) (in-append m (own v) (movesOf named from to vs) h)
     where
-      go : (In m (moves named from to vs) → Owner named to vs m) → In m (own v) ⊎ In m (moves named from to vs) → Owner named to (v ∷ vs) m
+      go : (In m (movesOf named from to vs) → Owner named to vs m) → In m (own v) ⊎ In m (movesOf named from to vs) → Owner named to (v ∷ vs) m
       go f (inl i) = record { var = v; among = inl refl; name = own-named v m i; inside = own-inside v m i }
       go f (inr j) = record { var = f j .var; among = inr (f j .among); name = f j .name; inside = f j .inside }
 
   moves-distinct : (vs : List Variable) → Pairwise (λ v u. T (named v) → T (named u) → Clear (to v) (v .width) (to u) (u .width)) vs
-      → Distinct (moves named from to vs)
+      → Distinct (movesOf named from to vs)
   moves-distinct [] p = tt
   moves-distinct (v ∷ vs) p =
-      distinct-append (own v) (moves named from to vs)
+      distinct-append (own v) (movesOf named from to vs)
       (pick-distinct (span (v .width) (from v) (to v)) (named v) (span-distinct (v .width) (from v) (to v)))
       (moves-distinct vs (p .1))
       (λ a b i j e.
@@ -118,25 +118,25 @@ module _ (named : Variable → Bool) (from to : Variable → ℕ) where
       clear-apart (v .width) (o .var .width) (p .0 (o .var) (o .among) (own-named v a i) (o .name)) (own-inside v a i) (o .inside) (sym e))
 
   pub moves-in : (vs : List Variable) (v : Variable) → In v vs → T (named v) → (i : ℕ) → i < v .width
-      → In record { source = from v + i; target = to v + i } (moves named from to vs)
+      → In record { source = from v + i; target = to v + i } (movesOf named from to vs)
   moves-in [] v h t i l = absurd h
   moves-in (u ∷ vs) v (inl e) t i l =
-      in-left _ (own u) (moves named from to vs) (subst (λ (u : Variable). In record { source = from v + i; target = to v + i } (own u)) e
+      in-left _ (own u) (movesOf named from to vs) (subst (λ (u : Variable). In record { source = from v + i; target = to v + i } (own u)) e
       (in-pick _ (span (v .width) (from v) (to v)) (named v) t (span-in (v .width) (from v) (to v) i l)))
-  moves-in (u ∷ vs) v (inr h) t i l = in-right _ (own u) (moves named from to vs) (moves-in vs v h t i l)
+  moves-in (u ∷ vs) v (inr h) t i l = in-right _ (own u) (movesOf named from to vs) (moves-in vs v h t i l)
 
 -- bytes that two cores write are apart, where no variable has two writers
 module _ (one two : Variable → Bool) (from from′ to : Variable → ℕ) where
   pub apart : (vs : List Variable) → ((v : Variable) → In v vs → T (one v) → T (two v) → ⊥) → Pairwise (λ v u. Clear (to v) (v .width) (to u) (u .width)) vs
-      → (a b : Move) → In a (moves one from to vs) → In b (moves two from′ to vs) → a .target ≢ b .target
+      → (a b : Move) → In a (movesOf one from to vs) → In b (movesOf two from′ to vs) → a .target ≢ b .target
   apart [] n p a b i j = absurd i
   apart (v ∷ vs) n p a b i j =
       go (λ x y. apart vs (λ u h. n u (inr h)) (p .1) a b x y)
-      (in-append a (own one from to v) (moves one from to vs) i)
-      (in-append b (own two from′ to v) (moves two from′ to vs) j)
+      (in-append a (own one from to v) (movesOf one from to vs) i)
+      (in-append b (own two from′ to v) (movesOf two from′ to vs) j)
     where
-      go : (In a (moves one from to vs) → In b (moves two from′ to vs) → a .target ≢ b .target)
-          → In a (own one from to v) ⊎ In a (moves one from to vs) → In b (own two from′ to v) ⊎ In b (moves two from′ to vs) → a .target ≢ b .target
+      go : (In a (movesOf one from to vs) → In b (movesOf two from′ to vs) → a .target ≢ b .target)
+          → In a (own one from to v) ⊎ In a (movesOf one from to vs) → In b (own two from′ to v) ⊎ In b (movesOf two from′ to vs) → a .target ≢ b .target
       go f (inl x) (inl y) = absurd (n v (inl refl) (own-named one from to v a x) (own-named two from′ to v b y))
       go f (inl x) (inr y) =
           let o = owner two from′ to vs b y in

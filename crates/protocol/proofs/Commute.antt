@@ -14,7 +14,7 @@ use Rattle.protocol.specs.State.{Core, Plant, State, Task, Move, Sample,
 use Rattle.protocol.specs.Step.{Taking, reading, writing, copy, readTaken, readDone, writeDone}
 use Rattle.protocol.specs.Whole.{execute, wholeRead, wholeWrite, wholeOne}
 use Rattle.verdict.specs.Verdict.{pick, both, either}
-use Rattle.protocol.specs.Variables.{In, Variable, local, writesIt, readsIt, span, moves, readsOf, writesOf, Accepted}
+use Rattle.protocol.specs.Variables.{In, Variable, local, writesIt, readsIt, span, movesOf, readsOf, writesOf, Accepted}
 use Rattle.protocol.specs.Cycles.{readsFrom}
 use Rattle.protocol.proofs.Copy.{copy-other}
 use Rattle.protocol.proofs.Bytes.{in-append, in-left, in-right, apart}
@@ -154,13 +154,13 @@ unfolding pick
 pick-turned true n a b m h = span-turned n a b m h
 pick-turned false n a b m h = absurd h
 
-moves-turned : (named : Variable → Bool) (from to : Variable → ℕ) (vs : List Variable) (m : Move) → In m (moves named from to vs) → In (turned m) (moves named to from vs)
+moves-turned : (named : Variable → Bool) (from to : Variable → ℕ) (vs : List Variable) (m : Move) → In m (movesOf named from to vs) → In (turned m) (movesOf named to from vs)
 moves-turned named from to [] m h = absurd h
-moves-turned named from to (v ∷ vs) m h = go (λ i. moves-turned named from to vs m i) (in-append m (pick (named v) (span (v .width) (from v) (to v)) []) (moves named from to vs) h)
+moves-turned named from to (v ∷ vs) m h = go (λ i. moves-turned named from to vs m i) (in-append m (pick (named v) (span (v .width) (from v) (to v)) []) (movesOf named from to vs) h)
   where
-    go : (In m (moves named from to vs) → In (turned m) (moves named to from vs)) → In m (pick (named v) (span (v .width) (from v) (to v)) []) ⊎ In m (moves named from to vs) → In (turned m) (moves named to from (v ∷ vs))
-    go f (inl i) = in-left (turned m) (pick (named v) (span (v .width) (to v) (from v)) []) (moves named to from vs) (pick-turned (named v) (v .width) (from v) (to v) m i)
-    go f (inr i) = in-right (turned m) (pick (named v) (span (v .width) (to v) (from v)) []) (moves named to from vs) (f i)
+    go : (In m (movesOf named from to vs) → In (turned m) (movesOf named to from vs)) → In m (pick (named v) (span (v .width) (from v) (to v)) []) ⊎ In m (movesOf named from to vs) → In (turned m) (movesOf named to from (v ∷ vs))
+    go f (inl i) = in-left (turned m) (pick (named v) (span (v .width) (to v) (from v)) []) (movesOf named to from vs) (pick-turned (named v) (v .width) (from v) (to v) m i)
+    go f (inr i) = in-right (turned m) (pick (named v) (span (v .width) (to v) (from v)) []) (movesOf named to from vs) (f i)
 
 reads-it : (vs : List Variable) (r w : ℕ) (v : Variable) → In v vs → T (readsIt r v) → T (writesIt w v) → T (readsFrom vs r w)
 reads-it [] r w v i a b = absurd i

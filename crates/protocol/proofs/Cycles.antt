@@ -16,7 +16,7 @@ use Rattle.protocol.specs.State.{Core, Plant, State, Task, Sample, absen
 use Rattle.protocol.specs.Step.{Taking, reading, writing, readTaken, readNext, readDone, writeTaken, writeNext, writeDone, run, step, takings, takingOf}
 use Rattle.protocol.specs.Whole.{whole, wholeOne}
 use Rattle.verdict.specs.Verdict.{either}
-use Rattle.protocol.specs.Laws.{Laws, Between, Fresh, Held, Holding}
+use Rattle.protocol.specs.Laws.{Laws, Between, FreshStart, SemaphoreHeld, Holding}
 use Rattle.protocol.specs.Variables.{Variable, readsOf, writesOf, Accepted}
 use Rattle.protocol.specs.Cycles.{readsFrom, lineBetween, OneWay, NoRing, cycle, cycles, EachRuns, begun, howOften, Serial}
 use Rattle.protocol.proofs.View.{at, readByte, Moves, rests, waits, takesRead, readsOn, readsLast, runs, takesWrite, writesOn, writesLast, view}
@@ -81,7 +81,7 @@ alternates t l k (j ∷ ks) s b h = go (ℕ-discrete k j) (λ b h. alternates t 
         let o : (at (step t j s) k ≡ at s k) × ((b : Bool) (rest : List Taking) → Alternate k b rest → Alternate k b (takingOf t j s ++ rest)) = others t k s j n (step t j s) (takingOf t j s) (view t j s) in
         o .1 b (takings t ks (step t j s)) (r b (subst (λ (c : Core). Fits b (c .registers .mode)) (sym (o .0)) h))
 
-fresh-alternates : (t : Task) → Laws t → (s : State) → Fresh s → (ks : List ℕ) (k : ℕ) → Alternate k false (takings t ks s)
+fresh-alternates : (t : Task) → Laws t → (s : State) → FreshStart s → (ks : List ℕ) (k : ℕ) → Alternate k false (takings t ks s)
 fresh-alternates t l s f ks k = alternates t l k ks s false (go (f .between k))
   where
     go : (at s k .registers .mode ≡ 0) ⊎ (at s k .registers .mode ≡ 5) → Fits false (at s k .registers .mode)
@@ -115,7 +115,7 @@ legal-step t k s w sim s′ ts (takesWrite i f b e) rest h = (tt, h)
 legal-step t k s w sim s′ ts (writesOn m ms i e d) rest h = h
 legal-step t k s w sim s′ ts (writesLast i e d) rest h = h
 
-legal : (t : Task) → Laws t → (ks : List ℕ) (s : State) (w : Plant) → Sim t s w → Held s → Legal t (takings t ks s) w
+legal : (t : Task) → Laws t → (ks : List ℕ) (s : State) (w : Plant) → Sim t s w → SemaphoreHeld s → Legal t (takings t ks s) w
 legal t l [] s w sim hd = tt
 legal t l (k ∷ ks) s w sim hd =
     legal-step t k s w sim (step t k s) (takingOf t k s) (view t k s) (takings t ks (step t k s))
@@ -192,7 +192,7 @@ calm : (m n : ℕ) → m ≡ n → n ≢ 1 → n ≢ 4 → (m ≡ 1) ⊎ (m ≡ 
 calm m n e a b (inl f) = a (sym e ∙ f)
 calm m n e a b (inr f) = b (sym e ∙ f)
 
-free-end : (s : State) → Held s → Between s → s .semaphore .holder ≡ 0
+free-end : (s : State) → SemaphoreHeld s → Between s → s .semaphore .holder ≡ 0
 free-end s used b = go (s .semaphore .holder) refl
   where
     off : (h : ℕ) → (at s h .registers .mode ≡ 0) ⊎ (at s h .registers .mode ≡ 5) → Holding (at s h) → ⊥
@@ -212,7 +212,7 @@ swaps t vs s er ew ok (reading i) (writing j) n p = swap-read-write t i j (n .0)
 swaps t vs s er ew ok (writing i) (reading j) n p = sym (swap-read-write t j i (λ e. n .0 (sym e)) (rw (er, ew) (apart-bytes vs s ok j i (n .1))) p)
 swaps t vs s er ew ok (writing i) (writing j) n p = swap-writes t i j n (λ a b. sound t s vs er ew ok .one-writer i j n a b) p
 
-pub whole-cycles : (t : Task) (vs : List Variable) (s : State) → t .reads ≡ readsOf vs → t .writes ≡ writesOf vs → Laws t → Fresh s → Accepted vs s
+pub whole-cycles : (t : Task) (vs : List Variable) (s : State) → t .reads ≡ readsOf vs → t .writes ≡ writesOf vs → Laws t → FreshStart s → Accepted vs s
     → OneWay (readsFrom vs) → NoRing (lineBetween vs) → (ks : List ℕ) → Between (run t ks s) → Serial t s ks
 whole-cycles t vs s er ew l f ok one none ks b =
     let e : run t ks s .plant ≡ whole t (takings t ks s) (s .plant) = as-whole t l s f ks (λ k. between-still (at (run t ks s) k) (b k)) in

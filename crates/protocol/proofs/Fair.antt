@@ -17,8 +17,8 @@ use Rattle.protocol.specs.Step.{turnIn, released, Taking, readTaken, rea
 use Rattle.protocol.specs.Whole.{whole}
 use Rattle.verdict.specs.Verdict.{pick, both}
 use Rattle.verdict.proofs.Truth.{holds, fails}
-use Rattle.protocol.specs.Laws.{Laws, Fresh, Holding, Held}
-use Rattle.protocol.specs.Fair.{Once, FitLine, firstIn, first, releases, endOf, endsSeen, Fair}
+use Rattle.protocol.specs.Laws.{Laws, FreshStart, Holding, SemaphoreHeld}
+use Rattle.protocol.specs.Fair.{Once, FitLine, firstIn, firstInLine, releases, endOf, endsSeen, Fair}
 use Rattle.protocol.proofs.View.{Wants as ViewWants, after, at, Moves, rests, waits, takesRead, readsOn, readsLast, runs, takesWrite, writesOn, writesLast, view, inside, filled}
 use borrow.Author.Tests.{ne-eqb as eqb-off}
 use Rattle.protocol.proofs.Steps.{each, run-append, lengths-run, held-step, held-fresh, held-run}
@@ -188,7 +188,7 @@ Supplied t cs = (j : ℕ) → 1 ≤ getD cs j absent .registers .mode → getD c
 -- the line is fit, the holder is in an exchange
 pub record Lined (t : Task) (s : State) : Type 0 where
   pub fit : FitLine t s
-  pub held : Held s
+  pub held : SemaphoreHeld s
   pub supplied : Supplied t (s .plant .cores)
 
 module _ (t : Task) (l : Laws t) (k : ℕ) (s : State) (x : Lined t s) where
@@ -277,7 +277,7 @@ lined-run t l (k ∷ ks) s x = lined-run t l ks (step t k s) (lined-step t l k s
 nobody-in : (q : List ℕ) → q ≡ [] → (j : ℕ) → T (inLine j q) → ⊥
 nobody-in q e j f = rw e at f
 
-lined-fresh : (t : Task) (s : State) → Fresh s → Lined t s
+lined-fresh : (t : Task) (s : State) → FreshStart s → Lined t s
 lined-fresh t s f = record {
   fit = record {
     once = rw (f .empty) tt;
@@ -348,7 +348,7 @@ record Nearer (k j : ℕ) (s s′ : State) : Type 0 where
   in-line : T (inLine k (s′ .semaphore .line))
   less : endOf k j s s′ + far k s′ ≤ far k s
 
-module _ (t : Task) (l : Laws t) (k j : ℕ) (s : State) (hd : Held s) (stands : T (inLine k (s .semaphore .line))) (later : first k s ≡ false) where
+module _ (t : Task) (l : Laws t) (k j : ℕ) (s : State) (hd : SemaphoreHeld s) (stands : T (inLine k (s .semaphore .line))) (later : firstInLine k s ≡ false) where
   there : (c : Core) → j < length (s .plant .cores) → getD (set (s .plant .cores) j c) j absent ≡ c
   there c i = getD-set-same (s .plant .cores) j c absent i
 
@@ -388,13 +388,13 @@ module _ (t : Task) (l : Laws t) (k j : ℕ) (s : State) (hd : Held s) (stands :
 
 -- ---- lists of steps
 
-seen-far : (t : Task) → Laws t → (k : ℕ) (js : List ℕ) (s : State) → Held s → T (inLine k (s .semaphore .line)) → endsSeen t k js s ≤ far k s
+seen-far : (t : Task) → Laws t → (k : ℕ) (js : List ℕ) (s : State) → SemaphoreHeld s → T (inLine k (s .semaphore .line)) → endsSeen t k js s ≤ far k s
 unfolding pick
 seen-far t l k [] s hd f = omega arith
 seen-far t l k (j ∷ js) s hd f =
-    go (first k s) refl (seen-far t l k js (step t j s) (held-step t l j s hd))
+    go (firstInLine k s) refl (seen-far t l k js (step t j s) (held-step t l j s hd))
   where
-    go : (b : Bool) → first k s ≡ b → (T (inLine k (step t j s .semaphore .line)) → endsSeen t k js (step t j s) ≤ far k (step t j s)) → pick b 0 (endOf k j s (step t j s) + endsSeen t k js (step t j s)) ≤ far k s
+    go : (b : Bool) → firstInLine k s ≡ b → (T (inLine k (step t j s .semaphore .line)) → endsSeen t k js (step t j s) ≤ far k (step t j s)) → pick b 0 (endOf k j s (step t j s) + endsSeen t k js (step t j s)) ≤ far k s
     go true e again = omega arith
     go false e again =
         let n : Nearer k j s (step t j s) = near-step t l k j s hd f e (step t j s) (takingOf t j s) (view t j s) in
@@ -430,7 +430,7 @@ far-most t k s x f = go (s .semaphore .holder) refl
         let b : length (j ∷ s .semaphore .line) ≤ length (s .plant .cores) = few-below (length (s .plant .cores)) (j ∷ s .semaphore .line) (fails _ (out j e), x .fit .once) (λ i g. all j e i (line-cases i j (s .semaphore .line) g)) in
         omega (arith, ahead-less k (s .semaphore .line) f)
 
-module _ (t : Task) (l : Laws t) (s : State) (fresh : Fresh s) where
+module _ (t : Task) (l : Laws t) (s : State) (fresh : FreshStart s) where
   -- at any moment at which core k stands in the line
   pub few-at : (before after : List ℕ) (k : ℕ) → T (inLine k (run t before s .semaphore .line)) → endsSeen t k after (run t before s) ≤ length (s .plant .cores) - 1
   few-at before after k f =

@@ -14,7 +14,7 @@ use Rattle.protocol.specs.declared.Outcome.the-variants.{Fault, Next, Ca
 use Rattle.protocol.specs.Registers.{advanced, called, returned, cycleEnded, faulted}
 use Rattle.protocol.specs.State.{Core, Task, absent, mode}
 use Rattle.protocol.specs.Instruction.{Executed, backFrom, appliedBy, applied, halted, limited, instructionBy}
-use Rattle.protocol.specs.Laws.{Laws, Fresh}
+use Rattle.protocol.specs.Laws.{Laws, FreshStart}
 use Rattle.protocol.specs.Fresh.{freshCore, fresh, zeros, freshZero}
 
 -- ---- the one duty of an instruction
@@ -95,8 +95,8 @@ between (m ∷ ms) zero = inl refl
 between (m ∷ ms) (suc k) = between ms k
 
 -- whatever its memories hold
-pub fresh-is : (memories : List (List ℕ)) (shared : List ℕ) → Fresh (fresh memories shared)
+pub fresh-is : (memories : List (List ℕ)) (shared : List ℕ) → FreshStart (fresh memories shared)
 fresh-is memories shared = record { free = refl; between = between memories; empty = refl }
 
-pub zero-is : (sizes : List ℕ) → Fresh (freshZero sizes)
+pub zero-is : (sizes : List ℕ) → FreshStart (freshZero sizes)
 zero-is sizes = fresh-is (map zeros sizes) (zeros 1024)

@@ -9,7 +9,7 @@ use lib.ListN.{getD}
 use Rattle.protocol.specs.State.{State, Task}
 use Rattle.protocol.specs.Step.{run, Taking, takings}
 use Rattle.protocol.specs.Whole.{whole}
-use Rattle.protocol.specs.Laws.{Laws, Between, Fresh}
+use Rattle.protocol.specs.Laws.{Laws, Between, FreshStart}
 use Rattle.protocol.specs.History.{latest, brought}
 use Rattle.protocol.specs.Variables.{Variable, local, readsIt, writesIt, readsOf, writesOf, Accepted, value, valueOf}
 use Rattle.protocol.specs.Interleaving.{Interleaved}
@@ -34,7 +34,7 @@ values none l start i w v h = value-eq (v .width) l start i (v .place) h
 values (some d) l start i w v h = value-eq (v .width) l d i (local w v) h
 
 pub interleaved : (t : Task) (vs : List Variable) (s : State) → t .reads ≡ readsOf vs → t .writes ≡ writesOf vs
-    → Laws t → Fresh s → Accepted vs s → (ks : List ℕ) → Interleaved t vs s ks
+    → Laws t → FreshStart s → Accepted vs s → (ks : List ℕ) → Interleaved t vs s ks
 interleaved t vs s er ew l f ok ks = record {
   ends-whole = λ b. as-whole t l s f ks (λ k. between-still (at (run t ks s) k) (b k));
   reads-published = λ r x w v i a b. values (latest t w none (x .before) s) (brought x) (s .plant .shared) (local r v) w v
@@ -47,7 +47,7 @@ interleaved t vs s er ew l f ok ks = record {
 
 -- Two lists of steps with the same takings that both end with every core between cycles or stopped end alike: the order of exchanges is all
 -- that matters. (That it does matter is `orders-differ` of proofs/Runs.)
-pub same-takings : (t : Task) → Laws t → (s : State) → Fresh s → (js ks : List ℕ) → takings t js s ≡ takings t ks s
+pub same-takings : (t : Task) → Laws t → (s : State) → FreshStart s → (js ks : List ℕ) → takings t js s ≡ takings t ks s
     → Between (run t js s) → Between (run t ks s) → run t js s .plant ≡ run t ks s .plant
 same-takings t l s f js ks e a b =
     as-whole t l s f js (λ k. between-still (at (run t js s) k) (a k))

@@ -15,11 +15,11 @@ use Rattle.verdict.specs.Verdict.{pick}
 use Rattle.memory.proofs.Laws.{length-splice}
 use Rattle.protocol.specs.Registers.{readAcquired, byteCopied, readReleased, writeAcquired, writeReleased}
 use Rattle.protocol.specs.State.{Core, Plant, Semaphore, State, Move, Sample, Task, absent, core, mode}
-use Rattle.protocol.specs.Step.{acquiredBy, released, joinedBy, copy, left, readTaken, readNext, readDone, writeTaken, writeNext, writeDone, step, run, Taking, reading, writing, takingOf}
+use Rattle.protocol.specs.Step.{acquiredBy, released, joinedBy, copy, uncopied, readTaken, readNext, readDone, writeTaken, writeNext, writeDone, step, run, Taking, reading, writing, takingOf}
 use Rattle.protocol.specs.Whole.{wholeRead, wholeOne, whole}
 use Rattle.protocol.specs.Variables.{In}
 use Rattle.protocol.specs.History.{published, latest, Stays, Finished, brought}
-use Rattle.protocol.specs.Laws.{Laws, Fresh, Held}
+use Rattle.protocol.specs.Laws.{Laws, FreshStart, SemaphoreHeld}
 use Rattle.protocol.proofs.View.{after, at, readByte, writeByte, Moves, rests, waits, takesRead, readsOn, readsLast, runs, takesWrite, writesOn, writesLast, there, view}
 use Rattle.protocol.proofs.Copy.{copy-on, copy-last, copy-length, copy-other, copy-get, Sound}
 use Rattle.protocol.proofs.Steps.{each, only, nobody, lengths-run, held-step, held-fresh}
@@ -116,7 +116,7 @@ module _ (t : Task) (k : ℕ) (s₀ s : State) (w : Plant) (a : Publications) (k
 
 -- what core r's data will be when the reading in progress is finished
 abbrev coming : Task → ℕ → State → List ℕ
-coming t r s = copy (left (at s r) (t .reads r)) (s .plant .shared) (at s r .memory)
+coming t r s = copy (uncopied (at s r) (t .reads r)) (s .plant .shared) (at s r .memory)
 
 -- a step of the reading core leaves it alone, or brings it about
 abbrev Onward : Task → ℕ → State → State → Type 0
@@ -130,7 +130,7 @@ record Took (t : Task) (r : ℕ) (s s′ : State) : Type 0 where
   comes : coming t r s′ ≡ copy (t .reads r) (s .plant .shared) d
 
 module _ (t : Task) (r : ℕ) (s : State) where
-  coming-other : Held s → (k : ℕ) → r ≢ k → mode (at s r) ≡ 1 → (s′ : State) (ts : List Taking) → Moves t k s s′ ts → coming t r s′ ≡ coming t r s
+  coming-other : SemaphoreHeld s → (k : ℕ) → r ≢ k → mode (at s r) ≡ 1 → (s′ : State) (ts : List Taking) → Moves t k s s′ ts → coming t r s′ ≡ coming t r s
   coming-other h k n e s′ ts (rests z) = refl
   coming-other h k n e s′ ts (waits i wt b) = refl
   coming-other h k n e s′ ts (takesRead x rs i f b g d) = rw (getD-set-other (s .plant .cores) k r (readTaken x (at s k)) absent n)
@@ -149,7 +149,7 @@ module _ (t : Task) (r : ℕ) (s : State) where
   coming-own e s′ ts (readsOn m ms i g d) =
       inl (rw (there s r (readNext (readByte t r s) (at s r)) i) (e, sym (copy-on (at s r .registers .exchange) (t .reads r) (s .plant .shared) (at s r .memory))))
   coming-own e s′ ts (readsLast i g d) =
-      inr (rw (there s r (readDone (readByte t r s) (at s r)) i) (refl, sym (copy-last (left (at s r) (t .reads r)) (s .plant .shared) (at s r .memory) d)))
+      inr (rw (there s r (readDone (readByte t r s) (at s r)) i) (refl, sym (copy-last (uncopied (at s r) (t .reads r)) (s .plant .shared) (at s r .memory) d)))
   coming-own e s′ ts (runs i g) = absurd (omega arith)
   coming-own e s′ ts (takesWrite i f b g) = absurd (omega arith)
   coming-own e s′ ts (writesOn m ms i g d) = absurd (omega arith)
@@ -173,7 +173,7 @@ module _ (t : Task) (r : ℕ) (s : State) where
   coming-taken e s′ ts (writesLast i g q) f = absurd (omega arith)
 
   -- one step within a reading
-  during-step : Held s → (k : ℕ) → mode (at s r) ≡ 1 → mode (at (step t k s) r) ≡ 1 → coming t r (step t k s) ≡ coming t r s
+  during-step : SemaphoreHeld s → (k : ℕ) → mode (at s r) ≡ 1 → mode (at (step t k s) r) ≡ 1 → coming t r (step t k s) ≡ coming t r s
   during-step h k e = go (ℕ-discrete r k)
     where
       own : Onward t r s (step t r s) → mode (at (step t r s) r) ≡ 1 → coming t r (step t r s) ≡ coming t r s
@@ -204,7 +204,7 @@ stays-last t r [] s x = x
 stays-last t r (k ∷ ks) s x = stays-last t r ks (step t k s) (x .1)
 
 module _ (t : Task) (l : Laws t) where
-  throughout : (r : ℕ) (ks : List ℕ) (s : State) → Held s → Stays t r ks s → coming t r (run t ks s) ≡ coming t r s
+  throughout : (r : ℕ) (ks : List ℕ) (s : State) → SemaphoreHeld s → Stays t r ks s → coming t r (run t ks s) ≡ coming t r s
   throughout r [] s h y = refl
   throughout r (k ∷ ks) s h y =
       throughout r ks (step t k s) (held-step t l k s h) (y .1) ∙ during-step t r s h k (y .0) (stays-first t r ks (step t k s) (y .1))
@@ -213,7 +213,7 @@ module _ (t : Task) (l : Laws t) where
 record Reached (t : Task) (s₀ s : State) (a : Publications) : Type 0 where
   plant : Plant
   sim : Sim t s plant
-  semaphore : Held s
+  semaphore : SemaphoreHeld s
   kept : Kept t s₀ s plant a
 
 module _ (t : Task) (l : Laws t) (s₀ : State) (ok : Sound t s₀) where
@@ -226,7 +226,7 @@ module _ (t : Task) (l : Laws t) (s₀ : State) (ok : Sound t s₀) where
     kept = kept-step t k s₀ s (x .plant) a (x .kept) l ok (x .sim) (step t k s) (takingOf t k s) (view t k s);
   }
 
-  reach-fresh : Fresh s₀ → Reached t s₀ s₀ (λ j. none)
+  reach-fresh : FreshStart s₀ → Reached t s₀ s₀ (λ j. none)
   unfolding pick
   reach-fresh f = record { plant = s₀ .plant; sim = sim-fresh t s₀ f; semaphore = held-fresh s₀ f; kept = record { bytes = λ j. go j (f .between j); size = refl } }
     where
@@ -235,7 +235,7 @@ module _ (t : Task) (l : Laws t) (s₀ : State) (ok : Sound t s₀) where
       go j (inr e) m n = rw e
 
   -- A byte that a finished reading brought from core w is the one that w published last before the reading took the semaphore
-  pub as-published : Fresh s₀ → (ks : List ℕ) (r : ℕ) (x : Finished t s₀ ks r) (w : ℕ) (a b : Move) → In a (t .reads r) → In b (t .writes w) → a .source ≡ b .target
+  pub as-published : FreshStart s₀ → (ks : List ℕ) (r : ℕ) (x : Finished t s₀ ks r) (w : ℕ) (a b : Move) → In a (t .reads r) → In b (t .writes w) → a .source ≡ b .target
       → getD (brought x) (a .target) 0 ≡ byteOf (latest t w none (x .before) s₀) (s₀ .plant .shared) b
   unfolding pick
   as-published f ks r x w a b ia ib e =

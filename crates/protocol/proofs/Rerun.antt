@@ -15,10 +15,10 @@ use lib.ListN.{length, drop, length-set, length-drop}
 use lib.Seq.{getD-set-same}
 use Rattle.protocol.specs.Registers.{byteCopied, readReleased, writeReleased}
 use Rattle.protocol.specs.State.{Core, Plant, State, Task, Move, Sample, absent, core}
-use Rattle.protocol.specs.Step.{encoded, orderList, turnIn, Taking, reading, writing, left, readNext, readDone, writeNext, writeDone, run, step, takings, takingOf}
+use Rattle.protocol.specs.Step.{encoded, orderList, turnIn, Taking, reading, writing, uncopied, readNext, readDone, writeNext, writeDone, run, step, takings, takingOf}
 use Rattle.protocol.specs.Whole.{wholeRead, wholeWrite, wholeOne, whole}
 use Rattle.verdict.specs.Verdict.{pick, both}
-use Rattle.protocol.specs.Laws.{Laws, Still, Fresh, Holding, Held}
+use Rattle.protocol.specs.Laws.{Laws, Still, FreshStart, Holding, SemaphoreHeld}
 use Rattle.protocol.specs.Rerun.{anyLeft, accepts, legal, rerunEnd, rerun, decoded, rerunBytes, Below, Settled, unlined, Producing, Rerun}
 use Rattle.protocol.proofs.View.{inside, after, at, Wants, Moves, rests, waits, takesRead, readsOn, readsLast, runs, takesWrite, writesOn, writesLast, view}
 use Rattle.protocol.proofs.Steps.{run-append, takings-append, held-step, held-fresh, held-run, others-stay, Modes, modes-run}
@@ -69,7 +69,7 @@ module _ (t : Task) (l : Laws t) where
   legal-step k s w sim s′ ts (writesOn m ms i e d) = tt
   legal-step k s w sim s′ ts (writesLast i e d) = tt
 
-  legal-run : (ks : List ℕ) (s : State) (w : Plant) → Sim t s w → Held s → T (legal t (takings t ks s) w)
+  legal-run : (ks : List ℕ) (s : State) (w : Plant) → Sim t s w → SemaphoreHeld s → T (legal t (takings t ks s) w)
   legal-run [] s w sim hd = tt
   legal-run (k ∷ ks) s w sim hd =
       rw (legal-append t (takingOf t k s) (takings t ks (step t k s)) w)
@@ -81,10 +81,10 @@ module _ (t : Task) (l : Laws t) where
 -- no fewer than the steps that are left
 abbrev rankIn : ℕ → Task → ℕ → Core → ℕ
 rankIn zero t k c = 0
-rankIn (suc zero) t k c = 3 + (length (left c (t .reads k)) + t .limit k)
+rankIn (suc zero) t k c = 3 + (length (uncopied c (t .reads k)) + t .limit k)
 rankIn (suc (suc zero)) t k c = suc (t .limit k - c .registers .count)
 rankIn (suc (suc (suc zero))) t k c = 0
-rankIn (suc (suc (suc (suc zero)))) t k c = suc (length (left c (t .writes k)))
+rankIn (suc (suc (suc (suc zero)))) t k c = suc (length (uncopied c (t .writes k)))
 rankIn (suc (suc (suc (suc (suc m))))) t k c = 0
 
 abbrev rank : Task → ℕ → Core → ℕ
@@ -149,7 +149,7 @@ record Settling (t : Task) (n : ℕ) (s : State) (w : Plant) : Type 0 where
   lawful : Below n steps
   none-taken : takings t steps s ≡ []
   sim : Sim t (run t steps s) w
-  held : Held (run t steps s)
+  held : SemaphoreHeld (run t steps s)
   still : (j : ℕ) → Still (at (run t steps s) j)
   empty : run t steps s .semaphore .line ≡ []
 
@@ -161,13 +161,13 @@ module _ (t : Task) (l : Laws t) (n k : ℕ) (i : k < n) where
       go (yes e) = rw e y
       go (no d) = others j d
 
-  settled-now : (s : State) (w : Plant) → Sim t s w → Held s → s .semaphore .line ≡ [] → Still (at s k) → ((j : ℕ) → j ≢ k → Still (at s j)) → Settling t n s w
+  settled-now : (s : State) (w : Plant) → Sim t s w → SemaphoreHeld s → s .semaphore .line ≡ [] → Still (at s k) → ((j : ℕ) → j ≢ k → Still (at s j)) → Settling t n s w
   settled-now s w sim x q y others = record { steps = []; lawful = tt; none-taken = refl; sim = sim; held = x; still = every-still s y others; empty = q }
 
   one-more : (s : State) → takingOf t k s ≡ [] → (w : Plant) → Settling t n (step t k s) w → Settling t n s w
   one-more s e w y = record { steps = k ∷ y .steps; lawful = (i, y .lawful); none-taken = rw e (y .none-taken); sim = y .sim; held = y .held; still = y .still; empty = y .empty }
 
-  settle : (f : ℕ) (s : State) (w : Plant) → Sim t s w → Held s → s .semaphore .line ≡ [] → rank t k (at s k) ≤ f → ((j : ℕ) → j ≢ k → Still (at s j)) → Settling t n s w
+  settle : (f : ℕ) (s : State) (w : Plant) → Sim t s w → SemaphoreHeld s → s .semaphore .line ≡ [] → rank t k (at s k) ≤ f → ((j : ℕ) → j ≢ k → Still (at s j)) → Settling t n s w
   settle zero s w sim x q b others = go (still? (at s k))
     where
       go : Dec (Still (at s k)) → Settling t n s w
@@ -175,7 +175,7 @@ module _ (t : Task) (l : Laws t) (n k : ℕ) (i : k < n) where
       go (no u) = let c = calm-step t l k s w sim u (step t k s) (takingOf t k s) (view t k s) in absurd (omega (arith, c .less))
   settle (suc f) s w sim x q b others = go (still? (at s k)) (settle f (step t k s) w)
     where
-      go : Dec (Still (at s k)) → (Sim t (step t k s) w → Held (step t k s) → step t k s .semaphore .line ≡ [] → rank t k (at (step t k s) k) ≤ f → ((j : ℕ) → j ≢ k → Still (at (step t k s) j)) → Settling t n (step t k s) w) → Settling t n s w
+      go : Dec (Still (at s k)) → (Sim t (step t k s) w → SemaphoreHeld (step t k s) → step t k s .semaphore .line ≡ [] → rank t k (at (step t k s) k) ≤ f → ((j : ℕ) → j ≢ k → Still (at (step t k s) j)) → Settling t n (step t k s) w) → Settling t n s w
       go (yes y) again = settled-now s w sim x q y others
       go (no u) again =
           let c = calm-step t l k s w sim u (step t k s) (takingOf t k s) (view t k s) in
@@ -259,10 +259,10 @@ takes t (writing k) s a h q = takes-write t k s (eqb→eq (at s k .registers .mo
 record AtRest (s : State) : Type 0 where
   free : s .semaphore .holder ≡ 0
   empty : s .semaphore .line ≡ []
-  held : Held s
+  held : SemaphoreHeld s
   still : (j : ℕ) → Still (at s j)
 
-free-still : (s : State) → Held s → ((j : ℕ) → Still (at s j)) → s .semaphore .holder ≡ 0
+free-still : (s : State) → SemaphoreHeld s → ((j : ℕ) → Still (at s j)) → s .semaphore .holder ≡ 0
 free-still s x y = go (s .semaphore .holder) refl
   where
     nobody : (j : ℕ) → Holding (at s j) → ⊥
@@ -370,7 +370,7 @@ still-settled c h b (suc (suc (suc zero))) e = inr (inl refl)
 still-settled c h b (suc (suc (suc (suc zero)))) e = absurd (h .2 e)
 still-settled c h b (suc (suc (suc (suc (suc m))))) e = inr (inr (omega arith))
 
-module _ (t : Task) (l : Laws t) (s : State) (fresh : Fresh s) where
+module _ (t : Task) (l : Laws t) (s : State) (fresh : FreshStart s) where
   small-fresh : Modes s
   small-fresh j = go (fresh .between j)
     where

@@ -10,8 +10,8 @@ use lib.Seq.{getD-set-same, getD-set-other}
 use Rattle.memory.proofs.Laws.{length-splice}
 use Rattle.protocol.specs.Registers.{readAcquired, byteCopied, readReleased, writeAcquired, writeReleased}
 use Rattle.protocol.specs.State.{Core, Semaphore, State, Task, absent, core, mode}
-use Rattle.protocol.specs.Step.{acquiredBy, released, joinedBy, left, readTaken, readNext, readDone, writeTaken, writeNext, writeDone, step, run, Taking, takingOf, takings}
-use Rattle.protocol.specs.Laws.{Laws, Fresh, Holding, Held}
+use Rattle.protocol.specs.Step.{acquiredBy, released, joinedBy, uncopied, readTaken, readNext, readDone, writeTaken, writeNext, writeDone, step, run, Taking, takingOf, takings}
+use Rattle.protocol.specs.Laws.{Laws, FreshStart, Holding, SemaphoreHeld}
 use Rattle.protocol.proofs.View.{after, at, readByte, writeByte, Moves, rests, waits, takesRead, readsOn, readsLast, runs, takesWrite, writesOn, writesLast, view}
 use Rattle.protocol.proofs.Copy.{copy-length}
 
@@ -72,10 +72,10 @@ module _ (t : Task) (l : Laws t) (k : ℕ) (s : State) where
   }
 
   read-length : length (readByte t k s) ≡ length (at s k .memory)
-  read-length = copy-length (take 1 (left (at s k) (t .reads k))) (s .plant .shared) (at s k .memory)
+  read-length = copy-length (take 1 (uncopied (at s k) (t .reads k))) (s .plant .shared) (at s k .memory)
 
   write-length : length (writeByte t k s) ≡ length (s .plant .shared)
-  write-length = copy-length (take 1 (left (at s k) (t .writes k))) (at s k .memory) (s .plant .shared)
+  write-length = copy-length (take 1 (uncopied (at s k) (t .writes k))) (at s k .memory) (s .plant .shared)
 
   lengths-of : (s′ : State) (ts : List Taking) → Moves t k s s′ ts → SameLengths s s′
   unfolding readTaken readNext readDone writeTaken writeNext writeDone
@@ -107,32 +107,32 @@ neither m a b (inl e) = a e
 neither m a b (inr e) = b e
 
 -- nobody else is in an exchange while core k is, and nobody while the semaphore is free
-pub only : (s : State) → Held s → (k : ℕ) → Holding (at s k) → (j : ℕ) → j ≢ k → Holding (at s j) → ⊥
+pub only : (s : State) → SemaphoreHeld s → (k : ℕ) → Holding (at s k) → (j : ℕ) → j ≢ k → Holding (at s j) → ⊥
 only s x k y j n z = omega (arith, x .held k y, x .held j z)
 
-pub nobody : (s : State) → Held s → s .semaphore .holder ≡ 0 → (j : ℕ) → Holding (at s j) → ⊥
+pub nobody : (s : State) → SemaphoreHeld s → s .semaphore .holder ≡ 0 → (j : ℕ) → Holding (at s j) → ⊥
 nobody s x f j z = omega (arith, x .held j z)
 
-module _ (k : ℕ) (s : State) (x : Held s) (c : Core) (sh : List ℕ) (i : k < length (s .plant .cores)) where
-  held-taken : s .semaphore .holder ≡ 0 → Holding c → Held (after s k c sh (acquiredBy k (s .semaphore)))
+module _ (k : ℕ) (s : State) (x : SemaphoreHeld s) (c : Core) (sh : List ℕ) (i : k < length (s .plant .cores)) where
+  held-taken : s .semaphore .holder ≡ 0 → Holding c → SemaphoreHeld (after s k c sh (acquiredBy k (s .semaphore)))
   held-taken f y = record {
     held = each (λ j z. Holding z → suc k ≡ suc j) (s .plant .cores) k c i (λ z. refl) (λ j n z. absurd (nobody s x f j z));
     holding = each (λ j z. suc k ≡ suc j → Holding z) (s .plant .cores) k c i (λ e. y) (λ j n e. absurd (omega arith));
   }
 
-  held-same : (Holding c → Holding (at s k)) → (Holding (at s k) → Holding c) → Held (after s k c sh (s .semaphore))
+  held-same : (Holding c → Holding (at s k)) → (Holding (at s k) → Holding c) → SemaphoreHeld (after s k c sh (s .semaphore))
   held-same a b = record {
     held = each (λ j z. Holding z → s .semaphore .holder ≡ suc j) (s .plant .cores) k c i (λ z. x .held k (a z)) (λ j n z. x .held j z);
     holding = each (λ j z. s .semaphore .holder ≡ suc j → Holding z) (s .plant .cores) k c i (λ e. b (x .holding k e)) (λ j n e. x .holding j e);
   }
 
-  held-freed : Holding (at s k) → (Holding c → ⊥) → Held (after s k c sh (released (s .semaphore)))
+  held-freed : Holding (at s k) → (Holding c → ⊥) → SemaphoreHeld (after s k c sh (released (s .semaphore)))
   held-freed y a = record {
     held = each (λ j z. Holding z → 0 ≡ suc j) (s .plant .cores) k c i (λ z. absurd (a z)) (λ j n z. absurd (only s x k y j n z));
     holding = each (λ j z. 0 ≡ suc j → Holding z) (s .plant .cores) k c i (λ e. absurd (omega arith)) (λ j n e. absurd (omega arith));
   }
 
-held-of : (t : Task) → Laws t → (k : ℕ) (s : State) → Held s → (s′ : State) (ts : List Taking) → Moves t k s s′ ts → Held s′
+held-of : (t : Task) → Laws t → (k : ℕ) (s : State) → SemaphoreHeld s → (s′ : State) (ts : List Taking) → Moves t k s s′ ts → SemaphoreHeld s′
 unfolding readTaken readAcquired readNext byteCopied readDone readReleased writeTaken writeAcquired writeNext writeDone writeReleased
 held-of t l k s x s′ ts (rests z) = x
 held-of t l k s x s′ ts (waits i wt b) = record { held = λ j z. x .held j z; holding = λ j e. x .holding j e }
@@ -147,26 +147,26 @@ held-of t l k s x s′ ts (takesWrite i f b e) = held-taken k s x (writeTaken (a
 held-of t l k s x s′ ts (writesOn m ms i e d) = held-same k s x (writeNext (at s k)) (writeByte t k s) i (λ z. z) (λ z. z)
 held-of t l k s x s′ ts (writesLast i e d) = held-freed k s x (writeDone (at s k)) (writeByte t k s) i (inr e) (neither 0 (omega arith) (omega arith))
 
-pub held-step : (t : Task) → Laws t → (k : ℕ) (s : State) → Held s → Held (step t k s)
+pub held-step : (t : Task) → Laws t → (k : ℕ) (s : State) → SemaphoreHeld s → SemaphoreHeld (step t k s)
 held-step t l k s x = held-of t l k s x (step t k s) (takingOf t k s) (view t k s)
 
-pub held-fresh : (s : State) → Fresh s → Held s
+pub held-fresh : (s : State) → FreshStart s → SemaphoreHeld s
 held-fresh s f = record { held = λ k z. absurd (idle k (f .between k) z); holding = λ k e. absurd (omega (arith, f .free)) }
   where
     idle : (k : ℕ) → (mode (at s k) ≡ 0) ⊎ (mode (at s k) ≡ 5) → Holding (at s k) → ⊥
     idle k (inl e) = neither (mode (at s k)) (omega arith) (omega arith)
     idle k (inr e) = neither (mode (at s k)) (omega arith) (omega arith)
 
-pub held-on : (t : Task) → Laws t → (ks : List ℕ) (s : State) → Held s → Held (run t ks s)
+pub held-on : (t : Task) → Laws t → (ks : List ℕ) (s : State) → SemaphoreHeld s → SemaphoreHeld (run t ks s)
 held-on t l [] s x = x
 held-on t l (k ∷ ks) s x = held-on t l ks (step t k s) (held-step t l k s x)
 
 -- After every list of steps from a fresh state, a core in an exchange holds the semaphore, and a holder is in an exchange
-pub held-run : (t : Task) → Laws t → (s : State) → Fresh s → (ks : List ℕ) → Held (run t ks s)
+pub held-run : (t : Task) → Laws t → (s : State) → FreshStart s → (ks : List ℕ) → SemaphoreHeld (run t ks s)
 held-run t l s f ks = held-on t l ks s (held-fresh s f)
 
 -- At most one core is in an exchange
-pub one-exchange : (t : Task) → Laws t → (s : State) → Fresh s → (ks : List ℕ) (j k : ℕ)
+pub one-exchange : (t : Task) → Laws t → (s : State) → FreshStart s → (ks : List ℕ) (j k : ℕ)
     → Holding (at (run t ks s) j) → Holding (at (run t ks s) k) → j ≡ k
 one-exchange t l s f ks j k y z = let x = held-run t l s f ks in omega (arith, x .held j y, x .held k z)
 

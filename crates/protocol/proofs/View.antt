@@ -14,7 +14,7 @@ use Rattle.verdict.specs.Verdict.{pick}
 use Rattle.protocol.specs.Modes.{stopped}
 use Rattle.protocol.specs.Registers.{readAcquired, writeAcquired}
 use Rattle.protocol.specs.State.{Core, Semaphore, State, Move, Sample, Task, absent, core, mode}
-use Rattle.protocol.specs.Step.{turnIn, turn, acquiredBy, released, wait, copy, left, readTaken, readNext, readDone, writeTaken, writeNext, writeDone, takeRead, readOn, takeWrite, writeOn, stepIn, step, Taking, reading, writing, taken, takingOf}
+use Rattle.protocol.specs.Step.{turnIn, turn, acquiredBy, released, wait, copy, uncopied, readTaken, readNext, readDone, writeTaken, writeNext, writeDone, takeRead, readOn, takeWrite, writeOn, stepIn, step, Taking, reading, writing, taken, takingOf}
 use Rattle.protocol.specs.Laws.{Still}
 
 -- a core that is not stopped is there
@@ -56,10 +56,10 @@ at s k = core (s .plant) k
 
 -- core k's data, or shared memory, with the next byte of its exchange
 abbrev pub readByte : Task → ℕ → State → List ℕ
-readByte t k s = copy (take 1 (left (at s k) (t .reads k))) (s .plant .shared) (at s k .memory)
+readByte t k s = copy (take 1 (uncopied (at s k) (t .reads k))) (s .plant .shared) (at s k .memory)
 
 abbrev pub writeByte : Task → ℕ → State → List ℕ
-writeByte t k s = copy (take 1 (left (at s k) (t .writes k))) (at s k .memory) (s .plant .shared)
+writeByte t k s = copy (take 1 (uncopied (at s k) (t .writes k))) (at s k .memory) (s .plant .shared)
 
 -- what stands at k after core k is replaced
 pub there : (s : State) (k : ℕ) (c : Core) → k < length (s .plant .cores) → getD (set (s .plant .cores) k c) k absent ≡ c
@@ -82,16 +82,16 @@ pub data Moves (t : Task) (k : ℕ) (s : State) : State → List Taking → Type
   waits : k < length (s .plant .cores) → Wants t k s → turn (s .semaphore) k ≡ false → Moves t k s (wait k s) []
   takesRead : (r : Sample) (rs : List Sample) → k < length (s .plant .cores) → s .semaphore .holder ≡ 0 → turn (s .semaphore) k ≡ true → mode (at s k) ≡ 0 → drop (at s k .registers .cycles) (t .samples k) ≡ r ∷ rs
       → Moves t k s (after s k (readTaken r (at s k)) (s .plant .shared) (acquiredBy k (s .semaphore))) (reading k ∷ [])
-  readsOn : (m : Move) (ms : List Move) → k < length (s .plant .cores) → mode (at s k) ≡ 1 → drop 1 (left (at s k) (t .reads k)) ≡ m ∷ ms
+  readsOn : (m : Move) (ms : List Move) → k < length (s .plant .cores) → mode (at s k) ≡ 1 → drop 1 (uncopied (at s k) (t .reads k)) ≡ m ∷ ms
       → Moves t k s (after s k (readNext (readByte t k s) (at s k)) (s .plant .shared) (s .semaphore)) []
-  readsLast : k < length (s .plant .cores) → mode (at s k) ≡ 1 → drop 1 (left (at s k) (t .reads k)) ≡ []
+  readsLast : k < length (s .plant .cores) → mode (at s k) ≡ 1 → drop 1 (uncopied (at s k) (t .reads k)) ≡ []
       → Moves t k s (after s k (readDone (readByte t k s) (at s k)) (s .plant .shared) (released (s .semaphore))) []
   runs : k < length (s .plant .cores) → mode (at s k) ≡ 2 → Moves t k s (after s k (t .instruction k (at s k)) (s .plant .shared) (s .semaphore)) []
   takesWrite : k < length (s .plant .cores) → s .semaphore .holder ≡ 0 → turn (s .semaphore) k ≡ true → mode (at s k) ≡ 3
       → Moves t k s (after s k (writeTaken (at s k)) (s .plant .shared) (acquiredBy k (s .semaphore))) (writing k ∷ [])
-  writesOn : (m : Move) (ms : List Move) → k < length (s .plant .cores) → mode (at s k) ≡ 4 → drop 1 (left (at s k) (t .writes k)) ≡ m ∷ ms
+  writesOn : (m : Move) (ms : List Move) → k < length (s .plant .cores) → mode (at s k) ≡ 4 → drop 1 (uncopied (at s k) (t .writes k)) ≡ m ∷ ms
       → Moves t k s (after s k (writeNext (at s k)) (writeByte t k s) (s .semaphore)) []
-  writesLast : k < length (s .plant .cores) → mode (at s k) ≡ 4 → drop 1 (left (at s k) (t .writes k)) ≡ []
+  writesLast : k < length (s .plant .cores) → mode (at s k) ≡ 4 → drop 1 (uncopied (at s k) (t .writes k)) ≡ []
       → Moves t k s (after s k (writeDone (at s k)) (writeByte t k s) (released (s .semaphore))) []
 
 -- ---- every step is one of them
@@ -110,7 +110,7 @@ module _ (t : Task) (k : ℕ) (s : State) where
   seen0 e (r ∷ rs) d true f = let i = in-range e (omega arith) in rw (there s k (readTaken r (at s k)) i) (takesRead r rs i (turn-free (s .semaphore .holder) (s .semaphore .line) k f) f e d)
   seen0 e (r ∷ rs) d false f = rw e (waits (in-range e (omega arith)) (inl (e, λ z. filled r rs (sym d ∙ z))) f)
 
-  seen1 : mode (at s k) ≡ 1 → (ms : List Move) → drop 1 (left (at s k) (t .reads k)) ≡ ms → Seen t k s 1 (readOn ms (readByte t k s) k (at s k) s)
+  seen1 : mode (at s k) ≡ 1 → (ms : List Move) → drop 1 (uncopied (at s k) (t .reads k)) ≡ ms → Seen t k s 1 (readOn ms (readByte t k s) k (at s k) s)
   unfolding pick
   seen1 e [] d = readsLast (in-range e (omega arith)) e d
   seen1 e (m ∷ ms) d = readsOn m ms (in-range e (omega arith)) e d
@@ -120,7 +120,7 @@ module _ (t : Task) (k : ℕ) (s : State) where
   seen3 e true f = let i = in-range e (omega arith) in rw (there s k (writeTaken (at s k)) i) (takesWrite i (turn-free (s .semaphore .holder) (s .semaphore .line) k f) f e)
   seen3 e false f = rw e (waits (in-range e (omega arith)) (inr e) f)
 
-  seen4 : mode (at s k) ≡ 4 → (ms : List Move) → drop 1 (left (at s k) (t .writes k)) ≡ ms → Seen t k s 4 (writeOn ms (writeByte t k s) k (at s k) s)
+  seen4 : mode (at s k) ≡ 4 → (ms : List Move) → drop 1 (uncopied (at s k) (t .writes k)) ≡ ms → Seen t k s 4 (writeOn ms (writeByte t k s) k (at s k) s)
   unfolding pick
   seen4 e [] d = writesLast (in-range e (omega arith)) e d
   seen4 e (m ∷ ms) d = writesOn m ms (in-range e (omega arith)) e d

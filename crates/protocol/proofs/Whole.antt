@@ -14,9 +14,9 @@ use lib.Seq.{getD-set-same, getD-set-other, ext-getD}
 use Rattle.verdict.specs.Verdict.{pick}
 use Rattle.protocol.specs.Registers.{readAcquired, byteCopied, readReleased, writeAcquired, writeReleased}
 use Rattle.protocol.specs.State.{Core, Plant, Semaphore, State, Move, Sample, Task, absent, core, mode, put}
-use Rattle.protocol.specs.Step.{acquiredBy, released, joinedBy, copy, left, readTaken, readNext, readDone, writeTaken, writeNext, writeDone, step, run, Taking, reading, writing, takingOf, takings}
+use Rattle.protocol.specs.Step.{acquiredBy, released, joinedBy, copy, uncopied, readTaken, readNext, readDone, writeTaken, writeNext, writeDone, step, run, Taking, reading, writing, takingOf, takings}
 use Rattle.protocol.specs.Whole.{execute, wholeOne, whole}
-use Rattle.protocol.specs.Laws.{Laws, Fresh, Still, Held}
+use Rattle.protocol.specs.Laws.{Laws, FreshStart, Still, SemaphoreHeld}
 use Rattle.protocol.proofs.View.{after, at, readByte, writeByte, Moves, rests, waits, takesRead, readsOn, readsLast, runs, takesWrite, writesOn, writesLast, there, view}
 use Rattle.protocol.proofs.Copy.{copy-on, copy-last}
 use Rattle.protocol.proofs.Steps.{each, only, held-step, held-fresh}
@@ -30,7 +30,7 @@ finish t k c = execute t (suc (t .limit k - c .registers .count)) k c
 -- its reading and execution, its execution, or its writing, by the mode; sh is shared memory
 abbrev pub endedIn : ℕ → Task → ℕ → List ℕ → Core → Core
 endedIn zero t k sh c = c
-endedIn (suc zero) t k sh c = finish t k (readDone (copy (left c (t .reads k)) sh (c .memory)) c)
+endedIn (suc zero) t k sh c = finish t k (readDone (copy (uncopied c (t .reads k)) sh (c .memory)) c)
 endedIn (suc (suc zero)) t k sh c = finish t k c
 endedIn (suc (suc (suc zero))) t k sh c = c
 endedIn (suc (suc (suc (suc zero)))) t k sh c = writeDone c
@@ -41,7 +41,7 @@ ended t k sh c = endedIn (mode c) t k sh c
 
 -- what core k still has to copy to shared memory
 abbrev pub pending : Task → ℕ → Core → List Move
-pending t k c = pick (eqb (mode c) 4) (left c (t .writes k)) []
+pending t k c = pick (eqb (mode c) 4) (uncopied c (t .writes k)) []
 
 -- shared memory with the writing in progress brought to its end
 abbrev pub settledBy : ℕ → Task → Plant → List ℕ
@@ -122,7 +122,7 @@ module _ (t : Task) (k : ℕ) (s : State) (w : Plant) (sim : Sim t s w) where
   unfolding wholeOne
   whole-write e = let q : core w k ≡ at s k = sim .same-core k ∙ rw e in rw (q, e)
 
-module _ (t : Task) (k : ℕ) (s : State) (w : Plant) (sim : Sim t s w) (x : Held s) where
+module _ (t : Task) (k : ℕ) (s : State) (w : Plant) (sim : Sim t s w) (x : SemaphoreHeld s) where
   -- a step puts c, sh and h in place, and the whole-exchange machine goes to v
   advance : (c : Core) (sh : List ℕ) (h : Semaphore) (v : Plant) → k < length (s .plant .cores)
       → ((j : ℕ) → j ≢ k → mode (at s j) ≡ 1 → s .plant .shared ≡ sh)
@@ -154,7 +154,7 @@ module _ (t : Task) (k : ℕ) (s : State) (w : Plant) (sim : Sim t s w) (x : Hel
       (λ j n. getD-set-other (w .cores) k j _ absent n)
       (free-shared t k s w sim f ∙ rw (there s k c i)))
 
-  by-readsOn : (m : Move) (ms : List Move) → k < length (s .plant .cores) → mode (at s k) ≡ 1 → drop 1 (left (at s k) (t .reads k)) ≡ m ∷ ms
+  by-readsOn : (m : Move) (ms : List Move) → k < length (s .plant .cores) → mode (at s k) ≡ 1 → drop 1 (uncopied (at s k) (t .reads k)) ≡ m ∷ ms
       → Sim t (after s k (readNext (readByte t k s) (at s k)) (s .plant .shared) (s .semaphore)) w
   unfolding readNext byteCopied readDone readReleased pick
   by-readsOn m ms i e d =
@@ -166,7 +166,7 @@ module _ (t : Task) (k : ℕ) (s : State) (w : Plant) (sim : Sim t s w) (x : Hel
       (λ j n. refl)
       (sim .same-shared ∙ rw (h, there s k c i, e))
 
-  by-readsLast : k < length (s .plant .cores) → mode (at s k) ≡ 1 → drop 1 (left (at s k) (t .reads k)) ≡ []
+  by-readsLast : k < length (s .plant .cores) → mode (at s k) ≡ 1 → drop 1 (uncopied (at s k) (t .reads k)) ≡ []
       → Sim t (after s k (readDone (readByte t k s) (at s k)) (s .plant .shared) (released (s .semaphore))) w
   unfolding readDone readReleased pick
   by-readsLast i e d =
@@ -174,7 +174,7 @@ module _ (t : Task) (k : ℕ) (s : State) (w : Plant) (sim : Sim t s w) (x : Hel
       let h : s .semaphore .holder ≡ suc k = x .held k (inl e) in
       advance c (s .plant .shared) (released (s .semaphore)) w i (λ j n y. refl) (omega arith) refl
       (sim .same-core k
-      ∙ rw e (ap (λ (d : List ℕ). finish t k (readDone d (at s k))) (copy-last (left (at s k) (t .reads k)) (s .plant .shared) (at s k .memory) d)))
+      ∙ rw e (ap (λ (d : List ℕ). finish t k (readDone d (at s k))) (copy-last (uncopied (at s k) (t .reads k)) (s .plant .shared) (at s k .memory) d)))
       (λ j n. refl)
       (sim .same-shared ∙ rw (h, e))
 
@@ -199,7 +199,7 @@ module _ (t : Task) (k : ℕ) (s : State) (w : Plant) (sim : Sim t s w) (x : Hel
       (λ j n. getD-set-other (w .cores) k j _ absent n)
       (rw (there s k c i, free-shared t k s w sim f)))
 
-  by-writesOn : (m : Move) (ms : List Move) → k < length (s .plant .cores) → mode (at s k) ≡ 4 → drop 1 (left (at s k) (t .writes k)) ≡ m ∷ ms
+  by-writesOn : (m : Move) (ms : List Move) → k < length (s .plant .cores) → mode (at s k) ≡ 4 → drop 1 (uncopied (at s k) (t .writes k)) ≡ m ∷ ms
       → Sim t (after s k (writeNext (at s k)) (writeByte t k s) (s .semaphore)) w
   unfolding writeNext byteCopied writeDone writeReleased pick
   by-writesOn m ms i e d =
@@ -210,7 +210,7 @@ module _ (t : Task) (k : ℕ) (s : State) (w : Plant) (sim : Sim t s w) (x : Hel
       (λ j n. refl)
       (sim .same-shared ∙ rw (h, there s k c i, e) (copy-on (at s k .registers .exchange) (t .writes k) (at s k .memory) (s .plant .shared)))
 
-  by-writesLast : k < length (s .plant .cores) → mode (at s k) ≡ 4 → drop 1 (left (at s k) (t .writes k)) ≡ []
+  by-writesLast : k < length (s .plant .cores) → mode (at s k) ≡ 4 → drop 1 (uncopied (at s k) (t .writes k)) ≡ []
       → Sim t (after s k (writeDone (at s k)) (writeByte t k s) (released (s .semaphore))) w
   unfolding writeDone writeReleased pick
   by-writesLast i e d =
@@ -219,7 +219,7 @@ module _ (t : Task) (k : ℕ) (s : State) (w : Plant) (sim : Sim t s w) (x : Hel
       advance c (writeByte t k s) (released (s .semaphore)) w i (λ j n y. absurd (only s x k (inr e) j n (inl y))) (omega arith) refl
       (sim .same-core k ∙ rw e)
       (λ j n. refl)
-      (sim .same-shared ∙ rw (h, e) (copy-last (left (at s k) (t .writes k)) (at s k .memory) (s .plant .shared) d))
+      (sim .same-shared ∙ rw (h, e) (copy-last (uncopied (at s k) (t .writes k)) (at s k .memory) (s .plant .shared) d))
 
   sim-of : Laws t → (s′ : State) (ts : List Taking) → Moves t k s s′ ts → Sim t s′ (whole t ts w)
   sim-of l s′ ts (rests z) = sim
@@ -232,7 +232,7 @@ module _ (t : Task) (k : ℕ) (s : State) (w : Plant) (sim : Sim t s w) (x : Hel
   sim-of l s′ ts (writesOn m ms i e d) = by-writesOn m ms i e d
   sim-of l s′ ts (writesLast i e d) = by-writesLast i e d
 
-pub sim-step : (t : Task) → Laws t → (k : ℕ) (s : State) (w : Plant) → Sim t s w → Held s → Sim t (step t k s) (whole t (takingOf t k s) w)
+pub sim-step : (t : Task) → Laws t → (k : ℕ) (s : State) (w : Plant) → Sim t s w → SemaphoreHeld s → Sim t (step t k s) (whole t (takingOf t k s) w)
 sim-step t l k s w sim x = sim-of t k s w sim x l (step t k s) (takingOf t k s) (view t k s)
 
 -- ---- lists of steps
@@ -241,7 +241,7 @@ pub whole-append : (t : Task) (xs ys : List Taking) (p : Plant) → whole t (xs 
 whole-append t [] ys p = refl
 whole-append t (x ∷ xs) ys p = whole-append t xs ys (wholeOne t x p)
 
-pub sim-run : (t : Task) → Laws t → (ks : List ℕ) (s : State) (w : Plant) → Sim t s w → Held s → Sim t (run t ks s) (whole t (takings t ks s) w)
+pub sim-run : (t : Task) → Laws t → (ks : List ℕ) (s : State) (w : Plant) → Sim t s w → SemaphoreHeld s → Sim t (run t ks s) (whole t (takings t ks s) w)
 sim-run t l [] s w sim x = sim
 sim-run t l (k ∷ ks) s w sim x =
     rw whole-append (sim-run t l ks (step t k s) (whole t (takingOf t k s) w) (sim-step t l k s w sim x) (held-step t l k s x))
@@ -273,11 +273,11 @@ sim-at-rest t s still = record {
   bounded = λ j e. absurd (still j .1 e);
 }
 
-pub sim-fresh : (t : Task) (s : State) → Fresh s → Sim t s (s .plant)
+pub sim-fresh : (t : Task) (s : State) → FreshStart s → Sim t s (s .plant)
 sim-fresh t s f = sim-at-rest t s (λ k. between-still (at s k) (f .between k))
 
 -- Any list of steps from a fresh state that ends with each core in mode 0, 3 or 5 ends as the whole-exchange machine
-pub as-whole : (t : Task) → Laws t → (s : State) → Fresh s → (ks : List ℕ) → ((k : ℕ) → Still (at (run t ks s) k))
+pub as-whole : (t : Task) → Laws t → (s : State) → FreshStart s → (ks : List ℕ) → ((k : ℕ) → Still (at (run t ks s) k))
     → run t ks s .plant ≡ whole t (takings t ks s) (s .plant)
 as-whole t l s f ks b = sim-still t (run t ks s) (whole t (takings t ks s) (s .plant)) (sim-run t l ks s (s .plant) (sim-fresh t s f) (held-fresh s f)) b
 

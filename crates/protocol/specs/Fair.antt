@@ -13,7 +13,7 @@ use lib.ListN.{length, drop}
 use Rattle.protocol.specs.Modes.{betweenCycles, waitingToWrite, readingExchange, executing, writingExchange}
 use Rattle.protocol.specs.State.{State, Task, core}
 use Rattle.protocol.specs.Step.{inLine, run, step}
-use Rattle.protocol.specs.Laws.{Laws, Fresh}
+use Rattle.protocol.specs.Laws.{Laws, FreshStart}
 use Rattle.verdict.specs.Verdict.{pick, both}
 
 -- ---- fit
@@ -38,8 +38,8 @@ firstIn k zero [] = false
 firstIn k zero (x ∷ xs) = eqb x k
 firstIn k (suc h) xs = false
 
-abbrev pub first : ℕ → State → Bool
-first k s = firstIn k (s .semaphore .holder) (s .semaphore .line)
+abbrev pub firstInLine : ℕ → State → Bool
+firstInLine k s = firstIn k (s .semaphore .holder) (s .semaphore .line)
 
 -- a step from mode m to m′ that ends an exchange: its release, 1 to 2 or 4 to 0
 abbrev pub releases : ℕ → ℕ → Bool
@@ -52,7 +52,7 @@ endOf k j s s′ = pick (both (releases (core (s .plant) j .registers .mode) (co
 -- how many exchanges of others than core k end within the steps js from s, before k is first and the semaphore is free
 abbrev pub endsSeen : Task → ℕ → List ℕ → State → ℕ
 endsSeen t k [] s = 0
-endsSeen t k (j ∷ js) s = pick (first k s) 0 (endOf k j s (step t j s) + endsSeen t k js (step t j s))
+endsSeen t k (j ∷ js) s = pick (firstInLine k s) 0 (endOf k j s (step t j s) + endsSeen t k js (step t j s))
 
 -- Of the steps ks from s, a step of core k after `before` by which it joins the line, and the steps after it
 pub record Joins (t : Task) (s : State) (ks : List ℕ) (k : ℕ) : Type 0 where
@@ -72,7 +72,7 @@ pub record Attained (n : ℕ) : Type 0 where
   pub task : Task
   pub start : State
   pub lawful : Laws task
-  pub fresh : Fresh start
+  pub fresh : FreshStart start
   pub table : length (start .plant .cores) ≡ n
   pub order : List ℕ
   pub core-in-line : ℕ

@@ -23,7 +23,7 @@ pub record Laws (t : Task) : Type 0 where
 abbrev pub Between : State → Type 0
 Between s = (k : ℕ) → (mode (core (s .plant) k) ≡ betweenCycles) ⊎ (mode (core (s .plant) k) ≡ stopped)
 
-pub record Fresh (s : State) : Type 0 where
+pub record FreshStart (s : State) : Type 0 where
   pub free : s .semaphore .holder ≡ 0
   pub between : Between s
   pub empty : s .semaphore .line ≡ []
@@ -37,6 +37,6 @@ abbrev pub Holding : Core → Type 0
 Holding c = (mode c ≡ readingExchange) ⊎ (mode c ≡ writingExchange)
 
 -- The semaphore: a core in an exchange holds it, and a holder is in an exchange; so at most one core is
-pub record Held (s : State) : Type 0 where
+pub record SemaphoreHeld (s : State) : Type 0 where
   pub held : (k : ℕ) → Holding (core (s .plant) k) → s .semaphore .holder ≡ suc k
   pub holding : (k : ℕ) → s .semaphore .holder ≡ suc k → Holding (core (s .plant) k)

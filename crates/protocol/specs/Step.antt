@@ -19,8 +19,8 @@ copy [] from to = to
 copy (m ∷ ms) from to = copy ms from (set to (m .target) (getD from (m .source) 0))
 
 -- the bytes of core c's exchange that are not copied yet, of all its bytes ms
-abbrev pub left : Core → List Move → List Move
-left c ms = drop (c .registers .exchange) ms
+abbrev pub uncopied : Core → List Move → List Move
+uncopied c ms = drop (c .registers .exchange) ms
 
 -- mode 0 to 1: the time and the input bytes of a record
 unfoldable pub readTaken : Sample → Core → Core
@@ -107,10 +107,10 @@ writeOn (m ∷ ms) sh k c s = record { plant = record { cores = set (s .plant .c
 abbrev pub stepIn : ℕ → Task → ℕ → Core → State → State
 stepIn m t k c s =
     pick (eqb m betweenCycles) (takeRead (drop (c .registers .cycles) (t .samples k)) (turn (s .semaphore) k) k c s)
-    (pick (eqb m readingExchange) (readOn (drop 1 (left c (t .reads k))) (copy (take 1 (left c (t .reads k))) (s .plant .shared) (c .memory)) k c s)
+    (pick (eqb m readingExchange) (readOn (drop 1 (uncopied c (t .reads k))) (copy (take 1 (uncopied c (t .reads k))) (s .plant .shared) (c .memory)) k c s)
     (pick (eqb m executing) (record { plant = put (s .plant) k (t .instruction k c); semaphore = s .semaphore })
     (pick (eqb m waitingToWrite) (takeWrite (turn (s .semaphore) k) k c s)
-    (pick (eqb m writingExchange) (writeOn (drop 1 (left c (t .writes k))) (copy (take 1 (left c (t .writes k))) (c .memory) (s .plant .shared)) k c s)
+    (pick (eqb m writingExchange) (writeOn (drop 1 (uncopied c (t .writes k))) (copy (take 1 (uncopied c (t .writes k))) (c .memory) (s .plant .shared)) k c s)
     s))))
 
 unfoldable pub step : Task → ℕ → State → State

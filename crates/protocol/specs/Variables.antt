@@ -36,17 +36,17 @@ span zero a b = []
 span (suc n) a b = record { source = a; target = b } ∷ span n (suc a) (suc b)
 
 -- the bytes of the named variables, in file order
-abbrev pub moves : (Variable → Bool) → (Variable → ℕ) → (Variable → ℕ) → List Variable → List Move
-moves named from to [] = []
-moves named from to (v ∷ vs) = pick (named v) (span (v .width) (from v) (to v)) [] ++ moves named from to vs
+abbrev pub movesOf : (Variable → Bool) → (Variable → ℕ) → (Variable → ℕ) → List Variable → List Move
+movesOf named from to [] = []
+movesOf named from to (v ∷ vs) = pick (named v) (span (v .width) (from v) (to v)) [] ++ movesOf named from to vs
 
 -- shared to local
 abbrev pub readsOf : List Variable → ℕ → List Move
-readsOf vs k = moves (readsIt k) (λ v. v .place) (local k) vs
+readsOf vs k = movesOf (readsIt k) (λ v. v .place) (local k) vs
 
 -- local to shared
 abbrev pub writesOf : List Variable → ℕ → List Move
-writesOf vs k = moves (writesIt k) (local k) (λ v. v .place) vs
+writesOf vs k = movesOf (writesIt k) (local k) (λ v. v .place) vs
 
 -- ---- what the loader accepts
 

@@ -15,10 +15,10 @@ use Rattle.memory.specs.Memory.{splice}
 use Rattle.protocol.specs.Registers.{readAcquired}
 use Rattle.protocol.specs.Modes.{stopped}
 use Rattle.protocol.specs.State.{Core, Semaphore, State, Move, Sample, Task, absent, mode}
-use Rattle.protocol.specs.Step.{acquiredBy, released, joinedBy, copy, left, turn, readTaken, readNext, readDone, writeTaken, writeNext, writeDone, takeRead, readOn, takeWrite, writeOn, stepIn, step, run, Taking, taken, takingOf, takings}
-use Rattle.protocol.specs.Laws.{Laws, Fresh, Holding, Held}
+use Rattle.protocol.specs.Step.{acquiredBy, released, joinedBy, copy, uncopied, turn, readTaken, readNext, readDone, writeTaken, writeNext, writeDone, takeRead, readOn, takeWrite, writeOn, stepIn, step, run, Taking, taken, takingOf, takings}
+use Rattle.protocol.specs.Laws.{Laws, FreshStart, Holding, SemaphoreHeld}
 use Rattle.protocol.specs.Variables.{In}
-use Rattle.races.specs.Footprint.{Place, control, local, byte, semaphore, Control, controlOf, Same, stretch, DataFootprints, SameSources, DataFootprintsRight, Footprint, locals, inputs, unspent, inTurn, sources, targets, release, footprintIn, footprint, Writes, Touches, SameRead, FootprintRight, RaceFree, Independent, Alike, Swaps, none, swap, later, more}
+use Rattle.races.specs.Footprint.{Place, control, local, byte, semaphore, Control, controlOf, SameAt, stretch, DataFootprints, SameSources, DataFootprintsRight, Footprint, locals, inputs, unspent, takingWrites, sources, targets, release, footprintIn, footprint, Writes, Touches, SameRead, FootprintRight, RaceFree, Independent, Alike, Swaps, none, swap, later, more}
 use Rattle.protocol.proofs.Runs.{task, start, samples, variables}
 use Rattle.protocol.proofs.View.{inside, there, Wants, after, at, Moves, rests, waits, takesRead, readsOn, readsLast, runs, takesWrite, writesOn, writesLast, view, past-modes}
 use Rattle.protocol.proofs.Bytes.{in-append, in-left, in-right}
@@ -91,7 +91,7 @@ same-core c c′ e l m = λ x. record { registers = e x .registers; stack = e x 
 
 -- states that have the same everywhere are the same
 same-state : (s s′ : State) → length (s .plant .cores) ≡ length (s′ .plant .cores) → ((k : ℕ) → length (at s k .memory) ≡ length (at s′ k .memory))
-    → length (s .plant .shared) ≡ length (s′ .plant .shared) → ((p : Place) → Same p s s′) → s ≡ s′
+    → length (s .plant .shared) ≡ length (s′ .plant .shared) → ((p : Place) → SameAt p s s′) → s ≡ s′
 same-state s s′ a l b h =
     λ x. record {
       plant = record {
@@ -106,11 +106,11 @@ same-state s s′ a l b h =
 -- core k, shared memory and the semaphore are replaced: each other place keeps what it has, and a byte of core k's data where it is the same
 elsewhere : (s : State) (k : ℕ) (c : Core) (sh : List ℕ) (m : Semaphore) → k < length (s .plant .cores) → (p : Place) → p ≢ control k
     → ((i : ℕ) → p ≡ local k i → getD (at s k .memory) i 0 ≡ getD (c .memory) i 0) → ((i : ℕ) → p ≡ byte i → getD (s .plant .shared) i 0 ≡ getD sh i 0)
-    → (p ≡ semaphore → s .semaphore ≡ m) → Same p s (after s k c sh m)
+    → (p ≡ semaphore → s .semaphore ≡ m) → SameAt p s (after s k c sh m)
 elsewhere s k c sh m h (control j) n d b e = sym (ap controlOf (getD-set-other (s .plant .cores) k j c absent (λ z. n (ap control z))))
 elsewhere s k c sh m h (local j i) n d b e = go (ℕ-discrete j k)
   where
-    go : Dec (j ≡ k) → Same (local j i) s (after s k c sh m)
+    go : Dec (j ≡ k) → SameAt (local j i) s (after s k c sh m)
     go (yes z) = rw z (d i (ap (λ (j : ℕ). local j i) z) ∙ sym (ap (λ (c : Core). getD (c .memory) i 0) (there s k c h)))
     go (no z) = sym (ap (λ (c : Core). getD (c .memory) i 0) (getD-set-other (s .plant .cores) k j c absent z))
 elsewhere s k c sh m h (byte i) n d b e = b i refl
@@ -128,17 +128,17 @@ module _ (t : Task) (o : DataFootprints) (right : DataFootprintsRight t o) (k : 
   unfolding footprint pick
   wants-semaphore (inr e) = rw e (go (turn (s .semaphore) k))
     where
-      go : (b : Bool) → In semaphore (inTurn b k [])
+      go : (b : Bool) → In semaphore (takingWrites b k [])
       go true = inr (inl refl)
       go false = inl refl
   wants-semaphore (inl w) = rw (w .0) (go (drop (at s k .registers .cycles) (t .samples k)) (w .1) (turn (s .semaphore) k))
     where
-      go : (rs : List Sample) → rs ≢ [] → (b : Bool) → In semaphore (unspent rs (inTurn b k (inputs k rs)))
+      go : (rs : List Sample) → rs ≢ [] → (b : Bool) → In semaphore (unspent rs (takingWrites b k (inputs k rs)))
       go [] n b = absurd (n refl)
       go (r ∷ rs) n true = inr (inl refl)
       go (r ∷ rs) n false = inl refl
 
-  changes-of : (s′ : State) (ts : List Taking) → Moves t k s s′ ts → (p : Place) → (Writes t o k s p → ⊥) → Same p s s′
+  changes-of : (s′ : State) (ts : List Taking) → Moves t k s s′ ts → (p : Place) → (Writes t o k s p → ⊥) → SameAt p s s′
   unfolding footprint readTaken readNext readDone writeTaken writeNext writeDone pick
   changes-of s′ ts (rests z) p n = refl
   changes-of s′ ts (waits i w b) (control j) n = refl
@@ -152,10 +152,10 @@ module _ (t : Task) (o : DataFootprints) (right : DataFootprintsRight t o) (k : 
       (λ i z. refl) (λ z. absurd (n (inr (inl z))))
   changes-of s′ ts (readsOn m ms i e d) p n =
       let n = rw (e, d) at n in
-      elsewhere s k _ _ _ i p (λ z. n (inl z)) (copy-kept (local k) (left (at s k) (t .reads k)) (s .plant .shared) (at s k .memory) p (λ h. n (inr h))) (λ i z. refl) (λ z. refl)
+      elsewhere s k _ _ _ i p (λ z. n (inl z)) (copy-kept (local k) (uncopied (at s k) (t .reads k)) (s .plant .shared) (at s k .memory) p (λ h. n (inr h))) (λ i z. refl) (λ z. refl)
   changes-of s′ ts (readsLast i e d) p n =
       let n = rw (e, d) at n in
-      elsewhere s k _ _ _ i p (λ z. n (inl z)) (copy-kept (local k) (left (at s k) (t .reads k)) (s .plant .shared) (at s k .memory) p (λ h. n (inr (inr h)))) (λ i z. refl)
+      elsewhere s k _ _ _ i p (λ z. n (inl z)) (copy-kept (local k) (uncopied (at s k) (t .reads k)) (s .plant .shared) (at s k .memory) p (λ h. n (inr (inr h)))) (λ i z. refl)
       (λ z. absurd (n (inr (inl z))))
   changes-of s′ ts (runs i e) p n =
       let n = rw e at n in
@@ -164,13 +164,13 @@ module _ (t : Task) (o : DataFootprints) (right : DataFootprintsRight t o) (k : 
       let n = rw (e, b) at n in elsewhere s k _ _ _ i p (λ z. n (inl z)) (λ a z. refl) (λ i z. refl) (λ z. absurd (n (inr (inl z))))
   changes-of s′ ts (writesOn m ms i e d) p n =
       let n = rw (e, d) at n in
-      elsewhere s k _ _ _ i p (λ z. n (inl z)) (λ a z. refl) (copy-kept byte (left (at s k) (t .writes k)) (at s k .memory) (s .plant .shared) p (λ h. n (inr h))) (λ z. refl)
+      elsewhere s k _ _ _ i p (λ z. n (inl z)) (λ a z. refl) (copy-kept byte (uncopied (at s k) (t .writes k)) (at s k .memory) (s .plant .shared) p (λ h. n (inr h))) (λ z. refl)
   changes-of s′ ts (writesLast i e d) p n =
       let n = rw (e, d) at n in
-      elsewhere s k _ _ _ i p (λ z. n (inl z)) (λ a z. refl) (copy-kept byte (left (at s k) (t .writes k)) (at s k .memory) (s .plant .shared) p (λ h. n (inr (inr h))))
+      elsewhere s k _ _ _ i p (λ z. n (inl z)) (λ a z. refl) (copy-kept byte (uncopied (at s k) (t .writes k)) (at s k .memory) (s .plant .shared) p (λ h. n (inr (inr h))))
       (λ z. absurd (n (inr (inl z))))
 
-  unwritten : (p : Place) → (Writes t o k s p → ⊥) → Same p s (step t k s)
+  unwritten : (p : Place) → (Writes t o k s p → ⊥) → SameAt p s (step t k s)
   unwritten = changes-of (step t k s) (takingOf t k s) (view t k s)
 
 -- ---- on what a step depends
@@ -212,7 +212,7 @@ module _ (t : Task) (o : DataFootprints) (right : DataFootprintsRight t o) (k : 
 
   -- core k is replaced: its registers with its call stack, a byte of its data
   control-same : {n : ℕ} → mode (at s k) ≡ n → n < 5 → (c c′ : Core) (sh sh′ : List ℕ) (m m′ : Semaphore) → controlOf c ≡ controlOf c′
-      → (p : Place) → p ≡ control k → Same p (after s k c sh m) (after s′ k c′ sh′ m′)
+      → (p : Place) → p ≡ control k → SameAt p (after s k c sh m) (after s′ k c′ sh′ m′)
   control-same {n} e h c c′ sh sh′ m m′ z p y =
       rw y
       (ap controlOf (there s k c (inside (s .plant .cores) k n e h))
@@ -227,41 +227,41 @@ module _ (t : Task) (o : DataFootprints) (right : DataFootprintsRight t o) (k : 
       ∙ sym (ap (λ (c : Core). getD (c .memory) i 0) (there s′ k c′ (inside (s′ .plant .cores) k n (sym (ap (λ (c : Control). c .registers .mode) same) ∙ e) h)))
 
   -- mode by mode
-  same0 : mode (at s k) ≡ 0 → (r : Sample) (rs : List Sample) (b : Bool) → s .semaphore ≡ s′ .semaphore → (p : Place) → In p (inTurn b k (inputs k (r ∷ rs)))
-      → Same p (takeRead (r ∷ rs) b k (at s k) s) (takeRead (r ∷ rs) b k other s′)
+  same0 : mode (at s k) ≡ 0 → (r : Sample) (rs : List Sample) (b : Bool) → s .semaphore ≡ s′ .semaphore → (p : Place) → In p (takingWrites b k (inputs k (r ∷ rs)))
+      → SameAt p (takeRead (r ∷ rs) b k (at s k) s) (takeRead (r ∷ rs) b k other s′)
   unfolding readTaken
   same0 e r rs true q p (inl y) = control-same e (omega arith) (readTaken r (at s k)) (readTaken r other) _ _ _ _ refl p y
   same0 e r rs true q p (inr (inl y)) = rw y (ap (acquiredBy k) q)
   same0 e r rs true q p (inr (inr h)) =
-      by-local (λ (p : Place). Same p (takeRead (r ∷ rs) true k (at s k) s) (takeRead (r ∷ rs) true k other s′)) k (stretch 0 (length (r .input)))
+      by-local (λ (p : Place). SameAt p (takeRead (r ∷ rs) true k (at s k) s) (takeRead (r ∷ rs) true k other s′)) k (stretch 0 (length (r .input)))
       (λ i m. local-same e (omega arith) (readTaken r (at s k)) (readTaken r other) i (splice-inside (at s k .memory) d 0 (r .input) i data-size m)) p h
   same0 e r rs false q p (inl y) = rw y (ap (joinedBy k) q)
   same0 e r rs false q p (inr h) = absurd h
 
-  same1 : mode (at s k) ≡ 1 → (ms ns : List Move) → ((p : Place) → In p (release ns) → Same p s s′) → ((i : ℕ) → In (byte i) (sources byte ms) → Same (byte i) s s′)
+  same1 : mode (at s k) ≡ 1 → (ms ns : List Move) → ((p : Place) → In p (release ns) → SameAt p s s′) → ((i : ℕ) → In (byte i) (sources byte ms) → SameAt (byte i) s s′)
       → (p : Place) → In p (control k ∷ release ns ++ targets (local k) ms)
-      → Same p (readOn ns (copy (take 1 ms) (s .plant .shared) (at s k .memory)) k (at s k) s) (readOn ns (copy (take 1 ms) (s′ .plant .shared) d) k other s′)
+      → SameAt p (readOn ns (copy (take 1 ms) (s .plant .shared) (at s k .memory)) k (at s k) s) (readOn ns (copy (take 1 ms) (s′ .plant .shared) d) k other s′)
   unfolding readNext readDone
   same1 e ms [] a b p (inl y) = control-same e (omega arith) _ _ _ _ _ _ refl p y
   same1 e ms [] a b p (inr (inl y)) = rw y (ap released (a semaphore (inl refl)))
   same1 e ms [] a b p (inr (inr h)) =
       copied-same byte (local k) ms (s .plant .shared) (s′ .plant .shared) (at s k .memory) d data-size b
-      (λ (p : Place). Same p (readOn [] (copy (take 1 ms) (s .plant .shared) (at s k .memory)) k (at s k) s) (readOn [] (copy (take 1 ms) (s′ .plant .shared) d) k other s′))
+      (λ (p : Place). SameAt p (readOn [] (copy (take 1 ms) (s .plant .shared) (at s k .memory)) k (at s k) s) (readOn [] (copy (take 1 ms) (s′ .plant .shared) d) k other s′))
       (λ i z. local-same e (omega arith) _ _ i z) p h
   same1 e ms (n ∷ ns) a b p (inl y) = control-same e (omega arith) _ _ _ _ _ _ refl p y
   same1 e ms (n ∷ ns) a b p (inr h) =
       copied-same byte (local k) ms (s .plant .shared) (s′ .plant .shared) (at s k .memory) d data-size b
-      (λ (p : Place). Same p (readOn (n ∷ ns) (copy (take 1 ms) (s .plant .shared) (at s k .memory)) k (at s k) s) (readOn (n ∷ ns) (copy (take 1 ms) (s′ .plant .shared) d) k other s′))
+      (λ (p : Place). SameAt p (readOn (n ∷ ns) (copy (take 1 ms) (s .plant .shared) (at s k .memory)) k (at s k) s) (readOn (n ∷ ns) (copy (take 1 ms) (s′ .plant .shared) d) k other s′))
       (λ i z. local-same e (omega arith) _ _ i z) p h
 
-  same2 : mode (at s k) ≡ 2 → SameSources o k (at s k) other → (p : Place) → In p (control k ∷ locals k (o k (at s k) .writes)) → Same p (stepIn 2 t k (at s k) s) (stepIn 2 t k other s′)
+  same2 : mode (at s k) ≡ 2 → SameSources o k (at s k) other → (p : Place) → In p (control k ∷ locals k (o k (at s k) .writes)) → SameAt p (stepIn 2 t k (at s k) s) (stepIn 2 t k other s′)
   unfolding pick
   same2 e a p (inl y) = control-same e (omega arith) _ _ _ _ _ _ (right .control-after k (at s k) other a) p y
   same2 e a p (inr h) =
-      by-local (λ (p : Place). Same p (stepIn 2 t k (at s k) s) (stepIn 2 t k other s′)) k (o k (at s k) .writes)
+      by-local (λ (p : Place). SameAt p (stepIn 2 t k (at s k) s) (stepIn 2 t k other s′)) k (o k (at s k) .writes)
       (λ i m. local-same e (omega arith) _ _ i (right .written k (at s k) other a i m)) p h
 
-  same3 : mode (at s k) ≡ 3 → (b : Bool) → s .semaphore ≡ s′ .semaphore → (p : Place) → In p (inTurn b k []) → Same p (takeWrite b k (at s k) s) (takeWrite b k other s′)
+  same3 : mode (at s k) ≡ 3 → (b : Bool) → s .semaphore ≡ s′ .semaphore → (p : Place) → In p (takingWrites b k []) → SameAt p (takeWrite b k (at s k) s) (takeWrite b k other s′)
   unfolding writeTaken
   same3 e true q p (inl y) = control-same e (omega arith) (writeTaken (at s k)) (writeTaken other) _ _ _ _ refl p y
   same3 e true q p (inr (inl y)) = rw y (ap (acquiredBy k) q)
@@ -269,20 +269,20 @@ module _ (t : Task) (o : DataFootprints) (right : DataFootprintsRight t o) (k : 
   same3 e false q p (inl y) = rw y (ap (joinedBy k) q)
   same3 e false q p (inr h) = absurd h
 
-  same4 : mode (at s k) ≡ 4 → (ms ns : List Move) → ((p : Place) → In p (release ns) → Same p s s′)
+  same4 : mode (at s k) ≡ 4 → (ms ns : List Move) → ((p : Place) → In p (release ns) → SameAt p s s′)
       → ((i : ℕ) → In (local k i) (sources (local k) ms) → getD (at s k .memory) i 0 ≡ getD d i 0) → (p : Place) → In p (control k ∷ release ns ++ targets byte ms)
-      → Same p (writeOn ns (copy (take 1 ms) (at s k .memory) (s .plant .shared)) k (at s k) s) (writeOn ns (copy (take 1 ms) d (s′ .plant .shared)) k other s′)
+      → SameAt p (writeOn ns (copy (take 1 ms) (at s k .memory) (s .plant .shared)) k (at s k) s) (writeOn ns (copy (take 1 ms) d (s′ .plant .shared)) k other s′)
   unfolding writeNext writeDone
   same4 e ms [] a b p (inl y) = control-same e (omega arith) _ _ _ _ _ _ refl p y
   same4 e ms [] a b p (inr (inl y)) = rw y (ap released (a semaphore (inl refl)))
   same4 e ms [] a b p (inr (inr h)) =
       copied-same (local k) byte ms (at s k .memory) d (s .plant .shared) (s′ .plant .shared) size b
-      (λ (p : Place). Same p (writeOn [] (copy (take 1 ms) (at s k .memory) (s .plant .shared)) k (at s k) s) (writeOn [] (copy (take 1 ms) d (s′ .plant .shared)) k other s′))
+      (λ (p : Place). SameAt p (writeOn [] (copy (take 1 ms) (at s k .memory) (s .plant .shared)) k (at s k) s) (writeOn [] (copy (take 1 ms) d (s′ .plant .shared)) k other s′))
       (λ i z. z) p h
   same4 e ms (n ∷ ns) a b p (inl y) = control-same e (omega arith) _ _ _ _ _ _ refl p y
   same4 e ms (n ∷ ns) a b p (inr h) =
       copied-same (local k) byte ms (at s k .memory) d (s .plant .shared) (s′ .plant .shared) size b
-      (λ (p : Place). Same p (writeOn (n ∷ ns) (copy (take 1 ms) (at s k .memory) (s .plant .shared)) k (at s k) s) (writeOn (n ∷ ns) (copy (take 1 ms) d (s′ .plant .shared)) k other s′))
+      (λ (p : Place). SameAt p (writeOn (n ∷ ns) (copy (take 1 ms) (at s k .memory) (s .plant .shared)) k (at s k) s) (writeOn (n ∷ ns) (copy (take 1 ms) d (s′ .plant .shared)) k other s′))
       (λ i z. z) p h
 
 module _ (t : Task) (o : DataFootprints) (right : DataFootprintsRight t o) (k : ℕ) (s s′ : State) (size : length (s .plant .shared) ≡ length (s′ .plant .shared))
@@ -291,53 +291,53 @@ module _ (t : Task) (o : DataFootprints) (right : DataFootprintsRight t o) (k : 
   abbrev there-too : Core
   there-too = withData (controlOf (at s k)) (at s′ k .memory)
 
-  same-sources : ((p : Place) → In p (control k ∷ locals k (o k (at s k) .reads)) → Same p s s′) → SameSources o k (at s k) there-too
+  same-sources : ((p : Place) → In p (control k ∷ locals k (o k (at s k) .reads)) → SameAt p s s′) → SameSources o k (at s k) there-too
   same-sources a = record { same-control = refl; size = data-size; read = λ i h. a (local k i) (inr (in-locals k (o k (at s k) .reads) i h)) }
 
   -- the places
-  places-in : (n : ℕ) → ((p : Place) → In p (footprintIn n t o k (at s k) (turn (s .semaphore) k) .reads) → Same p s s′)
+  places-in : (n : ℕ) → ((p : Place) → In p (footprintIn n t o k (at s k) (turn (s .semaphore) k) .reads) → SameAt p s s′)
       → footprintIn n t o k (at s k) (turn (s .semaphore) k) ≡ footprintIn n t o k there-too (turn (s′ .semaphore) k)
   unfolding pick
   places-in zero a = go (drop (at s k .registers .cycles) (t .samples k)) a
     where
-      go : (rs : List Sample) → ((p : Place) → In p (control k ∷ unspent rs (semaphore ∷ [])) → Same p s s′)
-          → _≡_ {A = Footprint} (record { reads = control k ∷ unspent rs (semaphore ∷ []); writes = unspent rs (inTurn (turn (s .semaphore) k) k (inputs k rs)) })
-          (record { reads = control k ∷ unspent rs (semaphore ∷ []); writes = unspent rs (inTurn (turn (s′ .semaphore) k) k (inputs k rs)) })
+      go : (rs : List Sample) → ((p : Place) → In p (control k ∷ unspent rs (semaphore ∷ [])) → SameAt p s s′)
+          → _≡_ {A = Footprint} (record { reads = control k ∷ unspent rs (semaphore ∷ []); writes = unspent rs (takingWrites (turn (s .semaphore) k) k (inputs k rs)) })
+          (record { reads = control k ∷ unspent rs (semaphore ∷ []); writes = unspent rs (takingWrites (turn (s′ .semaphore) k) k (inputs k rs)) })
       go [] a = refl
-      go (r ∷ rs) a = ap (λ (m : Semaphore). record { reads = control k ∷ semaphore ∷ []; writes = inTurn (turn m k) k (inputs k (r ∷ rs)) }) (a semaphore (inr (inl refl)))
+      go (r ∷ rs) a = ap (λ (m : Semaphore). record { reads = control k ∷ semaphore ∷ []; writes = takingWrites (turn m k) k (inputs k (r ∷ rs)) }) (a semaphore (inr (inl refl)))
   places-in (suc zero) a = refl
   places-in (suc (suc zero)) a =
       let e = right .bytes k (at s k) there-too (same-sources a) in λ x. record { reads = control k ∷ locals k (e x .reads); writes = control k ∷ locals k (e x .writes) }
-  places-in (suc (suc (suc zero))) a = ap (λ (m : Semaphore). record { reads = control k ∷ semaphore ∷ []; writes = inTurn (turn m k) k [] }) (a semaphore (inr (inl refl)))
+  places-in (suc (suc (suc zero))) a = ap (λ (m : Semaphore). record { reads = control k ∷ semaphore ∷ []; writes = takingWrites (turn m k) k [] }) (a semaphore (inr (inl refl)))
   places-in (suc (suc (suc (suc zero)))) a = refl
   places-in (suc (suc (suc (suc (suc n))))) a = stopped-places n t o k (at s k) (turn (s .semaphore) k) ∙ sym (stopped-places n t o k there-too (turn (s′ .semaphore) k))
 
   -- what is written there
-  same-in : (n : ℕ) → mode (at s k) ≡ n → ((p : Place) → In p (footprintIn n t o k (at s k) (turn (s .semaphore) k) .reads) → Same p s s′)
-      → (p : Place) → In p (footprintIn n t o k (at s k) (turn (s .semaphore) k) .writes) → Same p (stepIn n t k (at s k) s) (stepIn n t k there-too s′)
+  same-in : (n : ℕ) → mode (at s k) ≡ n → ((p : Place) → In p (footprintIn n t o k (at s k) (turn (s .semaphore) k) .reads) → SameAt p s s′)
+      → (p : Place) → In p (footprintIn n t o k (at s k) (turn (s .semaphore) k) .writes) → SameAt p (stepIn n t k (at s k) s) (stepIn n t k there-too s′)
   unfolding pick
   same-in zero e a p h = go (drop (at s k .registers .cycles) (t .samples k)) a h
     where
-      go : (rs : List Sample) → ((p : Place) → In p (control k ∷ unspent rs (semaphore ∷ [])) → Same p s s′)
-          → In p (unspent rs (inTurn (turn (s .semaphore) k) k (inputs k rs)))
-          → Same p (takeRead rs (turn (s .semaphore) k) k (at s k) s) (takeRead rs (turn (s′ .semaphore) k) k there-too s′)
+      go : (rs : List Sample) → ((p : Place) → In p (control k ∷ unspent rs (semaphore ∷ [])) → SameAt p s s′)
+          → In p (unspent rs (takingWrites (turn (s .semaphore) k) k (inputs k rs)))
+          → SameAt p (takeRead rs (turn (s .semaphore) k) k (at s k) s) (takeRead rs (turn (s′ .semaphore) k) k there-too s′)
       go [] a h = absurd h
       go (r ∷ rs) a h =
           let q = a semaphore (inr (inl refl)) in
-          subst (λ (m : Semaphore). Same p (takeRead (r ∷ rs) (turn (s .semaphore) k) k (at s k) s) (takeRead (r ∷ rs) (turn m k) k there-too s′)) q
+          subst (λ (m : Semaphore). SameAt p (takeRead (r ∷ rs) (turn (s .semaphore) k) k (at s k) s) (takeRead (r ∷ rs) (turn m k) k there-too s′)) q
           (same0 t o right k s s′ size same (at s′ k .memory) data-size e r rs (turn (s .semaphore) k) q p h)
   same-in (suc zero) e a p h =
-      let ms = left (at s k) (t .reads k) in
+      let ms = uncopied (at s k) (t .reads k) in
       same1 t o right k s s′ size same (at s′ k .memory) data-size e ms (drop 1 ms)
       (λ p h. a p (inr (in-left p (release (drop 1 ms)) (sources byte ms) h)))
       (λ i h. a (byte i) (inr (in-right (byte i) (release (drop 1 ms)) (sources byte ms) h))) p h
   same-in (suc (suc zero)) e a p h = same2 t o right k s s′ size same (at s′ k .memory) data-size e (same-sources a) p h
   same-in (suc (suc (suc zero))) e a p h =
       let q = a semaphore (inr (inl refl)) in
-      subst (λ (m : Semaphore). Same p (takeWrite (turn (s .semaphore) k) k (at s k) s) (takeWrite (turn m k) k there-too s′)) q
+      subst (λ (m : Semaphore). SameAt p (takeWrite (turn (s .semaphore) k) k (at s k) s) (takeWrite (turn m k) k there-too s′)) q
       (same3 t o right k s s′ size same (at s′ k .memory) data-size e (turn (s .semaphore) k) q p h)
   same-in (suc (suc (suc (suc zero)))) e a p h =
-      let ms = left (at s k) (t .writes k) in
+      let ms = uncopied (at s k) (t .writes k) in
       same4 t o right k s s′ size same (at s′ k .memory) data-size e ms (drop 1 ms)
       (λ p h. a p (inr (in-left p (release (drop 1 ms)) (sources (local k) ms) h)))
       (λ i h. a (local k i) (inr (in-right (local k i) (release (drop 1 ms)) (sources (local k) ms) h))) p h
@@ -354,10 +354,10 @@ module _ (t : Task) (o : DataFootprints) (right : DataFootprintsRight t o) (k : 
       by-control (λ (c : Core). footprintIn (mode (at s k)) t o k (at s k) (turn (s .semaphore) k) ≡ footprintIn (mode c) t o k c (turn (s′ .semaphore) k)) (at s k) (at s′ k) control-too
       (places-in t o right k s s′ (a .size) control-too (a .data-size) (mode (at s k)) (a .read))
 
-  same-written : (p : Place) → Writes t o k s p → Same p (step t k s) (step t k s′)
+  same-written : (p : Place) → Writes t o k s p → SameAt p (step t k s) (step t k s′)
   unfolding footprint step
   same-written p h =
-      by-control (λ (c : Core). Same p (stepIn (mode (at s k)) t k (at s k) s) (stepIn (mode c) t k c s′)) (at s k) (at s′ k) control-too
+      by-control (λ (c : Core). SameAt p (stepIn (mode (at s k)) t k (at s k) s) (stepIn (mode c) t k c s′)) (at s k) (at s′ k) control-too
       (same-in t o right k s s′ (a .size) control-too (a .data-size) (mode (at s k)) refl (a .read) p h)
 
   -- core k's registers after the step, written or not
@@ -434,7 +434,7 @@ module _ (t : Task) (o : DataFootprints) (k : ℕ) (c : Core) where
   kinds-unspent [] ps z = none-at-all
   kinds-unspent (r ∷ rs) ps z = z
 
-  kinds-turn : (b : Bool) (ps : List Place) → Kinds k c ps → Kinds k c (inTurn b k ps)
+  kinds-turn : (b : Bool) (ps : List Place) → Kinds k c ps → Kinds k c (takingWrites b k ps)
   kinds-turn true ps z = with-control (with-semaphore z)
   kinds-turn false ps z = with-semaphore none-at-all
 
@@ -446,23 +446,23 @@ module _ (t : Task) (o : DataFootprints) (k : ℕ) (c : Core) where
   unfolding pick
   reads-kinds zero b e = with-control (kinds-unspent (drop (c .registers .cycles) (t .samples k)) (semaphore ∷ []) (with-semaphore none-at-all))
   reads-kinds (suc zero) b e =
-      let ms = left c (t .reads k) in with-control (with-release (drop 1 ms) (sources byte ms) (kinds-sources byte ms (λ i. copied i refl (inl e))))
+      let ms = uncopied c (t .reads k) in with-control (with-release (drop 1 ms) (sources byte ms) (kinds-sources byte ms (λ i. copied i refl (inl e))))
   reads-kinds (suc (suc zero)) b e = with-control (kinds-locals (o k c .reads))
   reads-kinds (suc (suc (suc zero))) b e = with-control (with-semaphore none-at-all)
   reads-kinds (suc (suc (suc (suc zero)))) b e =
-      let ms = left c (t .writes k) in with-control (with-release (drop 1 ms) (sources (local k) ms) (kinds-sources (local k) ms (λ i. its-data i refl)))
+      let ms = uncopied c (t .writes k) in with-control (with-release (drop 1 ms) (sources (local k) ms) (kinds-sources (local k) ms (λ i. its-data i refl)))
   reads-kinds (suc (suc (suc (suc (suc n))))) b e = rw (stopped-places n t o k c b) (with-control none-at-all)
 
   writes-kinds : (n : ℕ) (b : Bool) → mode c ≡ n → Kinds k c (footprintIn n t o k c b .writes)
   unfolding pick
   writes-kinds zero b e =
-      let rs = drop (c .registers .cycles) (t .samples k) in kinds-unspent rs (inTurn b k (inputs k rs)) (kinds-turn b (inputs k rs) (kinds-inputs rs))
+      let rs = drop (c .registers .cycles) (t .samples k) in kinds-unspent rs (takingWrites b k (inputs k rs)) (kinds-turn b (inputs k rs) (kinds-inputs rs))
   writes-kinds (suc zero) b e =
-      let ms = left c (t .reads k) in with-control (with-release (drop 1 ms) (targets (local k) ms) (kinds-targets (local k) ms (λ i. its-data i refl)))
+      let ms = uncopied c (t .reads k) in with-control (with-release (drop 1 ms) (targets (local k) ms) (kinds-targets (local k) ms (λ i. its-data i refl)))
   writes-kinds (suc (suc zero)) b e = with-control (kinds-locals (o k c .writes))
   writes-kinds (suc (suc (suc zero))) b e = kinds-turn b [] none-at-all
   writes-kinds (suc (suc (suc (suc zero)))) b e =
-      let ms = left c (t .writes k) in with-control (with-release (drop 1 ms) (targets byte ms) (kinds-targets byte ms (λ i. copied i refl (inr e))))
+      let ms = uncopied c (t .writes k) in with-control (with-release (drop 1 ms) (targets byte ms) (kinds-targets byte ms (λ i. copied i refl (inr e))))
   writes-kinds (suc (suc (suc (suc (suc n))))) b e = rw (stopped-places n t o k c b) none-at-all
 
 kind : (t : Task) (o : DataFootprints) (k : ℕ) (s : State) (p : Place) → Touches t o k s p → Kind k (at s k) p
@@ -470,7 +470,7 @@ unfolding footprint
 kind t o k s p (inl h) = reads-kinds t o k (at s k) (mode (at s k)) (turn (s .semaphore) k) refl .each p h
 kind t o k s p (inr h) = writes-kinds t o k (at s k) (mode (at s k)) (turn (s .semaphore) k) refl .each p h
 
-module _ (t : Task) (o : DataFootprints) (s : State) (x : Held s) where
+module _ (t : Task) (o : DataFootprints) (s : State) (x : SemaphoreHeld s) where
   kinds-meet : (j k : ℕ) → j ≢ k → (p : Place) → Kind j (at s j) p → Kind k (at s k) p → p ≡ semaphore
   kinds-meet j k n p (asked e) b = e
   kinds-meet j k n p (its-control e) (asked f) = f
@@ -514,7 +514,7 @@ module _ (t : Task) (o : DataFootprints) (s : State) (x : Held s) where
   }
 
 -- After every list of steps from a fresh state, cores do not race
-pub race-free : (t : Task) → Laws t → (o : DataFootprints) (s : State) → Fresh s → (ks : List ℕ) → RaceFree t o (run t ks s)
+pub race-free : (t : Task) → Laws t → (o : DataFootprints) (s : State) → FreshStart s → (ks : List ℕ) → RaceFree t o (run t ks s)
 race-free t l o s f ks = race-free-held t o (run t ks s) (held-run t l s f ks)
 
 -- ---- two steps
@@ -522,7 +522,7 @@ race-free t l o s f ks = race-free-held t o (run t ks s) (held-run t l s f ks)
 turned : {t : Task} {o : DataFootprints} {j k : ℕ} {s : State} → Independent t o j k s → Independent t o k j s
 turned d = record { different = λ e. d .different (sym e); not-both = λ a b. d .not-both b a }
 
-module _ (t : Task) (l : Laws t) (o : DataFootprints) (right : DataFootprintsRight t o) (s : State) (x : Held s) where
+module _ (t : Task) (l : Laws t) (o : DataFootprints) (right : DataFootprintsRight t o) (s : State) (x : SemaphoreHeld s) where
   -- what one writes, the other does not touch
   apart : {j k : ℕ} → Independent t o j k s → (p : Place) → Writes t o j s p → Touches t o k s p → ⊥
   apart {j} {k} d p w h = let e = race-free-held t o s x .no-race j k (d .different) p w h in d .not-both (inr (rw e at w)) (rw e at h)
@@ -536,11 +536,11 @@ module _ (t : Task) (l : Laws t) (o : DataFootprints) (right : DataFootprintsRig
   }
 
   -- what core k's step does not write from s, it does not write after core j's step either
-  then-kept : {j k : ℕ} → Independent t o j k s → (p : Place) → (Writes t o k s p → ⊥) → Same p (step t j s) (step t k (step t j s))
+  then-kept : {j k : ℕ} → Independent t o j k s → (p : Place) → (Writes t o k s p → ⊥) → SameAt p (step t j s) (step t k (step t j s))
   then-kept {j} {k} d p n = unwritten t o right k (step t j s) p (λ w. n (rw (← same-places t o right k s (step t j s) (still-read (turned d))) at w))
 
   -- what core j's step writes stands there in the end, whichever comes first
-  either-way : {j k : ℕ} → Independent t o j k s → (p : Place) → Writes t o j s p → Same p (step t k (step t j s)) (step t j (step t k s))
+  either-way : {j k : ℕ} → Independent t o j k s → (p : Place) → Writes t o j s p → SameAt p (step t k (step t j s)) (step t j (step t k s))
   either-way {j} {k} d p w = sym (then-kept d p (λ h. apart d p w (inr h))) ∙ same-written t o right j s (step t k s) (still-read d) p w
 
   commute : {j k : ℕ} → Independent t o j k s → step t k (step t j s) ≡ step t j (step t k s)
@@ -551,7 +551,7 @@ module _ (t : Task) (l : Laws t) (o : DataFootprints) (right : DataFootprintsRig
       (lengths t l k (step t j s) .shared ∙ lengths t l j s .shared ∙ sym (lengths t l j (step t k s) .shared ∙ lengths t l k s .shared))
       (λ p. go p (in? p (footprint t o j s .writes)) (in? p (footprint t o k s .writes)))
     where
-      go : (p : Place) → Dec (Writes t o j s p) → Dec (Writes t o k s p) → Same p (step t k (step t j s)) (step t j (step t k s))
+      go : (p : Place) → Dec (Writes t o j s p) → Dec (Writes t o k s p) → SameAt p (step t k (step t j s)) (step t j (step t k s))
       go p (yes w) b = either-way d p w
       go p (no a) (yes w) = sym (either-way (turned d) p w)
       go p (no a) (no b) = sym (unwritten t o right j s p a ∙ then-kept d p b) ∙ unwritten t o right k s p b ∙ then-kept (turned d) p a
@@ -583,7 +583,7 @@ one-takes t o j k s d ts = go (taking-asks t o j s _ _ (view t j s)) (taking-ask
 -- ---- lists of steps
 
 module _ (t : Task) (l : Laws t) (o : DataFootprints) (right : DataFootprintsRight t o) where
-  swap-alike : {j k : ℕ} (ks : List ℕ) (s : State) → Held s → Independent t o j k s → Alike t (j ∷ k ∷ ks) (k ∷ j ∷ ks) s
+  swap-alike : {j k : ℕ} (ks : List ℕ) (s : State) → SemaphoreHeld s → Independent t o j k s → Alike t (j ∷ k ∷ ks) (k ∷ j ∷ ks) s
   swap-alike {j} {k} ks s x d = record {
     end = ap (run t ks) (commute t l o right s x d);
     takings-same =
@@ -592,7 +592,7 @@ module _ (t : Task) (l : Laws t) (o : DataFootprints) (right : DataFootprintsRig
   }
 
   -- Lists of steps from such a state that differ by such changes of places end alike, with the same takings
-  pub alike : {s : State} {js ks : List ℕ} → Held s → Swaps t o s js ks → Alike t js ks s
+  pub alike : {s : State} {js ks : List ℕ} → SemaphoreHeld s → Swaps t o s js ks → Alike t js ks s
   alike x none = record { end = refl; takings-same = refl }
   alike {s} x (swap {ks = ks} d) = swap-alike ks s x d
   alike {s} x (later {k = k} w) =
@@ -600,11 +600,11 @@ module _ (t : Task) (l : Laws t) (o : DataFootprints) (right : DataFootprintsRig
   alike x (more v w) = let y = alike x v in let z = alike x w in record { end = y .end ∙ z .end; takings-same = y .takings-same ∙ z .takings-same }
 
   -- After every list of steps from a fresh state: two steps of different cores that do not both touch the semaphore can change places
-  pub steps-commute : (s : State) → Fresh s → (is : List ℕ) (j k : ℕ) → Independent t o j k (run t is s) → Alike t (j ∷ k ∷ []) (k ∷ j ∷ []) (run t is s)
+  pub steps-commute : (s : State) → FreshStart s → (is : List ℕ) (j k : ℕ) → Independent t o j k (run t is s) → Alike t (j ∷ k ∷ []) (k ∷ j ∷ []) (run t is s)
   steps-commute s f is j k d = swap-alike [] (run t is s) (held-run t l s f is) d
 
   -- Lists of steps from a fresh state that differ by such changes of places end alike, with the same takings
-  pub swaps-alike : (s : State) → Fresh s → (js ks : List ℕ) → Swaps t o s js ks → Alike t js ks s
+  pub swaps-alike : (s : State) → FreshStart s → (js ks : List ℕ) → Swaps t o s js ks → Alike t js ks s
   swaps-alike s f js ks w = alike (held-fresh s f) w
 
 -- Changes of places can be taken back
@@ -653,17 +653,17 @@ module _ (t : Task) (o : DataFootprints) (k : ℕ) (c : Core) (b b′ : Bool) wh
   asks-in zero (inl h) = h
   asks-in zero (inr h) = go (drop (c .registers .cycles) (t .samples k)) h
     where
-      go : (rs : List Sample) → In semaphore (unspent rs (inTurn b k (inputs k rs))) → In semaphore (control k ∷ unspent rs (semaphore ∷ []))
+      go : (rs : List Sample) → In semaphore (unspent rs (takingWrites b k (inputs k rs))) → In semaphore (control k ∷ unspent rs (semaphore ∷ []))
       go [] h = absurd h
       go (r ∷ rs) h = inr (inl refl)
   asks-in (suc zero) (inl h) = h
-  asks-in (suc zero) (inr h) = let ms = left c (t .reads k) in released-read (local k) byte (λ i e. never (cc)) (drop 1 ms) ms h
+  asks-in (suc zero) (inr h) = let ms = uncopied c (t .reads k) in released-read (local k) byte (λ i e. never (cc)) (drop 1 ms) ms h
   asks-in (suc (suc zero)) (inl h) = h
   asks-in (suc (suc zero)) (inr (inl z)) = inl z
   asks-in (suc (suc zero)) (inr (inr h)) = absurd (not-data k (o k c .writes) h)
   asks-in (suc (suc (suc zero))) h = inr (inl refl)
   asks-in (suc (suc (suc (suc zero)))) (inl h) = h
-  asks-in (suc (suc (suc (suc zero)))) (inr h) = let ms = left c (t .writes k) in released-read byte (local k) (λ i e. never (cc)) (drop 1 ms) ms h
+  asks-in (suc (suc (suc (suc zero)))) (inr h) = let ms = uncopied c (t .writes k) in released-read byte (local k) (λ i e. never (cc)) (drop 1 ms) ms h
   asks-in (suc (suc (suc (suc (suc n))))) (inl h) = rw (stopped-places n t o k c b′) (rw (stopped-places n t o k c b) at h)
   asks-in (suc (suc (suc (suc (suc n))))) (inr h) = absurd (rw (stopped-places n t o k c b) at h)
 

@@ -15,7 +15,7 @@ use Rattle.protocol.specs.Modes.{betweenCycles, readingExchange, executing, wai
 use Rattle.protocol.specs.declared.Registers.{Registers}
 use Rattle.protocol.specs.declared.Stack.{Stack}
 use Rattle.protocol.specs.State.{Core, Semaphore, State, Move, Sample, Task, core, mode}
-use Rattle.protocol.specs.Step.{left, turn, step, run, takingOf, takings}
+use Rattle.protocol.specs.Step.{uncopied, turn, step, run, takingOf, takings}
 use Rattle.protocol.specs.Variables.{In}
 
 -- ---- places. The file and the trace, which no step writes, are none.
@@ -48,8 +48,8 @@ content (byte i) s = getD (s .plant .shared) i 0
 content semaphore s = s .semaphore
 
 -- the same stands there in both states
-abbrev pub Same : Place → State → State → Type 0
-Same p s s′ = content p s ≡ content p s′
+abbrev pub SameAt : Place → State → State → Type 0
+SameAt p s s′ = content p s ≡ content p s′
 
 -- the n bytes from byte i on
 abbrev pub stretch : ℕ → ℕ → List ℕ
@@ -102,9 +102,9 @@ unspent [] ps = []
 unspent (r ∷ rs) ps = ps
 
 -- what core k writes with a taking in its turn; out of it, it writes the line alone
-abbrev pub inTurn : Bool → ℕ → List Place → List Place
-inTurn true k ps = control k ∷ semaphore ∷ ps
-inTurn false k ps = semaphore ∷ []
+abbrev pub takingWrites : Bool → ℕ → List Place → List Place
+takingWrites true k ps = control k ∷ semaphore ∷ ps
+takingWrites false k ps = semaphore ∷ []
 
 -- the byte that is copied, if any is left: where it comes from, where it goes; of shared memory (`byte`) or of core k's data (`local k`)
 abbrev pub sources : (ℕ → Place) → List Move → List Place
@@ -124,21 +124,21 @@ footprintIn m t o k c b =
     pick (eqb m betweenCycles)
     (record {
       reads = control k ∷ unspent (drop (c .registers .cycles) (t .samples k)) (semaphore ∷ []);
-      writes = unspent (drop (c .registers .cycles) (t .samples k)) (inTurn b k (inputs k (drop (c .registers .cycles) (t .samples k))));
+      writes = unspent (drop (c .registers .cycles) (t .samples k)) (takingWrites b k (inputs k (drop (c .registers .cycles) (t .samples k))));
     })
     (pick (eqb m readingExchange)
     (record {
-      reads = control k ∷ release (drop 1 (left c (t .reads k))) ++ sources byte (left c (t .reads k));
-      writes = control k ∷ release (drop 1 (left c (t .reads k))) ++ targets (local k) (left c (t .reads k));
+      reads = control k ∷ release (drop 1 (uncopied c (t .reads k))) ++ sources byte (uncopied c (t .reads k));
+      writes = control k ∷ release (drop 1 (uncopied c (t .reads k))) ++ targets (local k) (uncopied c (t .reads k));
     })
     (pick (eqb m executing)
     (record { reads = control k ∷ locals k (o k c .reads); writes = control k ∷ locals k (o k c .writes) })
     (pick (eqb m waitingToWrite)
-    (record { reads = control k ∷ semaphore ∷ []; writes = inTurn b k [] })
+    (record { reads = control k ∷ semaphore ∷ []; writes = takingWrites b k [] })
     (pick (eqb m writingExchange)
     (record {
-      reads = control k ∷ release (drop 1 (left c (t .writes k))) ++ sources (local k) (left c (t .writes k));
-      writes = control k ∷ release (drop 1 (left c (t .writes k))) ++ targets byte (left c (t .writes k));
+      reads = control k ∷ release (drop 1 (uncopied c (t .writes k))) ++ sources (local k) (uncopied c (t .writes k));
+      writes = control k ∷ release (drop 1 (uncopied c (t .writes k))) ++ targets byte (uncopied c (t .writes k));
     })
     (record { reads = control k ∷ []; writes = [] })))))
 
@@ -161,18 +161,18 @@ Touches t o k s p = Reads t o k s p ⊎ Writes t o k s p
 pub record SameRead (t : Task) (o : DataFootprints) (k : ℕ) (s s′ : State) : Type 0 where
   pub size : length (s .plant .shared) ≡ length (s′ .plant .shared)
   pub data-size : length (core (s .plant) k .memory) ≡ length (core (s′ .plant) k .memory)
-  pub read : (p : Place) → Reads t o k s p → Same p s s′
+  pub read : (p : Place) → Reads t o k s p → SameAt p s s′
 
 -- The step of core k from s
 pub record FootprintRight (t : Task) (o : DataFootprints) (k : ℕ) (s : State) : Type 0 where
   -- it changes nothing but what it writes; no cores, no data and no shared bytes come or go
-  pub changes : (p : Place) → (Writes t o k s p → ⊥) → Same p s (step t k s)
+  pub changes : (p : Place) → (Writes t o k s p → ⊥) → SameAt p s (step t k s)
   pub cores-number : length (step t k s .plant .cores) ≡ length (s .plant .cores)
   pub data-sizes : (j : ℕ) → length (core (step t k s .plant) j .memory) ≡ length (core (s .plant) j .memory)
   pub shared-size : length (step t k s .plant .shared) ≡ length (s .plant .shared)
   -- it depends on nothing but what it reads: the places, what it writes there, and its taking
   pub places : (s′ : State) → SameRead t o k s s′ → footprint t o k s ≡ footprint t o k s′
-  pub written : (s′ : State) → SameRead t o k s s′ → (p : Place) → Writes t o k s p → Same p (step t k s) (step t k s′)
+  pub written : (s′ : State) → SameRead t o k s s′ → (p : Place) → Writes t o k s p → SameAt p (step t k s) (step t k s′)
   pub taking : (s′ : State) → SameRead t o k s s′ → takingOf t k s ≡ takingOf t k s′
 
 -- ---- no races

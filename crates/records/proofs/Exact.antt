@@ -18,7 +18,7 @@ use Rattle.code.specs.Profiles.{mostData}
 use Rattle.code.specs.Code.{isWidth}
 use Rattle.code.proofs.Rules.{keeps-width, accepts-width}
 use Rattle.records.specs.File.{cores, dataSize, inputSize}
-use Rattle.records.specs.Records.{coreOk, bit, oneWriter, named, placeOk, partOk, partsOk, variableOk, meets, meetsShared, meetsIn, overlap}
+use Rattle.records.specs.Records.{coreOk, bit, oneWriter, usedBy, placeOk, partOk, partsOk, variableOk, meets, meetsShared, meetsIn, overlap}
 use Rattle.records.specs.Rules.{CoreRulesFor, Writer, VariableRules, Apart}
 
 -- ---- tests and bits
@@ -46,7 +46,7 @@ reads-low : (k : ℕ) (v : Variable) → T (readsIt k v) → k < 4
 unfolding readsIt
 reads-low k v t = ltb-true _ _ (both-true (ltb k 4) (eqb (bit (v .attribute) (4 + k)) 1) (holds _ t) .0)
 
-pub named-low : (k : ℕ) (v : Variable) → T (named k v) → k < 4
+pub named-low : (k : ℕ) (v : Variable) → T (usedBy k v) → k < 4
 named-low k v t = go (readsIt k v) (writesIt k v) refl refl t
   where
     go : (r w : Bool) → readsIt k v ≡ r → writesIt k v ≡ w → T (either r w) → k < 4
@@ -165,7 +165,7 @@ module _ (f : List ℕ) (v : Variable) (k : ℕ) where
       let e : false ≡ true = rw (holds (readsIt k v) r, holds (writesIt k v) w) at z in
       absurd-bool e
 
-  part-named : partOk f v k ≡ true → T (named k v) → placeOk f v k ≡ true
+  part-named : partOk f v k ≡ true → T (usedBy k v) → placeOk f v k ≡ true
   unfolding partOk pick
   part-named z t = go (readsIt k v) (writesIt k v) refl refl t
     where
@@ -175,7 +175,7 @@ module _ (f : List ℕ) (v : Variable) (k : ℕ) where
       go false true a b u = rw (a, b) at z
       go false false a b u = absurd u
 
-  part-unnamed : partOk f v k ≡ true → (T (named k v) → ⊥) → local k v ≡ 0
+  part-unnamed : partOk f v k ≡ true → (T (usedBy k v) → ⊥) → local k v ≡ 0
   unfolding partOk pick
   part-unnamed z n =
       let a : readsIt k v ≡ false = fails (readsIt k v) (λ t. n (either-left (readsIt k v) (writesIt k v) t)) in
@@ -183,7 +183,7 @@ module _ (f : List ℕ) (v : Variable) (k : ℕ) where
       eqb-true (local k v) 0 (rw (a, b) at z)
 
   -- and back
-  part-ok : (T (readsIt k v) → T (writesIt k v) → ⊥) → (T (named k v) → placeOk f v k ≡ true) → ((T (named k v) → ⊥) → local k v ≡ 0) → partOk f v k ≡ true
+  part-ok : (T (readsIt k v) → T (writesIt k v) → ⊥) → (T (usedBy k v) → placeOk f v k ≡ true) → ((T (usedBy k v) → ⊥) → local k v ≡ 0) → partOk f v k ≡ true
   unfolding partOk pick
   part-ok one place none = go (readsIt k v) (writesIt k v) refl refl
     where
@@ -192,7 +192,7 @@ module _ (f : List ℕ) (v : Variable) (k : ℕ) where
       go true false a b = rw (a, b) (place (either-left (readsIt k v) (writesIt k v) (tested _ a)))
       go false true a b = rw (a, b) (place (either-right (readsIt k v) (writesIt k v) (tested _ b)))
       go false false a b =
-          let n : (T (named k v) → ⊥) = λ t. rw (a, b) at t in
+          let n : (T (usedBy k v) → ⊥) = λ t. rw (a, b) at t in
           rw (a, b) (eq-eqb (local k v) 0 (none n))
 
   -- a named core's place
@@ -248,7 +248,7 @@ variable-rules f v z =
     part : (k : ℕ) → k < 4 → partOk f v k ≡ true
     part k h = part-of f v (c .1) k h
 
-    at : (k : ℕ) → T (named k v) → Placed f v k
+    at : (k : ℕ) → T (usedBy k v) → Placed f v k
     at k t = placed f v k (part-named f v k (part k (named-low k v t)) t)
 
 pub variable-ok : (f : List ℕ) (v : Variable) → VariableRules f v → variableOk f v ≡ true
@@ -277,16 +277,16 @@ unfolding meets
 clear-not x a y b (inl h) = both-not (ltb x (y + b)) (ltb y (x + a)) (λ p q. let k = ltb-true y (x + a) q in let z : ⊥ = omega arith in z)
 clear-not x a y b (inr h) = both-not (ltb x (y + b)) (ltb y (x + a)) (λ p q. let k = ltb-true x (y + b) p in let z : ⊥ = omega arith in z)
 
-meets-named : (k : ℕ) (v u : Variable) → meetsIn k v u ≡ false → T (named k v) → T (named k u) → Clear (local k v) (v .width) (local k u) (u .width)
+meets-named : (k : ℕ) (v u : Variable) → meetsIn k v u ≡ false → T (usedBy k v) → T (usedBy k u) → Clear (local k v) (v .width) (local k u) (u .width)
 unfolding meetsIn
-meets-named k v u z t s = clear _ _ _ _ (both-no (named k u) _ (holds _ s) (both-no (named k v) _ (holds _ t) z))
+meets-named k v u z t s = clear _ _ _ _ (both-no (usedBy k u) _ (holds _ s) (both-no (usedBy k v) _ (holds _ t) z))
 
-named-meets : (k : ℕ) (v u : Variable) → (T (named k v) → T (named k u) → Clear (local k v) (v .width) (local k u) (u .width)) → meetsIn k v u ≡ false
+named-meets : (k : ℕ) (v u : Variable) → (T (usedBy k v) → T (usedBy k u) → Clear (local k v) (v .width) (local k u) (u .width)) → meetsIn k v u ≡ false
 unfolding meetsIn
 named-meets k v u h =
-    both-not (named k v) _
+    both-not (usedBy k v) _
     (λ a b.
-    let c = both-true (named k u) _ b in
+    let c = both-true (usedBy k u) _ b in
     absurd-bool (sym (clear-not _ _ _ _ (h (tested _ a) (tested _ (c .0)))) ∙ c .1))
 
 pub apart : (v u : Variable) → overlap v u ≡ false → Apart v u

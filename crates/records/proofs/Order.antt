@@ -12,7 +12,7 @@ use Rattle.verdict.proofs.Truth.{holds}
 use Rattle.verdict.proofs.Verdict.{absurd-bool, pick-false, zero-first}
 use Rattle.protocol.specs.Variables.{local}
 use Rattle.records.specs.File.{variables, recordPlace, variableIn, variableAt}
-use Rattle.records.specs.Records.{named, overlap, pairRefusal, overlapRefusal}
+use Rattle.records.specs.Records.{usedBy, overlap, pairRefusal, overlapRefusal}
 use Rattle.records.specs.Rules.{Apart}
 use Rattle.records.specs.Order.{Rising, RisingIn, RisingAll}
 use Rattle.records.proofs.Exact.{named-low, overlap-not}
@@ -73,7 +73,7 @@ RisenShared f = Risen (λ i. true) (λ i. variableAt f i .place) (λ i. variable
 
 -- in the data of core k
 abbrev pub RisenIn : List ℕ → ℕ → ℕ → ℕ → Type 0
-RisenIn f k = Risen (λ i. named k (variableAt f i)) (λ i. local k (variableAt f i)) (λ i. variableAt f i .width)
+RisenIn f k = Risen (λ i. usedBy k (variableAt f i)) (λ i. local k (variableAt f i)) (λ i. variableAt f i .width)
 
 -- one more, with the place of its record
 module _ (f : List ℕ) (i end p : ℕ) (at : p ≡ recordPlace f i) where
@@ -87,7 +87,7 @@ module _ (f : List ℕ) (i end p : ℕ) (at : p ≡ recordPlace f i) where
       let there : end ≤ local k (variableAt f i) = subst (λ (x : ℕ). end ≤ local k (variableIn f x)) at (rw (sym e) h) in
       rw (e, w) (subst (λ (x : ℕ). RisenIn f k (i + 1) (local k (variableIn f x) + variableIn f x .width)) (sym at) (risen-more _ _ _ i end r there))
 
-  pub in-skip : (k : ℕ) → RisenIn f k i end → (b : Bool) → b ≡ named k (variableIn f p) → b ≡ false → RisenIn f k (i + 1) end
+  pub in-skip : (k : ℕ) → RisenIn f k i end → (b : Bool) → b ≡ usedBy k (variableIn f p) → b ≡ false → RisenIn f k (i + 1) end
   in-skip k r b e z = risen-skip _ _ _ i end r (rw (sym at) (sym e ∙ z))
 
 pub each-core : (f : List ℕ) (m : ℕ) → RisingIn f 0 m → RisingIn f 1 m → RisingIn f 2 m → RisingIn f 3 m → (k : ℕ) → k < 4 → RisingIn f k m

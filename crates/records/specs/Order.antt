@@ -5,7 +5,7 @@ use mathlib.Core.List.{List}
 use mathlib.Core.Bool.{Bool, true}
 use Rattle.protocol.specs.Variables.{local}
 use Rattle.records.specs.File.{variableAt}
-use Rattle.records.specs.Records.{named}
+use Rattle.records.specs.Records.{usedBy}
 
 -- of m stretches each that counts begins at or behind the end of all before it
 abbrev pub Rising : (ℕ → Bool) → (ℕ → ℕ) → (ℕ → ℕ) → ℕ → Type 0
@@ -17,7 +17,7 @@ RisingShared f m = Rising (λ i. true) (λ i. variableAt f i .place) (λ i. vari
 
 -- in the data of core k, those that name it
 abbrev pub RisingIn : List ℕ → ℕ → ℕ → Type 0
-RisingIn f k m = Rising (λ i. named k (variableAt f i)) (λ i. local k (variableAt f i)) (λ i. variableAt f i .width) m
+RisingIn f k m = Rising (λ i. usedBy k (variableAt f i)) (λ i. local k (variableAt f i)) (λ i. variableAt f i .width) m
 
 -- in every memory
 pub record RisingAll (f : List ℕ) (m : ℕ) : Type 0 where

@@ -34,8 +34,8 @@ bit a k = a / 2 ^ k % 2
 unfoldable pub oneWriter : ℕ → Bool
 oneWriter a = eqb (bit a 0 + bit a 1 + bit a 2 + bit a 3) 1
 
-abbrev pub named : ℕ → Variable → Bool
-named k v = either (readsIt k v) (writesIt k v)
+abbrev pub usedBy : ℕ → Variable → Bool
+usedBy k v = either (readsIt k v) (writesIt k v)
 
 -- a named core is one of the file's; the variable's place is past its input bytes and within its data
 unfoldable pub placeOk : List ℕ → Variable → ℕ → Bool
@@ -68,7 +68,7 @@ meetsShared v u = meets (v .place) (v .width) (u .place) (u .width)
 
 -- in the data of core k, if both name it
 unfoldable pub meetsIn : ℕ → Variable → Variable → Bool
-meetsIn k v u = both (named k v) (both (named k u) (meets (local k v) (v .width) (local k u) (u .width)))
+meetsIn k v u = both (usedBy k v) (both (usedBy k u) (meets (local k v) (v .width) (local k u) (u .width)))
 
 unfoldable pub overlap : Variable → Variable → Bool
 overlap v u =

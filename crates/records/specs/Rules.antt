@@ -9,7 +9,7 @@ use Rattle.code.specs.declared.Profile.{Profile}
 use Rattle.code.specs.declared.Profile.the-variants.{Full}
 use Rattle.code.specs.Profiles.{mostData}
 use Rattle.records.specs.File.{cores, dataSize, inputSize, limit}
-use Rattle.records.specs.Records.{named}
+use Rattle.records.specs.Records.{usedBy}
 
 -- "data size 1..4,096; input size, at most the data size; instruction limit of a cycle, at least 1"; of the small profile "a data size of at most 1,024"
 pub record CoreRulesFor (profile : Profile) (f : List ℕ) (k : ℕ) : Type 0 where
@@ -34,16 +34,16 @@ pub record VariableRules (f : List ℕ) (v : Variable) : Type 0 where
   -- "No core both reads and writes a variable."
   pub one-way : (k : ℕ) → T (readsIt k v) → T (writesIt k v) → ⊥
   -- "No bit names a core from n on."
-  pub known : (k : ℕ) → T (named k v) → k < cores f
+  pub known : (k : ℕ) → T (usedBy k v) → k < cores f
   -- "Place plus width stays within shared memory and within the data of each named core."
   pub in-shared : v .place + v .width ≤ 1024
-  pub in-data : (k : ℕ) → T (named k v) → local k v + v .width ≤ dataSize f k
+  pub in-data : (k : ℕ) → T (usedBy k v) → local k v + v .width ≤ dataSize f k
   -- "No local place of a named core touches that core's input bytes, its first ones."
-  pub past-inputs : (k : ℕ) → T (named k v) → inputSize f k ≤ local k v
+  pub past-inputs : (k : ℕ) → T (usedBy k v) → inputSize f k ≤ local k v
   -- "An unnamed core's local place is 0."
-  pub unnamed : (k : ℕ) → k < 4 → (T (named k v) → ⊥) → local k v ≡ 0
+  pub unnamed : (k : ℕ) → k < 4 → (T (usedBy k v) → ⊥) → local k v ≡ 0
 
 -- "Two variables share no byte in shared memory, nor in the data of one core that both name."
 pub record Apart (v u : Variable) : Type 0 where
   pub in-shared : Clear (v .place) (v .width) (u .place) (u .width)
-  pub in-data : (k : ℕ) → T (named k v) → T (named k u) → Clear (local k v) (v .width) (local k u) (u .width)
+  pub in-data : (k : ℕ) → T (usedBy k v) → T (usedBy k u) → Clear (local k v) (v .width) (local k u) (u .width)

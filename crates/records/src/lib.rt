@@ -9,7 +9,7 @@ ghost use Rattle.verdict.specs.Verdict.{first};
 ghost use Rattle.protocol.specs.Variables.{local, readsIt, writesIt};
 ghost use Rattle.code.specs.Profiles.{mostData};
 ghost use Rattle.records.specs.File.{cores, corePlace, variables, recordPlace, variableIn};
-ghost use Rattle.records.specs.Records.{coreOk, coreRefusal, bit, oneWriter, named, placeOk, partOk, partsOk, variableOk, variableRefusal, meets, meetsShared, meetsIn, overlap, pairRefusal, overlapRefusal};
+ghost use Rattle.records.specs.Records.{coreOk, coreRefusal, bit, oneWriter, usedBy, placeOk, partOk, partsOk, variableOk, variableRefusal, meets, meetsShared, meetsIn, overlap, pairRefusal, overlapRefusal};
 ghost use Rattle.records.specs.Order.{RisingShared, RisingIn, RisingAll};
 
 // Bytes of a core's record: data size, input size, limit (16 bits each).
@@ -246,7 +246,7 @@ fn meet(x: u16, a: u8, y: u16, b: u8) -> bool
 
 fn is_named(f: &[u8], p: usize, k: usize) -> bool
     requires { ⌜ (p + 12 ≤ length (now f)) × (k < 4) ⌝ }
-    ensures { λ r. ⌜ r ≡ named k (variableIn (now (f .entry)) p) ⌝ }
+    ensures { λ r. ⌜ r ≡ usedBy k (variableIn (now (f .entry)) p) ⌝ }
 {
     if reads(f, p, k) {
         return true;

@@ -27,7 +27,7 @@ use Rattle.taskset.proofs.Accepted.{fresh-of}
 use Rattle.states.specs.Task.{taskOf}
 use Rattle.states.specs.Machine.{stateOf}
 use Rattle.states.specs.Fit.{Fit}
-use Rattle.states.specs.Set.{Set}
+use Rattle.states.specs.Set.{AcceptedSet}
 use Rattle.states.proofs.Executes.{executes}
 use Rattle.states.proofs.Fresh.{fresh-fit}
 use Rattle.states.proofs.Accepted.{accepted-set}
@@ -43,7 +43,7 @@ use Rattle.rerun.proofs.Ends.{refused-list}
 
 -- ---- of steps
 
-pub rerun-machine : (f t : List ℕ) → Set f t → (bs : List ℕ) → MachineRerun f t bs
+pub rerun-machine : (f t : List ℕ) → AcceptedSet f t → (bs : List ℕ) → MachineRerun f t bs
 rerun-machine f t ok bs = rerun-holds (taskOf f t) (executes f t ok .laws) (freshOf f) (fresh-of f) (omega (arith, fresh-fit f t ok .table, ok .few)) bs
 
 -- ---- of the call
@@ -51,7 +51,7 @@ rerun-machine f t ok bs = rerun-holds (taskOf f t) (executes f t ok .laws) (fres
 some-same : {a b : State} → some a ≡ some b → a ≡ b
 some-same e = cc
 
-module _ (f t list d sh : List ℕ) (ok : Set f t) (fits : lentFits f (length d) (length sh) ≡ true) where
+module _ (f t list d sh : List ℕ) (ok : AcceptedSet f t) (fits : lentFits f (length d) (length sh) ≡ true) where
   abbrev lawful : Bool
   lawful = legal (taskOf f t) (map decoded list) (freshOf f .plant)
 
@@ -129,7 +129,7 @@ front-of list ys h = ap (take (length ys)) (splice-is list 0 ys (omega arith)) �
 pub nothing-of : (n : ℕ) (l : List ℕ) → n ≡ 0 → take n l ≡ []
 nothing-of n l e = ap (λ (m : ℕ). take m l) e
 
-module _ (f t : List ℕ) (ok : Set f t) (x : Left) (w : Lendable f t x) where
+module _ (f t : List ℕ) (ok : AcceptedSet f t) (x : Left) (w : Lendable f t x) where
   run-wrote : (a b : Lending) (order list : List ℕ) → writtenBy f t (running a b order list) x ≡ orderList (taskOf f t) (countsAs f t (running a b order list) x) (wholeOf f x)
   unfolding runCall runRefusal ranCall pick
   run-wrote a b order list = go (eqb (runRefusal f t (x .answer .state) (lentOf a (x .memory)) (lentOf b (x .shared)) order list) 0) refl
@@ -152,7 +152,7 @@ module _ (f t : List ℕ) (ok : Set f t) (x : Left) (w : Lendable f t x) where
 pub list-append : (t : Task) (js ks : List ℕ) (s : State) → orderList t (js ++ ks) s ≡ orderList t js s ++ orderList t ks (run t js s)
 list-append t js ks s = ap (map encoded) (takings-append t js ks s) ∙ map-append encoded (takings t js s) (takings t ks (run t js s))
 
-calls-wrote : (f t : List ℕ) → Set f t → (cs : List Call) (x : Left) → Lendable f t x → writtenOf f t cs x ≡ orderList (taskOf f t) (stepsOf f t cs x) (wholeOf f x)
+calls-wrote : (f t : List ℕ) → AcceptedSet f t → (cs : List Call) (x : Left) → Lendable f t x → writtenOf f t cs x ≡ orderList (taskOf f t) (stepsOf f t cs x) (wholeOf f x)
 calls-wrote f t ok [] x w = refl
 calls-wrote f t ok (c ∷ cs) x w =
     let y = call-counted f t ok x w c in
@@ -169,7 +169,7 @@ accepted-file f m n e = next-zero _ _ e .0
 pub calls-rerun : (f t : List ℕ) → ((i : ℕ) → getD f i 0 < 256) → ((i : ℕ) → getD t i 0 < 256) → (d sh : List ℕ) → freshRefusal f (length d) (length sh) ≡ 0 → traceRefusal f t ≡ 0
     → (cs : List Call) (d′ sh′ : List ℕ) → lentFits f (length d′) (length sh′) ≡ true → CallsRerun f t d sh cs d′ sh′
 calls-rerun f t bytes trace-bytes d sh e sound cs d′ sh′ fits =
-    let ok : Set f t = accepted-set f t bytes trace-bytes (accepted-file f (length d) (length sh) e) sound in
+    let ok : AcceptedSet f t = accepted-set f t bytes trace-bytes (accepted-file f (length d) (length sh) e) sound in
     let whole = fresh-whole f t bytes trace-bytes d sh e (ok .few) in
     let wrote : writtenOf f t cs (freshCall f d sh) ≡ orderList (taskOf f t) (stepsOf f t cs (freshCall f d sh)) (freshOf f) =
     calls-wrote f t ok cs (freshCall f d sh) (fresh-lendable f t bytes trace-bytes d sh e ok) ∙ ap (orderList (taskOf f t) (stepsOf f t cs (freshCall f d sh))) whole in

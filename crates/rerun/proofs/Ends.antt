@@ -26,10 +26,10 @@ use Rattle.taskset.specs.Trace.{traceRefusal}
 use Rattle.taskset.specs.Fresh.{freshOf}
 use Rattle.states.specs.declared.State.{State as Held}
 use Rattle.states.specs.Task.{taskOf}
-use Rattle.states.specs.Machine.{none, stackIn, stateIn, heldAfter, dataOf}
-use Rattle.states.specs.Set.{Set}
+use Rattle.states.specs.Machine.{noRegisters, stackIn, stateIn, heldAfter, dataOf}
+use Rattle.states.specs.Set.{AcceptedSet}
 use Rattle.runner.specs.declared.Ran.{Ran}
-use Rattle.runner.specs.Runs.{Left, left}
+use Rattle.runner.specs.Runs.{Left, leftAs}
 use Rattle.runner.specs.Running.{Running}
 use Rattle.runner.proofs.Running.{shared-in}
 use Rattle.runner.proofs.End.{data-back, held-back}
@@ -48,8 +48,8 @@ plant-of : (f : List ℕ) (cs : List Registers) (places offsets d sh : List ℕ)
 unfolding stateIn
 plant-of f cs places offsets d sh a b = refl
 
-module _ (f t list : List ℕ) (ok : Set f t) (bytes : (i : ℕ) → getD f i 0 < 256) (trace-bytes : (i : ℕ) → getD t i 0 < 256) (d₀ sh₀ : List ℕ) (fits : lentFits f (length d₀) (length sh₀) ≡ true)
-    (r : Ran) (d sh : List ℕ) (e : left r d sh [] ≡ freshCall f d₀ sh₀) where
+module _ (f t list : List ℕ) (ok : AcceptedSet f t) (bytes : (i : ℕ) → getD f i 0 < 256) (trace-bytes : (i : ℕ) → getD t i 0 < 256) (d₀ sh₀ : List ℕ) (fits : lentFits f (length d₀) (length sh₀) ≡ true)
+    (r : Ran) (d sh : List ℕ) (e : leftAs r d sh [] ≡ freshCall f d₀ sh₀) where
   granted : freshRefusal f (length d₀) (length sh₀) ≡ 0
   granted = fresh-none f d₀ sh₀ (ok .file) fits
 
@@ -57,10 +57,10 @@ module _ (f t list : List ℕ) (ok : Set f t) (bytes : (i : ℕ) → getD f i 0 
   unfolding freshCall
   fresh-table = ap (λ (x : Left). x .answer .state) (e ∙ pick-true _ _ _ (eq-eqb _ _ granted))
 
-  fresh-is : wholeOf f (left r d sh []) ≡ freshOf f
+  fresh-is : wholeOf f (leftAs r d sh []) ≡ freshOf f
   fresh-is = ap (wholeOf f) e ∙ fresh-whole f t bytes trace-bytes d₀ sh₀ granted (ok .few)
 
-  lendable : Lendable f t (left r d sh [])
+  lendable : Lendable f t (leftAs r d sh [])
   lendable = subst (Lendable f t) (sym e) (fresh-lendable f t bytes trace-bytes d₀ sh₀ granted ok)
 
   pub rerun-start : {cs : List Registers} {places offsets : List ℕ} → (cs ≡ r .state .cores) × (length cs ≡ 4) → (places ≡ r .state .places) × (length places ≡ 64) → (offsets ≡ r .state .offsets) × (length offsets ≡ 64)
@@ -73,7 +73,7 @@ module _ (f t list : List ℕ) (ok : Set f t) (bytes : (i : ℕ) → getD f i 0 
     entries = (b .1, c .1);
     buffer = lendable .sized .memory;
     shared = lendable .sized .shared;
-    spare = λ j g. (ap (λ (l : List Registers). getD l j none) (a .0), ap₂ (λ (l m : List ℕ). stackIn l m j) (b .0) (c .0));
+    spare = λ j g. (ap (λ (l : List Registers). getD l j noRegisters) (a .0), ap₂ (λ (l m : List ℕ). stackIn l m j) (b .0) (c .0));
   }
 
 -- ---- the end of the list
@@ -82,7 +82,7 @@ table-semaphore : (n flags : ℕ) → tableOf n flags .semaphore ≡ semaphoreBa
 unfolding tableOf
 table-semaphore n flags = refl
 
-module _ (f t list : List ℕ) (ok : Set f t) (h : Held) (table : h ≡ tableOf (cores f) 4) (i : ℕ) (cs : List Registers) (places offsets d sh : List ℕ)
+module _ (f t list : List ℕ) (ok : AcceptedSet f t) (h : Held) (table : h ≡ tableOf (cores f) 4) (i : ℕ) (cs : List Registers) (places offsets d sh : List ℕ)
     (w : Rerunning f t list h i cs places offsets d sh) (done : length list ≤ i) where
   abbrev now : State
   now = stateIn f cs places offsets untaken d sh
@@ -128,8 +128,8 @@ module _ (f t list : List ℕ) (ok : Set f t) (h : Held) (table : h ≡ tableOf 
   }
     where
       same : {n n′ : ℕ} {a a′ : Held} {m m′ x x′ : List ℕ} → n ≡ n′ → a ≡ a′ → m ≡ m′ → x ≡ x′
-          → left (record { refusal = 0; taken = n; state = a }) m x [] ≡ left (record { refusal = 0; taken = n′; state = a′ }) m′ x′ []
-      same p q u v = λ z. left (record { refusal = 0; taken = p z; state = q z }) (u z) (v z) []
+          → leftAs (record { refusal = 0; taken = n; state = a }) m x [] ≡ leftAs (record { refusal = 0; taken = n′; state = a′ }) m′ x′ []
+      same p q u v = λ z. leftAs (record { refusal = 0; taken = p z; state = q z }) (u z) (v z) []
 
 -- ---- the list's refusal
 
@@ -154,10 +154,10 @@ splice-all s ys e =
 -- ---- the call
 
 module _ (f t list d sh : List ℕ) where
-  pub rerun-refused : {r : ℕ} (x : Ran) → r ≡ rerunRefusal f t list (length d) (length sh) → r ≢ 0 → x ≡ answerOf r (tableOf 0 0) → left x d sh [] ≡ rerunCall f t list d sh
+  pub rerun-refused : {r : ℕ} (x : Ran) → r ≡ rerunRefusal f t list (length d) (length sh) → r ≢ 0 → x ≡ answerOf r (tableOf 0 0) → leftAs x d sh [] ≡ rerunCall f t list d sh
   unfolding rerunCall
   rerun-refused x e n q =
-      ap (λ (y : Ran). left y d sh []) (q ∙ ap (λ (m : ℕ). answerOf m (tableOf 0 0)) e)
+      ap (λ (y : Ran). leftAs y d sh []) (q ∙ ap (λ (m : ℕ). answerOf m (tableOf 0 0)) e)
       ∙ sym (pick-false _ _ _ (ne-eqb _ _ (λ w. n (e ∙ w))))
 
   pub refused-file : {r : ℕ} → r ≡ judge f → r ≢ 0 → r ≡ rerunRefusal f t list (length d) (length sh)
@@ -179,11 +179,11 @@ module _ (f t list d sh : List ℕ) where
       refused-list e = skip z (skip (yes _ 21 fits) (skip sound e))
 
       -- what was rerun in memories of its own is copied out, or left
-      pub rerun-done : (x : Ran) (d′ sh′ : List ℕ) → Reran f t list x d′ sh′ → x .refusal ≡ 0 → left x d′ sh′ [] ≡ rerunCall f t list d sh
+      pub rerun-done : (x : Ran) (d′ sh′ : List ℕ) → Reran f t list x d′ sh′ → x .refusal ≡ 0 → leftAs x d′ sh′ [] ≡ rerunCall f t list d sh
       unfolding rerunCall
       rerun-done x d′ sh′ y e = y .done e ∙ sym (pick-true _ _ _ (eq-eqb _ _ (sym (refused-list (y .number)) ∙ e)))
 
-      pub rerun-left : (x : Ran) (d′ sh′ : List ℕ) → Reran f t list x d′ sh′ → x .refusal ≢ 0 → left x d sh [] ≡ rerunCall f t list d sh
+      pub rerun-left : (x : Ran) (d′ sh′ : List ℕ) → Reran f t list x d′ sh′ → x .refusal ≢ 0 → leftAs x d sh [] ≡ rerunCall f t list d sh
       rerun-left x d′ sh′ y n = rerun-refused x (refused-list (y .number)) n (y .refused n)
 
 -- ---- memories of its own

@@ -34,9 +34,9 @@ use Rattle.states.specs.declared.State.{State as Held}
 use Rattle.states.specs.declared.CoreTask.{CoreTask}
 use Rattle.states.specs.Task.{taskOf}
 use Rattle.states.specs.Tasks.{coreTask}
-use Rattle.states.specs.Machine.{none, stackIn, coreIn, stateIn}
+use Rattle.states.specs.Machine.{noRegisters, stackIn, coreIn, stateIn}
 use Rattle.states.specs.Fit.{Fit}
-use Rattle.states.specs.Set.{Set}
+use Rattle.states.specs.Set.{AcceptedSet}
 use Rattle.states.proofs.Executes.{executes}
 use Rattle.states.proofs.Fresh.{fresh-fit}
 use Rattle.runner.specs.Executing.{Standing}
@@ -121,7 +121,7 @@ bytes-from list i h =
 
 -- ---- a state at rest
 
-module _ (f t list : List ℕ) (ok : Set f t) (h : Held) (i : ℕ) (cs : List Registers) (places offsets d sh : List ℕ) (w : Rerunning f t list h i cs places offsets d sh) where
+module _ (f t list : List ℕ) (ok : AcceptedSet f t) (h : Held) (i : ℕ) (cs : List Registers) (places offsets d sh : List ℕ) (w : Rerunning f t list h i cs places offsets d sh) where
   abbrev now : State
   now = stateIn f cs places offsets untaken d sh
 
@@ -178,14 +178,14 @@ module _ (f t list : List ℕ) (ok : Set f t) (h : Held) (i : ℕ) (cs : List Re
     pub none-named : cores f ≤ namedCore b → accepts (taskOf f t) (decoded b) (now .plant) ≡ false
     none-named j = unknown-refused (taskOf f t) b (now .plant) (rw known-cores j)
 
-    pub due-here : namedCore b < cores f → (count : ℕ) → count ≡ recordCount f t (namedCore b) → accepts (taskOf f t) (decoded b) (now .plant) ≡ dueBy b (getD cs (namedCore b) none) count
-    due-here j count e = due-is f t (now .plant) b (getD cs (namedCore b) none) (ap (λ (c : Core). c .registers) (own (namedCore b) j)) ∙ ap (dueBy b (getD cs (namedCore b) none)) (sym e)
+    pub due-here : namedCore b < cores f → (count : ℕ) → count ≡ recordCount f t (namedCore b) → accepts (taskOf f t) (decoded b) (now .plant) ≡ dueBy b (getD cs (namedCore b) noRegisters) count
+    due-here j count e = due-is f t (now .plant) b (getD cs (namedCore b) noRegisters) (ap (λ (c : Core). c .registers) (own (namedCore b) j)) ∙ ap (dueBy b (getD cs (namedCore b) noRegisters)) (sym e)
 
     -- one taking more
     pub taken-on : accepts (taskOf f t) (decoded b) (now .plant) ≡ true
         → (cs′ : List Registers) (places′ offsets′ d′ sh′ : List ℕ) → stateIn f cs′ places′ offsets′ untaken d′ sh′ .plant ≡ wholeOne (taskOf f t) (decoded b) (now .plant)
         → length cs′ ≡ 4 → (length places′ ≡ 64) × (length offsets′ ≡ 64) → length d′ ≡ total (sizesOf f) → length sh′ ≡ 1024
-        → ((j : ℕ) → cores f ≤ j → (getD cs′ j none ≡ getD cs j none) × (stackIn places′ offsets′ j ≡ stackIn places offsets j))
+        → ((j : ℕ) → cores f ≤ j → (getD cs′ j noRegisters ≡ getD cs j noRegisters) × (stackIn places′ offsets′ j ≡ stackIn places offsets j))
         → Rerunning f t list h (i + 1) cs′ places′ offsets′ d′ sh′
     taken-on a cs′ places′ offsets′ d′ sh′ e four entries buffer shared spare = record {
       within = omega arith;
@@ -216,27 +216,27 @@ module _ (f t list : List ℕ) (ok : Set f t) (h : Held) (i : ℕ) (cs : List Re
         taken-on a cs′ places′ offsets′ d′ sh
         (ap (λ (l : List Registers). stateIn f l places′ offsets′ untaken d′ sh .plant) ce ∙ y .plant ∙ ap (λ (x : Taking). wholeOne (taskOf f t) x (now .plant)) (sym which-is))
         (ap length ce ∙ length-set cs k r′ ∙ w .four) (y .entries) (y .buffer) (w .shared)
-        (λ j g. (ap (λ (l : List Registers). getD l j none) ce ∙ getD-set-other cs k j r′ none (apart j g), y .spare j g))
+        (λ j g. (ap (λ (l : List Registers). getD l j noRegisters) ce ∙ getD-set-other cs k j r′ noRegisters (apart j g), y .spare j g))
       where
         apart : (j : ℕ) → cores f ≤ j → j ≢ namedCore b
         apart j g u = omega arith
 
     -- a writing
     pub write-on : 16 ≤ b → namedCore b < cores f → accepts (taskOf f t) (decoded b) (now .plant) ≡ true → (cs′ : List Registers) (sh′ : List ℕ)
-        → cs′ ≡ set cs (namedCore b) (writeReleased (getD cs (namedCore b) none)) → sh′ ≡ copy (writesOf (variablesOf f) (namedCore b)) (getD (split (sizesOf f) d) (namedCore b) []) sh → length sh′ ≡ length sh
+        → cs′ ≡ set cs (namedCore b) (writeReleased (getD cs (namedCore b) noRegisters)) → sh′ ≡ copy (writesOf (variablesOf f) (namedCore b)) (getD (split (sizesOf f) d) (namedCore b) []) sh → length sh′ ≡ length sh
         → Rerunning f t list h (i + 1) cs′ places offsets d sh′
     write-on large ik a cs′ sh′ ce se long =
         let k = namedCore b in
         let which-is : decoded b ≡ writing k = write-byte b large in
-        let three : getD cs k none .mode ≡ 3 = eqb-true _ _ (sym (accepts-writing f t (now .plant) (getD cs k none) k (ap (λ (c : Core). c .registers) (own k ik))) ∙ ap (λ (x : Taking). accepts (taskOf f t) x (now .plant)) (sym which-is) ∙ a) in
+        let three : getD cs k noRegisters .mode ≡ 3 = eqb-true _ _ (sym (accepts-writing f t (now .plant) (getD cs k noRegisters) k (ap (λ (c : Core). c .registers) (own k ik))) ∙ ap (λ (x : Taking). accepts (taskOf f t) x (now .plant)) (sym which-is) ∙ a) in
         taken-on a cs′ places offsets d sh′
         (ap (λ (l : List Registers). stateIn f l places offsets untaken d sh′ .plant) ce
-        ∙ ap (λ (s : State). s .plant) (put-in f cs places offsets untaken d sh k (writeReleased (getD cs k none)) (getD (split (sizesOf f) d) k []) d sh′ ik (omega (arith, ok .few, w .four)) (sym (set-getD (split (sizesOf f) d) k [])))
-        ∙ ap (λ (l : List ℕ). record { cores = set (now .plant .cores) k record { registers = writeReleased (getD cs k none); stack = stackIn places offsets k; memory = getD (split (sizesOf f) d) k [] }; shared = l }) (se ∙ ap (copy (writesOf (variablesOf f) k) (getD (split (sizesOf f) d) k [])) (sym (shared-in f cs places offsets untaken d sh)))
+        ∙ ap (λ (s : State). s .plant) (put-in f cs places offsets untaken d sh k (writeReleased (getD cs k noRegisters)) (getD (split (sizesOf f) d) k []) d sh′ ik (omega (arith, ok .few, w .four)) (sym (set-getD (split (sizesOf f) d) k [])))
+        ∙ ap (λ (l : List ℕ). record { cores = set (now .plant .cores) k record { registers = writeReleased (getD cs k noRegisters); stack = stackIn places offsets k; memory = getD (split (sizesOf f) d) k [] }; shared = l }) (se ∙ ap (copy (writesOf (variablesOf f) k) (getD (split (sizesOf f) d) k [])) (sym (shared-in f cs places offsets untaken d sh)))
         ∙ sym (whole-written f t (now .plant) k (coreIn f cs places offsets d k) (own k ik) three)
         ∙ ap (λ (x : Taking). wholeOne (taskOf f t) x (now .plant)) (sym which-is))
         (ap length ce ∙ length-set cs k _ ∙ w .four) (w .entries) (w .buffer) (long ∙ w .shared)
-        (λ j g. (ap (λ (l : List Registers). getD l j none) ce ∙ getD-set-other cs k j _ none (apart j g), refl))
+        (λ j g. (ap (λ (l : List Registers). getD l j noRegisters) ce ∙ getD-set-other cs k j _ noRegisters (apart j g), refl))
       where
         apart : (j : ℕ) → cores f ≤ j → j ≢ namedCore b
         apart j g u = omega arith

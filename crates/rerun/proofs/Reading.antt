@@ -16,7 +16,7 @@ use Rattle.protocol.specs.Registers.{readAcquired, readReleased}
 use Rattle.protocol.specs.State.{Core, Plant, Semaphore, State, Task, Sample, absent, core, mode, put, untaken}
 use Rattle.protocol.specs.Step.{copy, readTaken, readDone, step, run, Taking, takings, reading}
 use Rattle.protocol.specs.Whole.{execute, wholeOne, whole}
-use Rattle.protocol.specs.Laws.{Laws, Still, Held, Holding}
+use Rattle.protocol.specs.Laws.{Laws, Still, SemaphoreHeld, Holding}
 use Rattle.protocol.specs.Variables.{readsOf}
 use Rattle.protocol.proofs.Copy.{copy-length}
 use Rattle.protocol.proofs.Steps.{each, others-stay, nobody}
@@ -30,15 +30,15 @@ use Rattle.taskset.proofs.Accepted.{length-listed, listed-at, sizes-length}
 use Rattle.states.specs.declared.CoreTask.{CoreTask}
 use Rattle.states.specs.Task.{taskOf}
 use Rattle.states.specs.Tasks.{coreTask}
-use Rattle.states.specs.Machine.{none, stackIn, coreIn, stateIn}
+use Rattle.states.specs.Machine.{noRegisters, stackIn, coreIn, stateIn}
 use Rattle.states.specs.Fit.{FitCore, Fit}
-use Rattle.states.specs.Set.{Set}
+use Rattle.states.specs.Set.{AcceptedSet}
 use Rattle.states.proofs.Executes.{executes}
 use Rattle.states.proofs.Tables.{listed-set}
-use Rattle.steps.specs.Moving.{Ready}
-use Rattle.runner.specs.Executing.{Standing, Executing, Executes, Stretch}
+use Rattle.steps.specs.Moving.{StepGiven}
+use Rattle.runner.specs.Executing.{Standing, ExecutionGiven, Executes, Stretch}
 use Rattle.runner.proofs.Running.{core-in, cores-in, shared-in, semaphore-in}
-use Rattle.rerun.specs.Rerunning.{Resting, broughtTo, Reading, Reread, Reads}
+use Rattle.rerun.specs.Rerunning.{Resting, broughtTo, Reading, Reread, ReadsWhole}
 
 -- ---- core k of a state
 
@@ -59,11 +59,11 @@ put-in f cs places offsets h d sh k r m d′ sh′ i n e =
     (listed-set (coreIn f cs places offsets d) (coreIn f (set cs k r) places offsets d′) (cores f) k _ i here others)
   where
     here : coreIn f (set cs k r) places offsets d′ k ≡ record { registers = r; stack = stackIn places offsets k; memory = m }
-    here = same-core (getD-set-same cs k r none (omega arith)) refl
+    here = same-core (getD-set-same cs k r noRegisters (omega arith)) refl
         (ap (λ (l : List (List ℕ)). getD l k []) e ∙ getD-set-same (split (sizesOf f) d) k m [] (rw (length-split (sizesOf f) d, sizes-length f) i))
 
     others : (j : ℕ) → j ≢ k → coreIn f (set cs k r) places offsets d′ j ≡ coreIn f cs places offsets d j
-    others j q = same-core (getD-set-other cs k j r none q) refl (ap (λ (l : List (List ℕ)). getD l j []) e ∙ getD-set-other (split (sizesOf f) d) k j m [] q)
+    others j q = same-core (getD-set-other cs k j r noRegisters q) refl (ap (λ (l : List (List ℕ)). getD l j []) e ∙ getD-set-other (split (sizesOf f) d) k j m [] q)
 
 -- steps of core k alone leave the other cores
 others-run : (t : Task) (k : ℕ) (n : ℕ) (s : State) (j : ℕ) → j ≢ k → core (run t (replicate n k) s .plant) j ≡ core (s .plant) j
@@ -108,7 +108,7 @@ started-count : (f t : List ℕ) (k : ℕ) (r : Registers) → startedAt f t k r
 unfolding readReleased
 started-count f t k r = refl
 
-fit-started : (f t : List ℕ) → Set f t → (k : ℕ) → k < cores f → (sh : List ℕ) (c : Core) → FitCore f t k c → mode c ≡ 0 → c .registers .cycles < recordCount f t k → FitCore f t k (startedCore f t k sh c)
+fit-started : (f t : List ℕ) → AcceptedSet f t → (k : ℕ) → k < cores f → (sh : List ℕ) (c : Core) → FitCore f t k c → mode c ≡ 0 → c .registers .cycles < recordCount f t k → FitCore f t k (startedCore f t k sh c)
 unfolding readReleased readAcquired
 fit-started f t ok k i sh c x e due =
     let nothing : c .registers .depth ≡ 0 = x .shallow (omega arith) (omega arith) in
@@ -174,9 +174,9 @@ fit-put f t p k c i fit x e = record {
 -- ---- its end
 
 -- the state as the execution starts stands
-module _ (f t : List ℕ) (ok : Set f t) (k : ℕ) (ik : k < cores f) (cs : List Registers) (places offsets d sh : List ℕ) (x : Resting f t cs places offsets d sh)
-    (s : Registers) (d₁ : List ℕ) (idle : getD cs k none .mode ≡ 0) (due : getD cs k none .cycles < recordCount f t k) (e : s ≡ startedAt f t k (getD cs k none))
-    (m : split (sizesOf f) d₁ ≡ set (split (sizesOf f) d) k (broughtTo f t k (getD cs k none) sh (getD (split (sizesOf f) d) k []))) (long : length d₁ ≡ length d) where
+module _ (f t : List ℕ) (ok : AcceptedSet f t) (k : ℕ) (ik : k < cores f) (cs : List Registers) (places offsets d sh : List ℕ) (x : Resting f t cs places offsets d sh)
+    (s : Registers) (d₁ : List ℕ) (idle : getD cs k noRegisters .mode ≡ 0) (due : getD cs k noRegisters .cycles < recordCount f t k) (e : s ≡ startedAt f t k (getD cs k noRegisters))
+    (m : split (sizesOf f) d₁ ≡ set (split (sizesOf f) d) k (broughtTo f t k (getD cs k noRegisters) sh (getD (split (sizesOf f) d) k []))) (long : length d₁ ≡ length d) where
   abbrev rest : Plant
   rest = stateIn f cs places offsets untaken d sh .plant
 
@@ -205,13 +205,13 @@ module _ (f t : List ℕ) (ok : Set f t) (k : ℕ) (ik : k < cores f) (cs : List
   middle-is : middle ≡ record { plant = put rest k (startedCore f t k sh mine); semaphore = untaken }
   middle-is =
       ap (λ (u : Registers). stateIn f (set cs k u) places offsets untaken d₁ sh) e
-      ∙ put-in f cs places offsets untaken d sh k (startedAt f t k (getD cs k none)) _ d₁ sh ik few m
+      ∙ put-in f cs places offsets untaken d sh k (startedAt f t k (getD cs k noRegisters)) _ d₁ sh ik few m
       ∙ ap (λ (l : List ℕ). record { plant = record { cores = set (rest .cores) k (startedCore f t k sh mine); shared = l }; semaphore = untaken }) (sym shared-rest)
 
   fit-middle : Fit f t middle
   fit-middle = subst (Fit f t) (sym middle-is)
       (fit-put f t rest k (startedCore f t k sh mine) ik (subst (Fit f t) at-rest (x .stands .fit))
-      (fit-started f t ok k ik sh mine (subst (FitCore f t k) here (x .stands .fit .each k ik)) idle due) (started-mode f t k (getD cs k none)))
+      (fit-started f t ok k ik sh mine (subst (FitCore f t k) here (x .stands .fit .each k ik)) idle due) (started-mode f t k (getD cs k noRegisters)))
 
   pub standing-middle : Standing f t (set cs k s) places offsets d₁ sh
   standing-middle = record { four = length-set cs k s ∙ x .stands .four; entries = x .stands .entries; buffer = long ∙ x .stands .buffer; fit = fit-middle }
@@ -221,12 +221,12 @@ module _ (f t : List ℕ) (ok : Set f t) (k : ℕ) (ik : k < cores f) (cs : List
 
   sim-middle : Sim (taskOf f t) middle done
   sim-middle = subst (λ (z : State). Sim (taskOf f t) z done) (sym middle-is)
-      (sim-started (taskOf f t) rest k (startedCore f t k sh mine) inside (x .still) (started-mode f t k (getD cs k none)) (started-count f t k (getD cs k none)))
+      (sim-started (taskOf f t) rest k (startedCore f t k sh mine) inside (x .still) (started-mode f t k (getD cs k noRegisters)) (started-count f t k (getD cs k noRegisters)))
 
   whole-is : wholeOne (taskOf f t) (reading k) rest ≡ done
   whole-is =
-      whole-read (taskOf f t) k rest mine _ _ here idle (record-next f t k (getD cs k none .cycles) due)
-      ∙ ap (λ (l : List ℕ). put rest k (execute (taskOf f t) (suc (taskOf f t .limit k)) k (readDone (copy (taskOf f t .reads k) l (readTaken (sampleAt f t k (getD cs k none .cycles)) mine .memory)) (readTaken (sampleAt f t k (getD cs k none .cycles)) mine)))) shared-rest
+      whole-read (taskOf f t) k rest mine _ _ here idle (record-next f t k (getD cs k noRegisters .cycles) due)
+      ∙ ap (λ (l : List ℕ). put rest k (execute (taskOf f t) (suc (taskOf f t .limit k)) k (readDone (copy (taskOf f t .reads k) l (readTaken (sampleAt f t k (getD cs k noRegisters .cycles)) mine .memory)) (readTaken (sampleAt f t k (getD cs k noRegisters .cycles)) mine)))) shared-rest
       ∙ ap (λ (c : Core). put rest k (execute (taskOf f t) (suc (taskOf f t .limit k)) k c)) (read-started f t k sh mine)
 
   module _ (r′ : Registers) (places′ offsets′ d′ : List ℕ) (y : Stretch f t k (set cs k s) places offsets d₁ sh r′ places′ offsets′ d′) (left : r′ .mode ≢ 2) where
@@ -241,7 +241,7 @@ module _ (f t : List ℕ) (ok : Set f t) (k : ℕ) (ik : k < cores f) (cs : List
 
     own-mode : mode (core (last .plant) k) ≡ r′ .mode
     own-mode = ap (λ (c : Core). mode c) (core-in f (set (set cs k s) k r′) places′ offsets′ untaken d′ sh k ik)
-        ∙ ap (λ (u : Registers). u .mode) (getD-set-same (set cs k s) k r′ none (rw (length-set cs k s) (omega (arith, few))))
+        ∙ ap (λ (u : Registers). u .mode) (getD-set-same (set cs k s) k r′ noRegisters (rw (length-set cs k s) (omega (arith, few))))
 
     other-mode : (j : ℕ) → j ≢ k → mode (core (last .plant) j) ≡ mode (core rest j)
     other-mode j n =
@@ -276,38 +276,38 @@ module _ (f t : List ℕ) (ok : Set f t) (k : ℕ) (ik : k < cores f) (cs : List
     }
 
 -- for every state at rest in which core k has the registers r
-pub reads-of : (f t : List ℕ) → Set f t → (k : ℕ) → k < cores f → (r : Registers) (places offsets d sh : List ℕ) → r .mode ≡ 0 → r .cycles < recordCount f t k
+pub reads-of : (f t : List ℕ) → AcceptedSet f t → (k : ℕ) → k < cores f → (r : Registers) (places offsets d sh : List ℕ) → r .mode ≡ 0 → r .cycles < recordCount f t k
     → (s : Registers) (d₁ : List ℕ) → s ≡ startedAt f t k r → split (sizesOf f) d₁ ≡ set (split (sizesOf f) d) k (broughtTo f t k r sh (getD (split (sizesOf f) d) k [])) → length d₁ ≡ length d
     → (r′ : Registers) (places′ offsets′ d′ : List ℕ) → Executes f t k s places offsets d₁ r′ places′ offsets′ d′ → r′ .mode ≢ 2
-    → Reads f t k r places offsets d sh r′ places′ offsets′ d′
+    → ReadsWhole f t k r places offsets d sh r′ places′ offsets′ d′
 reads-of f t ok k ik r places offsets d sh idle due s d₁ e m long r′ places′ offsets′ d′ w left cs here x =
-    let idle′ : getD cs k none .mode ≡ 0 = ap (λ (u : Registers). u .mode) here ∙ idle in
-    let due′ : getD cs k none .cycles < recordCount f t k = subst (λ (u : Registers). u .cycles < recordCount f t k) (sym here) due in
-    let e′ : s ≡ startedAt f t k (getD cs k none) = e ∙ ap (startedAt f t k) (sym here) in
-    let m′ : split (sizesOf f) d₁ ≡ set (split (sizesOf f) d) k (broughtTo f t k (getD cs k none) sh (getD (split (sizesOf f) d) k [])) =
+    let idle′ : getD cs k noRegisters .mode ≡ 0 = ap (λ (u : Registers). u .mode) here ∙ idle in
+    let due′ : getD cs k noRegisters .cycles < recordCount f t k = subst (λ (u : Registers). u .cycles < recordCount f t k) (sym here) due in
+    let e′ : s ≡ startedAt f t k (getD cs k noRegisters) = e ∙ ap (startedAt f t k) (sym here) in
+    let m′ : split (sizesOf f) d₁ ≡ set (split (sizesOf f) d) k (broughtTo f t k (getD cs k noRegisters) sh (getD (split (sizesOf f) d) k [])) =
     m ∙ ap (λ (u : Registers). set (split (sizesOf f) d) k (broughtTo f t k u sh (getD (split (sizesOf f) d) k []))) (sym here) in
     reread-is f t ok k ik cs places offsets d sh x s d₁ idle′ due′ e′ m′ long r′ places′ offsets′ d′
-    (w (set cs k s) sh (getD-set-same cs k s none (omega (arith, ok .few, x .stands .four))) (standing-middle f t ok k ik cs places offsets d sh x s d₁ idle′ due′ e′ m′ long)) left
+    (w (set cs k s) sh (getD-set-same cs k s noRegisters (omega (arith, ok .few, x .stands .four))) (standing-middle f t ok k ik cs places offsets d sh x s d₁ idle′ due′ e′ m′ long)) left
 
 -- some state stands as the execution starts
-pub started-stands : (f t : List ℕ) → Set f t → (k : ℕ) → k < cores f → (r : Registers) (places offsets d sh : List ℕ) → r .mode ≡ 0 → r .cycles < recordCount f t k
+pub started-stands : (f t : List ℕ) → AcceptedSet f t → (k : ℕ) → k < cores f → (r : Registers) (places offsets d sh : List ℕ) → r .mode ≡ 0 → r .cycles < recordCount f t k
     → (s : Registers) (d₁ : List ℕ) → s ≡ startedAt f t k r → split (sizesOf f) d₁ ≡ set (split (sizesOf f) d) k (broughtTo f t k r sh (getD (split (sizesOf f) d) k [])) → length d₁ ≡ length d
-    → (cs : List Registers) → getD cs k none ≡ r → Resting f t cs places offsets d sh → Executing f t k s places offsets d₁
+    → (cs : List Registers) → getD cs k noRegisters ≡ r → Resting f t cs places offsets d sh → ExecutionGiven f t k s places offsets d₁
 started-stands f t ok k ik r places offsets d sh idle due s d₁ e m long cs here x =
     record {
       accepted = ok;
       known = ik;
       cs = set cs k s;
       sh = sh;
-      here = getD-set-same cs k s none (omega (arith, ok .few, x .stands .four));
+      here = getD-set-same cs k s noRegisters (omega (arith, ok .few, x .stands .four));
       stands = standing-middle f t ok k ik cs places offsets d sh x s d₁ (ap (λ (u : Registers). u .mode) here ∙ idle) (subst (λ (u : Registers). u .cycles < recordCount f t k) (sym here) due)
           (e ∙ ap (startedAt f t k) (sym here)) (m ∙ ap (λ (u : Registers). set (split (sizesOf f) d) k (broughtTo f t k u sh (getD (split (sizesOf f) d) k []))) (sym here)) long;
     }
 
 -- a core that rests is one that a step's functions may be given
-pub ready-of : (f t : List ℕ) → Set f t → (k : ℕ) → k < cores f → (c : CoreTask) → c ≡ coreTask f t k → (r : Registers) (cs : List Registers) (places offsets d sh : List ℕ) → getD cs k none ≡ r
-    → Resting f t cs places offsets d sh → Ready f t k c r (getD (split (sizesOf f) d) k [])
-ready-of f t ok k ik c e r cs places offsets d sh here x = subst (λ (u : Registers). Ready f t k c u (getD (split (sizesOf f) d) k [])) here record {
+pub ready-of : (f t : List ℕ) → AcceptedSet f t → (k : ℕ) → k < cores f → (c : CoreTask) → c ≡ coreTask f t k → (r : Registers) (cs : List Registers) (places offsets d sh : List ℕ) → getD cs k noRegisters ≡ r
+    → Resting f t cs places offsets d sh → StepGiven f t k c r (getD (split (sizesOf f) d) k [])
+ready-of f t ok k ik c e r cs places offsets d sh here x = subst (λ (u : Registers). StepGiven f t k c u (getD (split (sizesOf f) d) k [])) here record {
   accepted = ok;
   known = ik;
   task = e;
@@ -321,7 +321,7 @@ count-is f t k c e = ap (λ (x : CoreTask). x .count) e
 
 -- what the exchange asks
 pub reading-asks : {f t : List ℕ} {k : ℕ} {c : CoreTask} {first end : ℕ} {r : Registers} {places offsets d sh : List ℕ} → Reading f t k c first end r places offsets d sh
-    → Ready f t k c r (getD (split (sizesOf f) d) k []) × (length d ≡ total (sizesOf f)) × (r .cycles < c .count) × (first ≡ recordPlace f 0) × (end ≡ recordPlace f (variables f)) × (length sh ≡ 1024)
+    → StepGiven f t k c r (getD (split (sizesOf f) d) k []) × (length d ≡ total (sizesOf f)) × (r .cycles < c .count) × (first ≡ recordPlace f 0) × (end ≡ recordPlace f (variables f)) × (length sh ≡ 1024)
 reading-asks {f} {t} {k} {c} {first} {end} {r} {places} {offsets} {d} {sh} x = (
   ready-of f t (x .accepted) k (x .known) c (x .task) r (x .cs) places offsets d sh (x .here) (x .rests),
   x .rests .stands .buffer,

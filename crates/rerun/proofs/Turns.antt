@@ -30,19 +30,19 @@ use Rattle.states.specs.declared.State.{State as Held}
 use Rattle.states.specs.declared.CoreTask.{CoreTask}
 use Rattle.states.specs.Task.{taskOf}
 use Rattle.states.specs.Tasks.{coreTask}
-use Rattle.states.specs.Machine.{none, coreIn, stateIn}
+use Rattle.states.specs.Machine.{noRegisters, coreIn, stateIn}
 use Rattle.states.specs.Fit.{FitCore}
-use Rattle.states.specs.Set.{Set}
-use Rattle.steps.specs.Moving.{Ready}
+use Rattle.states.specs.Set.{AcceptedSet}
+use Rattle.steps.specs.Moving.{StepGiven}
 use Rattle.runner.proofs.Running.{core-in}
 use Rattle.machine.specs.Calls.{lentFits}
-use Rattle.rerun.specs.Rerunning.{namedCore, dueBy, Reading, Reads, Rerunning}
+use Rattle.rerun.specs.Rerunning.{namedCore, dueBy, Reading, ReadsWhole, Rerunning}
 use Rattle.rerun.proofs.Reading.{count-is, ready-of}
 use Rattle.rerun.proofs.Listed.{at-rest, list-refused, none-named, due-here, read-on, write-on}
 
 -- ---- the layout
 
-module _ {f t : List ℕ} (ok : Set f t) {l : Layout} (e : l ≡ layoutOf f) where
+module _ {f t : List ℕ} (ok : AcceptedSet f t) {l : Layout} (e : l ≡ layoutOf f) where
   pub first-is : l .first ≡ recordPlace f 0
   first-is = ap (λ (x : Layout). x .first) e
 
@@ -74,30 +74,30 @@ due-write : (b : ℕ) (r : Registers) (count : ℕ) → 16 ≤ b → dueBy b r c
 unfolding pick
 due-write b r count h e = let d = rw (le-ltb b 16 h) at e in eqb-true _ _ d
 
-module _ {f t list : List ℕ} (ok : Set f t) {h : Held} {i : ℕ} {cs : List Registers} {places offsets d sh : List ℕ} (w : Rerunning f t list h i cs places offsets d sh) (less : i < length list)
+module _ {f t list : List ℕ} (ok : AcceptedSet f t) {h : Held} {i : ℕ} {cs : List Registers} {places offsets d sh : List ℕ} (w : Rerunning f t list h i cs places offsets d sh) (less : i < length list)
     (b : ℕ) (byte : b ≡ getD list i 0) (k : ℕ) (named : k ≡ namedCore b) where
   -- it names no core
   pub no-core : cores f ≤ k → legal (taskOf f t) (map decoded list) (freshOf f .plant) ≡ false
   no-core g = list-refused f t list ok h i cs places offsets d sh w less b byte (none-named f t list ok h i cs places offsets d sh w less b byte (subst (λ (n : ℕ). cores f ≤ n) named g))
 
   module _ (ik : k < cores f) (c : CoreTask) (task : c ≡ coreTask f t k) where
-    accepts-is : accepts (taskOf f t) (decoded b) (stateIn f cs places offsets untaken d sh .plant) ≡ dueBy b (getD cs k none) (c .count)
+    accepts-is : accepts (taskOf f t) (decoded b) (stateIn f cs places offsets untaken d sh .plant) ≡ dueBy b (getD cs k noRegisters) (c .count)
     accepts-is =
         due-here f t list ok h i cs places offsets d sh w less b byte (subst (λ (n : ℕ). n < cores f) named ik) (c .count) (count-is f t k c task ∙ ap (recordCount f t) named)
-        ∙ ap (λ (n : ℕ). dueBy b (getD cs n none) (c .count)) (sym named)
+        ∙ ap (λ (n : ℕ). dueBy b (getD cs n noRegisters) (c .count)) (sym named)
 
     -- its core does not have it to do
-    pub not-due : dueBy b (getD cs k none) (c .count) ≡ false → legal (taskOf f t) (map decoded list) (freshOf f .plant) ≡ false
+    pub not-due : dueBy b (getD cs k noRegisters) (c .count) ≡ false → legal (taskOf f t) (map decoded list) (freshOf f .plant) ≡ false
     not-due e = list-refused f t list ok h i cs places offsets d sh w less b byte (accepts-is ∙ e)
 
-    module _ (due : dueBy b (getD cs k none) (c .count) ≡ true) where
+    module _ (due : dueBy b (getD cs k noRegisters) (c .count) ≡ true) where
       accepted : accepts (taskOf f t) (decoded b) (stateIn f cs places offsets untaken d sh .plant) ≡ true
       accepted = accepts-is ∙ due
 
       -- a reading
-      pub reading-given : b < 16 → (first end : ℕ) → first ≡ recordPlace f 0 → end ≡ recordPlace f (variables f) → Reading f t k c first end (getD cs k none) places offsets d sh
+      pub reading-given : b < 16 → (first end : ℕ) → first ≡ recordPlace f 0 → end ≡ recordPlace f (variables f) → Reading f t k c first end (getD cs k noRegisters) places offsets d sh
       reading-given small first end a z =
-          let y = due-read b (getD cs k none) (c .count) small due in
+          let y = due-read b (getD cs k noRegisters) (c .count) small due in
           record {
             accepted = ok;
             known = ik;
@@ -111,31 +111,31 @@ module _ {f t list : List ℕ} (ok : Set f t) {h : Held} {i : ℕ} {cs : List Re
             rests = at-rest f t list ok h i cs places offsets d sh w;
           }
 
-      pub reading-on : b < 16 → (r′ : Registers) (places′ offsets′ d′ : List ℕ) → Reads f t k (getD cs k none) places offsets d sh r′ places′ offsets′ d′
+      pub reading-on : b < 16 → (r′ : Registers) (places′ offsets′ d′ : List ℕ) → ReadsWhole f t k (getD cs k noRegisters) places offsets d sh r′ places′ offsets′ d′
           → (cs′ : List Registers) → cs′ ≡ set cs k r′ → Rerunning f t list h (i + 1) cs′ places′ offsets′ d′ sh
       reading-on small r′ places′ offsets′ d′ y cs′ ce =
           read-on f t list ok h i cs places offsets d sh w less b byte small (subst (λ (n : ℕ). n < cores f) named ik) accepted cs′ r′ places′ offsets′ d′ (ce ∙ ap (λ (n : ℕ). set cs n r′) named)
-          (subst (λ (n : ℕ). Reads f t n (getD cs n none) places offsets d sh r′ places′ offsets′ d′) named y cs refl (at-rest f t list ok h i cs places offsets d sh w))
+          (subst (λ (n : ℕ). ReadsWhole f t n (getD cs n noRegisters) places offsets d sh r′ places′ offsets′ d′) named y cs refl (at-rest f t list ok h i cs places offsets d sh w))
 
       -- a writing
       pub writing-asks : (first end : ℕ) → first ≡ recordPlace f 0 → end ≡ recordPlace f (variables f)
-          → Ready f t k c (getD cs k none) (getD (split (sizesOf f) d) k []) × (length d ≡ total (sizesOf f)) × (first ≡ recordPlace f 0) × (end ≡ recordPlace f (variables f)) × (length sh ≡ 1024)
-      writing-asks first end a z = (ready-of f t ok k ik c task (getD cs k none) cs places offsets d sh refl (at-rest f t list ok h i cs places offsets d sh w), w .buffer, a, z, w .shared)
+          → StepGiven f t k c (getD cs k noRegisters) (getD (split (sizesOf f) d) k []) × (length d ≡ total (sizesOf f)) × (first ≡ recordPlace f 0) × (end ≡ recordPlace f (variables f)) × (length sh ≡ 1024)
+      writing-asks first end a z = (ready-of f t ok k ik c task (getD cs k noRegisters) cs places offsets d sh refl (at-rest f t list ok h i cs places offsets d sh w), w .buffer, a, z, w .shared)
 
-      pub cycles-few : 16 ≤ b → getD cs k none .cycles < 65535
+      pub cycles-few : 16 ≤ b → getD cs k noRegisters .cycles < 65535
       cycles-few large =
-          let y : getD cs k none .mode ≡ 3 = due-write b (getD cs k none) (c .count) large due in
+          let y : getD cs k noRegisters .mode ≡ 3 = due-write b (getD cs k noRegisters) (c .count) large due in
           let x : FitCore f t k (coreIn f cs places offsets d k) = subst (FitCore f t k) (core-in f cs places offsets untaken d sh k ik) (at-rest f t list ok h i cs places offsets d sh w .stands .fit .each k ik) in
           omega (arith, x .under-way (omega (arith, y)) (omega (arith, y)), ok .counts k)
 
       pub writing-on : 16 ≤ b → (sh′ : List ℕ) → sh′ ≡ copy (writesOf (variablesOf f) k) (getD (split (sizesOf f) d) k []) sh
-          → (cs′ : List Registers) (r′ : Registers) → r′ ≡ writeReleased (getD cs k none) → cs′ ≡ set cs k r′ → Rerunning f t list h (i + 1) cs′ places offsets d sh′
+          → (cs′ : List Registers) (r′ : Registers) → r′ ≡ writeReleased (getD cs k noRegisters) → cs′ ≡ set cs k r′ → Rerunning f t list h (i + 1) cs′ places offsets d sh′
       writing-on large sh′ se cs′ r′ re ce =
           write-on f t list ok h i cs places offsets d sh w less b byte large (subst (λ (n : ℕ). n < cores f) named ik) accepted cs′ sh′
-          (ce ∙ ap (set cs k) re ∙ ap (λ (n : ℕ). set cs n (writeReleased (getD cs n none))) named)
+          (ce ∙ ap (set cs k) re ∙ ap (λ (n : ℕ). set cs n (writeReleased (getD cs n noRegisters))) named)
           (se ∙ ap (λ (n : ℕ). copy (writesOf (variablesOf f) n) (getD (split (sizesOf f) d) n []) sh) named) (ap length se ∙ copy-length (writesOf (variablesOf f) k) (getD (split (sizesOf f) d) k []) sh)
 
-pub known-few : {f t : List ℕ} → Set f t → {l : Layout} → l ≡ layoutOf f → {k : ℕ} → k < l .cores → k < 4
+pub known-few : {f t : List ℕ} → AcceptedSet f t → {l : Layout} → l ≡ layoutOf f → {k : ℕ} → k < l .cores → k < 4
 known-few ok e h = omega (arith, cores-are ok e, ok .few)
 
 pub lent-lengths : (f : List ℕ) (buffer shared : ℕ) → lentFits f buffer shared ≡ true → (buffer ≡ total (sizesOf f)) × (shared ≡ 1024)

@@ -13,7 +13,7 @@ use Rattle.taskset.specs.Trace.{traceRefusal}
 use Rattle.taskset.specs.Fresh.{freshOf}
 use Rattle.states.specs.Task.{taskOf}
 use Rattle.states.specs.Machine.{heldAfter, dataOf}
-use Rattle.runner.specs.Runs.{Left, left}
+use Rattle.runner.specs.Runs.{Left, leftAs}
 use Rattle.machine.specs.Calls.{lentFits, answerOf, tableOf}
 
 -- ---- the refusal: file, 21, 22, and last "33, a list that no order of steps produces (one with a byte that names no core included)"
@@ -35,7 +35,7 @@ reran f t list = rerunEnd (taskOf f t) (map decoded list) (freshOf f)
 -- its answer and the memories d and sh afterwards; all of the list's takings are done
 unfoldable pub rerunLeft : List ℕ → List ℕ → List ℕ → Left
 rerunLeft f t list =
-    left
+    leftAs
     (record { refusal = 0; taken = length list; state = heldAfter (cores f) (tableOf (cores f) 4) (reran f t list) })
     (dataOf (reran f t list))
     (reran f t list .plant .shared)
@@ -46,4 +46,4 @@ unfoldable pub rerunCall : List ℕ → List ℕ → List ℕ → List ℕ → L
 rerunCall f t list d sh =
     pick (eqb (rerunRefusal f t list (length d) (length sh)) 0)
     (rerunLeft f t list)
-    (left (answerOf (rerunRefusal f t list (length d) (length sh)) (tableOf 0 0)) d sh [])
+    (leftAs (answerOf (rerunRefusal f t list (length d) (length sh)) (tableOf 0 0)) d sh [])

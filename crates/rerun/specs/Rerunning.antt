@@ -24,10 +24,10 @@ use Rattle.states.specs.declared.State.{State}
 use Rattle.states.specs.declared.CoreTask.{CoreTask}
 use Rattle.states.specs.Task.{taskOf}
 use Rattle.states.specs.Tasks.{coreTask}
-use Rattle.states.specs.Machine.{none, stackIn, stateIn}
-use Rattle.states.specs.Set.{Set}
+use Rattle.states.specs.Machine.{noRegisters, stackIn, stateIn}
+use Rattle.states.specs.Set.{AcceptedSet}
 use Rattle.runner.specs.declared.Ran.{Ran}
-use Rattle.runner.specs.Runs.{Left, left}
+use Rattle.runner.specs.Runs.{Left, leftAs}
 use Rattle.runner.specs.Executing.{Standing}
 use Rattle.machine.specs.Calls.{answerOf, tableOf}
 use Rattle.rerun.specs.Calls.{listRefusal, rerunLeft}
@@ -56,7 +56,7 @@ broughtTo f t k r sh d = copy (readsOf (variablesOf f) k) sh (splice d 0 (sample
 
 -- a core k with the registers r that has a reading to do, in some state at rest
 pub record Reading (f t : List ℕ) (k : ℕ) (c : CoreTask) (first end : ℕ) (r : Registers) (places offsets d sh : List ℕ) : Type 0 where
-  pub accepted : Set f t
+  pub accepted : AcceptedSet f t
   pub known : k < cores f
   pub task : c ≡ coreTask f t k
   pub from : first ≡ recordPlace f 0
@@ -64,7 +64,7 @@ pub record Reading (f t : List ℕ) (k : ℕ) (c : CoreTask) (first end : ℕ) (
   pub idle : r .mode ≡ betweenCycles
   pub due : r .cycles < recordCount f t k
   pub cs : List Registers
-  pub here : getD cs k none ≡ r
+  pub here : getD cs k noRegisters ≡ r
   pub rests : Resting f t cs places offsets d sh
 
 -- what it makes of a state: what the whole-exchange machine does
@@ -75,9 +75,9 @@ pub record Reread (f t : List ℕ) (k : ℕ) (cs : List Registers) (places offse
   pub spare : (j : ℕ) → cores f ≤ j → stackIn places′ offsets′ j ≡ stackIn places offsets j
 
 -- in every state at rest with the registers r of core k
-abbrev pub Reads : List ℕ → List ℕ → ℕ → Registers → List ℕ → List ℕ → List ℕ → List ℕ → Registers → List ℕ → List ℕ → List ℕ → Type 0
-Reads f t k r places offsets d sh r′ places′ offsets′ d′ =
-    (cs : List Registers) → getD cs k none ≡ r → Resting f t cs places offsets d sh → Reread f t k cs places offsets d sh r′ places′ offsets′ d′
+abbrev pub ReadsWhole : List ℕ → List ℕ → ℕ → Registers → List ℕ → List ℕ → List ℕ → List ℕ → Registers → List ℕ → List ℕ → List ℕ → Type 0
+ReadsWhole f t k r places offsets d sh r′ places′ offsets′ d′ =
+    (cs : List Registers) → getD cs k noRegisters ≡ r → Resting f t cs places offsets d sh → Reread f t k cs places offsets d sh r′ places′ offsets′ d′
 
 -- ---- the whole list
 
@@ -90,10 +90,10 @@ pub record Rerunning (f t list : List ℕ) (h : State) (i : ℕ) (cs : List Regi
   pub entries : (length places ≡ 64) × (length offsets ≡ 64)
   pub buffer : length d ≡ total (sizesOf f)
   pub shared : length sh ≡ 1024
-  pub spare : (j : ℕ) → cores f ≤ j → (getD cs j none ≡ getD (h .cores) j none) × (stackIn places offsets j ≡ stackIn (h .places) (h .offsets) j)
+  pub spare : (j : ℕ) → cores f ≤ j → (getD cs j noRegisters ≡ getD (h .cores) j noRegisters) × (stackIn places offsets j ≡ stackIn (h .places) (h .offsets) j)
 
 -- in memories of its own, whose bytes are d and sh afterwards
 pub record Reran (f t list : List ℕ) (r : Ran) (d sh : List ℕ) : Type 0 where
   pub number : r .refusal ≡ listRefusal f t list
-  pub done : r .refusal ≡ 0 → left r d sh [] ≡ rerunLeft f t list
+  pub done : r .refusal ≡ 0 → leftAs r d sh [] ≡ rerunLeft f t list
   pub refused : r .refusal ≢ 0 → r ≡ answerOf (r .refusal) (tableOf 0 0)

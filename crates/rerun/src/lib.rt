@@ -19,13 +19,13 @@ ghost use Rattle.taskset.specs.Judge.{judge};
 ghost use Rattle.taskset.specs.Trace.{traceRefusal};
 ghost use Rattle.taskset.specs.Layout.{layoutOf};
 ghost use Rattle.taskset.specs.Task.{sizesOf, variablesOf, sampleAt};
-ghost use Rattle.states.specs.Set.{Set};
+ghost use Rattle.states.specs.Set.{AcceptedSet};
 ghost use Rattle.states.specs.Tasks.{tasksOf};
-ghost use Rattle.steps.specs.Moving.{Ready};
-ghost use Rattle.runner.specs.Runs.{left};
+ghost use Rattle.steps.specs.Moving.{StepGiven};
+ghost use Rattle.runner.specs.Runs.{leftAs};
 ghost use Rattle.machine.specs.Calls.{lentFits, answerOf, tableOf};
 ghost use Rattle.rerun.specs.Calls.{rerunCall};
-ghost use Rattle.rerun.specs.Rerunning.{namedCore, dueBy, broughtTo, Reading, Reads, Reran};
+ghost use Rattle.rerun.specs.Rerunning.{namedCore, dueBy, broughtTo, Reading, ReadsWhole, Reran};
 
 const LARGEST: usize = 16384;
 
@@ -76,7 +76,7 @@ fn read_data(
     d: &mut [u8],
     shared: &[u8],
 ) -> u32
-    requires { ⌜ Ready (now file) (now trace) k c r (now d) × (r .cycles < c .count) × (first ≡ recordPlace (now file) 0) × (end ≡ recordPlace (now file) (variables (now file))) × (length (now shared) ≡ 1024) ⌝ }
+    requires { ⌜ StepGiven (now file) (now trace) k c r (now d) × (r .cycles < c .count) × (first ≡ recordPlace (now file) 0) × (end ≡ recordPlace (now file) (variables (now file))) × (length (now shared) ≡ 1024) ⌝ }
     ensures { λ x. ⌜ (x ≡ sampleAt (now (file .entry)) (now (trace .entry)) k (r .cycles) .time) × (now (d .exit) ≡ broughtTo (now (file .entry)) (now (trace .entry)) k r (now (shared .entry)) (now (d .entry))) ⌝ }
 {
     let time = steps::take_record(r, k, c, file, trace, d);
@@ -96,7 +96,7 @@ fn read_exchange(
     buffer: &mut [u8],
     shared: &[u8],
 ) -> u32
-    requires { ⌜ Ready (now file) (now trace) k c r (getD (split (sizesOf (now file)) (now buffer)) k []) × (length (now buffer) ≡ total (sizesOf (now file))) × (r .cycles < c .count) × (first ≡ recordPlace (now file) 0) × (end ≡ recordPlace (now file) (variables (now file))) × (length (now shared) ≡ 1024) ⌝ }
+    requires { ⌜ StepGiven (now file) (now trace) k c r (getD (split (sizesOf (now file)) (now buffer)) k []) × (length (now buffer) ≡ total (sizesOf (now file))) × (r .cycles < c .count) × (first ≡ recordPlace (now file) 0) × (end ≡ recordPlace (now file) (variables (now file))) × (length (now shared) ≡ 1024) ⌝ }
     ensures { λ x. ⌜ (x ≡ sampleAt (now (file .entry)) (now (trace .entry)) k (r .cycles) .time) × (split (sizesOf (now (file .entry))) (now (buffer .exit)) ≡ set (split (sizesOf (now (file .entry))) (now (buffer .entry))) k (broughtTo (now (file .entry)) (now (trace .entry)) k r (now (shared .entry)) (getD (split (sizesOf (now (file .entry))) (now (buffer .entry))) k []))) ⌝ }
 {
     let a = c.base;
@@ -119,7 +119,7 @@ fn read(
     shared: &[u8],
 ) -> Registers
     requires { ⌜ Reading (now file) (now trace) k c first end r (now places) (now offsets) (now buffer) (now shared) ⌝ }
-    ensures { λ x. ⌜ Reads (now (file .entry)) (now (trace .entry)) k r (now (places .entry)) (now (offsets .entry)) (now (buffer .entry)) (now (shared .entry)) x (now (places .exit)) (now (offsets .exit)) (now (buffer .exit)) ⌝ }
+    ensures { λ x. ⌜ ReadsWhole (now (file .entry)) (now (trace .entry)) k r (now (places .entry)) (now (offsets .entry)) (now (buffer .entry)) (now (shared .entry)) x (now (places .exit)) (now (offsets .exit)) (now (buffer .exit)) ⌝ }
 {
     let time = read_exchange(r, k, c, file, trace, first, end, buffer, shared);
     let started = protocol::read_released(protocol::read_acquired(r, time));
@@ -140,7 +140,7 @@ fn write_exchange(
     buffer: &[u8],
     shared: &mut [u8],
 )
-    requires { ⌜ Ready (now file) (now trace) k c r (getD (split (sizesOf (now file)) (now buffer)) k []) × (length (now buffer) ≡ total (sizesOf (now file))) × (first ≡ recordPlace (now file) 0) × (end ≡ recordPlace (now file) (variables (now file))) × (length (now shared) ≡ 1024) ⌝ }
+    requires { ⌜ StepGiven (now file) (now trace) k c r (getD (split (sizesOf (now file)) (now buffer)) k []) × (length (now buffer) ≡ total (sizesOf (now file))) × (first ≡ recordPlace (now file) 0) × (end ≡ recordPlace (now file) (variables (now file))) × (length (now shared) ≡ 1024) ⌝ }
     ensures { λ _. ⌜ now (shared .exit) ≡ copy (writesOf (variablesOf (now (file .entry))) k) (getD (split (sizesOf (now (file .entry))) (now (buffer .entry))) k []) (now (shared .entry)) ⌝ }
 {
     let a = c.base;
@@ -167,7 +167,7 @@ fn rerun_in(
     buffer: &mut [u8],
     shared: &mut [u8],
 ) -> Ran
-    requires { ⌜ Set (now file) (now trace) × (layout ≡ layoutOf (now file)) × (tasks ≡ tasksOf (now file) (now trace)) × (lentFits (now file) (length (now buffer)) (length (now shared)) ≡ true) ⌝ }
+    requires { ⌜ AcceptedSet (now file) (now trace) × (layout ≡ layoutOf (now file)) × (tasks ≡ tasksOf (now file) (now trace)) × (lentFits (now file) (length (now buffer)) (length (now shared)) ≡ true) ⌝ }
     ensures { λ r. ⌜ Reran (now (file .entry)) (now (trace .entry)) (now (list .entry)) r (now (buffer .exit)) (now (shared .exit)) ⌝ }
 {
     let fresh = machine::fresh_judged(file, layout, buffer, shared);
@@ -247,8 +247,8 @@ fn rerun_through(
     buffer: &mut [u8],
     shared: &mut [u8],
 ) -> Ran
-    requires { ⌜ Set (now file) (now trace) × (layout ≡ layoutOf (now file)) × (tasks ≡ tasksOf (now file) (now trace)) × (lentFits (now file) (length (now buffer)) (length (now shared)) ≡ true) × (length (now scratch) ≡ length (now buffer)) × (length (now common) ≡ length (now shared)) ⌝ }
-    ensures { λ r. ⌜ left r (now (buffer .exit)) (now (shared .exit)) [] ≡ rerunCall (now (file .entry)) (now (trace .entry)) (now (list .entry)) (now (buffer .entry)) (now (shared .entry)) ⌝ }
+    requires { ⌜ AcceptedSet (now file) (now trace) × (layout ≡ layoutOf (now file)) × (tasks ≡ tasksOf (now file) (now trace)) × (lentFits (now file) (length (now buffer)) (length (now shared)) ≡ true) × (length (now scratch) ≡ length (now buffer)) × (length (now common) ≡ length (now shared)) ⌝ }
+    ensures { λ r. ⌜ leftAs r (now (buffer .exit)) (now (shared .exit)) [] ≡ rerunCall (now (file .entry)) (now (trace .entry)) (now (list .entry)) (now (buffer .entry)) (now (shared .entry)) ⌝ }
 {
     let n = buffer.len();
     let m = shared.len();
@@ -269,8 +269,8 @@ fn rerun_judged(
     buffer: &mut [u8],
     shared: &mut [u8],
 ) -> Ran
-    requires { ⌜ Set (now file) (now trace) × (layout ≡ layoutOf (now file)) × (tasks ≡ tasksOf (now file) (now trace)) × (lentFits (now file) (length (now buffer)) (length (now shared)) ≡ true) ⌝ }
-    ensures { λ r. ⌜ left r (now (buffer .exit)) (now (shared .exit)) [] ≡ rerunCall (now (file .entry)) (now (trace .entry)) (now (list .entry)) (now (buffer .entry)) (now (shared .entry)) ⌝ }
+    requires { ⌜ AcceptedSet (now file) (now trace) × (layout ≡ layoutOf (now file)) × (tasks ≡ tasksOf (now file) (now trace)) × (lentFits (now file) (length (now buffer)) (length (now shared)) ≡ true) ⌝ }
+    ensures { λ r. ⌜ leftAs r (now (buffer .exit)) (now (shared .exit)) [] ≡ rerunCall (now (file .entry)) (now (trace .entry)) (now (list .entry)) (now (buffer .entry)) (now (shared .entry)) ⌝ }
 {
     let mut data: [u8; LARGEST] = [0; LARGEST];
     let mut common: [u8; SHARED] = [0; SHARED];
@@ -290,7 +290,7 @@ fn rerun_judged(
 
 // Reruns an order list from the fresh state of a file on a trace.
 pub fn rerun(file: &[u8], trace: &[u8], list: &[u8], buffer: &mut [u8], shared: &mut [u8]) -> Ran
-    ensures { λ r. ⌜ left r (now (buffer .exit)) (now (shared .exit)) [] ≡ rerunCall (now (file .entry)) (now (trace .entry)) (now (list .entry)) (now (buffer .entry)) (now (shared .entry)) ⌝ }
+    ensures { λ r. ⌜ leftAs r (now (buffer .exit)) (now (shared .exit)) [] ≡ rerunCall (now (file .entry)) (now (trace .entry)) (now (list .entry)) (now (buffer .entry)) (now (shared .entry)) ⌝ }
 {
     let loaded = taskset::load(file);
     if loaded.refusal != 0 {

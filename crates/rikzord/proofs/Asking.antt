@@ -33,7 +33,7 @@ use denote.Triple.Statement.{Contract, Triple}
 use denote.Triple.Call.{calls-at}
 use denote.Triple.Clauses.{ensured, lasts}
 use denote.Triple.Spec.{tripleOf}
-use Rattle.snapshot.specs.Snapshot.{noCore}
+use Rattle.snapshot.specs.Snapshot.{noRecord}
 use Rattle.rikzord.specs.Lent.{recordAt}
 use Rattle.snapshot.specs.declared.Core.{Core}
 use Rattle.snapshot.proofs.Core as T
@@ -47,7 +47,7 @@ abbrev pub R : RattleType
 R = T.the-row
 
 -- what `get_or` answers where a record past the end is one of zeros
-pub from-none : (ys : List Core) (c n : Core) (i : ℕ) → n ≡ noCore → c ≡ getD ys i n → c ≡ recordAt ys i
+pub from-none : (ys : List Core) (c n : Core) (i : ℕ) → n ≡ noRecord → c ≡ getD ys i n → c ≡ recordAt ys i
 from-none ys c n i en e = e ∙ ap (λ (m : Core). getD ys i m) en
 
 module _ {M : Type 1} (𝓤 : URA M) (H : Heap 𝓤) (A : Atoms 𝓤) (at-mem : Memory → SProp 𝓤) (run : Routine → Fun 𝓤) where
@@ -58,8 +58,8 @@ module _ {M : Type 1} (𝓤 : URA M) (H : Heap 𝓤) (A : Atoms 𝓤) (at-mem : 
   NoCore = tripleOf 𝓤 H A no-core.signature (no-core.spec 𝓤 H A at-mem run)
 
   -- of what each ensures, the clause alone: neither has a last value
-  none-of : (r : Core) → ent 𝓤 (ensured 𝓤 H A no-core.ended (no-core.clauses 𝓤 H A at-mem run) tt tt tt r) (fact 𝓤 (r ≡ noCore))
-  none-of r = exE 𝓤 _ (λ ws. snd∗ 𝓤 (sem 𝓤 H A (lasts no-core.ended tt tt ws)) (fact 𝓤 (r ≡ noCore)))
+  none-of : (r : Core) → ent 𝓤 (ensured 𝓤 H A no-core.ended (no-core.clauses 𝓤 H A at-mem run) tt tt tt r) (fact 𝓤 (r ≡ noRecord))
+  none-of r = exE 𝓤 _ (λ ws. snd∗ 𝓤 (sem 𝓤 H A (lasts no-core.ended tt tt ws)) (fact 𝓤 (r ≡ noRecord)))
 
   got-of : (κ : Lft) (x : RefT (List Core)) (i : ℕ) (n r : Core) → ent 𝓤 (ensured 𝓤 H A get-or.ended (get-or.clauses 𝓤 H A at-mem run) (κ, tt) (x, (i, (n, tt))) tt r) (fact 𝓤 (r ≡ getD (x .now) i n))
   got-of κ x i n r = exE 𝓤 _ (λ ws. snd∗ 𝓤 (sem 𝓤 H A (lasts get-or.ended (κ, tt) (x, (i, (n, tt))) ws)) (fact 𝓤 (r ≡ getD (x .now) i n)))
@@ -76,12 +76,12 @@ module _ {M : Type 1} (𝓤 : URA M) (H : Heap 𝓤) (A : Atoms 𝓤) (W : Given
 
   module _ (C : Calls 𝓤 H) (Λ : Loops 𝓤 H) (fm : FmC 𝓤 H (W .laws) C) (known : Triple 𝓤 (C #snapshot·no-core) (NoCore 𝓤 H A at-mem run)) where
     pub begins : {Γ : List (Item 𝓤)} {E : Env 𝓤 H} {d : Place} {rest : Body} {p : Kit.Post 𝓤 H}
-        → ((n : Core) (u : Val) → n ≡ noCore → Is R n (u ∷ []) → Sq W Γ (lands C Λ E d u rest p)) → Sq W Γ (runs C Λ E (seq (call #snapshot·no-core [] d) rest) p)
+        → ((n : Core) (u : Val) → n ≡ noRecord → Is R n (u ∷ []) → Sq W Γ (lands C Λ E d u rest p)) → Sq W Γ (runs C Λ E (seq (call #snapshot·no-core [] d) rest) p)
     begins k =
         use0 W (raw (NoCore 𝓤 H A at-mem run .pre to-none)) goes-none $
         calls-at ! fm (NoCore 𝓤 H A at-mem run) known to-none (no-more !) (λ u.
         use1 W (later (some (λ (r : Core). (‵ ftrue ⊛ ‵ (R .own r (u ∷ []))) ⊛ raw (ensured 𝓤 H A no-core.ended (no-core.clauses 𝓤 H A at-mem run) tt tt tt r)))) (id⊢ 𝓤 _) $ await ! tt $ pick ! (λ n.
-        split ! $ move ! (1 ∷ []) $ use1 W (raw (fact 𝓤 (n ≡ noCore))) (none-of 𝓤 H A at-mem run n) $ heard ! (n ≡ noCore) (λ en.
+        split ! $ move ! (1 ∷ []) $ use1 W (raw (fact 𝓤 (n ≡ noRecord))) (none-of 𝓤 H A at-mem run n) $ heard ! (n ≡ noRecord) (λ en.
         split ! $ drop ! $ peeks ! R (Is R) (shows 𝓤 H A R) n (u ∷ []) (λ n-is. drop ! $ k n u en n-is))))
 
 module _ {M : Type 1} (𝓤 : URA M) (H : Heap 𝓤) (A : Atoms 𝓤) (W : Given 𝓤 H A) (at-mem : Memory → SProp 𝓤) (run : Routine → Fun 𝓤) (κ : Lft) (q : Share) (b o : ℕ) (γ : GName) (ys : List Core) where

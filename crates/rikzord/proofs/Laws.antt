@@ -9,7 +9,7 @@ use Rattle.verdict.proofs.Verdict.{pick-true, pick-false, by-pick}
 use Rattle.code.specs.declared.Profile.{Profile}
 use Rattle.semaphore.specs.declared.Semaphore.{Semaphore}
 use Rattle.runner.specs.declared.Ran.{Ran}
-use Rattle.runner.specs.Runs.{Left, left}
+use Rattle.runner.specs.Runs.{Left, leftAs}
 use Rattle.records.specs.File.{cores}
 use Rattle.taskset.specs.Judge.{judgeFor, judge}
 use Rattle.machine.specs.Calls.{answerOf, tableOf, freshCallFor, freshCall, runCall, stepCall}
@@ -18,7 +18,7 @@ use Rattle.snapshot.specs.declared.Core.{Core}
 use Rattle.snapshot.specs.declared.Table.{Table}
 use Rattle.snapshot.specs.declared.After.{After}
 use Rattle.snapshot.specs.Snapshot.{held, acceptedOf, refusedOf, afterOf, TableLeft, tableLeft, onTable, madeOn, stepTable, runTable, takenTable, freshTableFor, freshTable, rerunTable}
-use Rattle.rikzord.specs.Lent.{loaded, saved, savedSemaphore, lent, written, stepLent, runLent, takenLent, freshLent, freshLentFor, rerunLent}
+use Rattle.rikzord.specs.Lent.{loaded, saved, savedSemaphore, lent, writtenBack, stepLent, runLent, takenLent, freshLent, freshLentFor, rerunLent}
 
 -- what `save` leaves of an answer y: the table, the semaphore and the number
 abbrev pub WrittenBack : List Core → Semaphore → After → ℕ → List Core → Semaphore → Type 0
@@ -31,18 +31,18 @@ semaphore-kept x p r =
     (λ _. pick-true _ _ _ refl) (λ e. pick-false _ _ _ e)
 
 module _ (ys : List Core) (p : Semaphore) (x : Table) (l : Left) (y : After) (n : ℕ) (ys′ : List Core) (p′ : Semaphore) (d′ sh′ list′ : List ℕ) where
-  pub written-back : tableLeft y d′ sh′ list′ ≡ onTable x p l → WrittenBack ys p y n ys′ p′ → lent n ys′ p′ d′ sh′ list′ ≡ written ys (onTable x p l)
+  pub written-back : tableLeft y d′ sh′ list′ ≡ onTable x p l → WrittenBack ys p y n ys′ p′ → lent n ys′ p′ d′ sh′ list′ ≡ writtenBack ys (onTable x p l)
   written-back e w =
       let ey : y ≡ afterOf x p (l .answer) = ap (λ (z : TableLeft). z .after) e in
       let kept : savedSemaphore p y ≡ y .semaphore = ap (savedSemaphore p) ey ∙ semaphore-kept x p (l .answer) ∙ ap (λ (z : After). z .semaphore) (sym ey) in
       let ep : p′ ≡ y .semaphore = w .1 .0 ∙ kept in
-      (λ i. lent (w .1 .1 i) (w .0 i) (ep i) d′ sh′ list′) ∙ ap (written ys) e
+      (λ i. lent (w .1 .1 i) (w .0 i) (ep i) d′ sh′ list′) ∙ ap (writtenBack ys) e
 
 -- the same of a call that makes a state
 pub made-back : (judged : ℕ) (made : Left) (f : List ℕ) (ys : List Core) (p : Semaphore) (d sh : List ℕ) (x : Table) (y : After) (n : ℕ) (ys′ : List Core) (p′ : Semaphore) (d′ sh′ : List ℕ)
-    → tableLeft y d′ sh′ [] ≡ madeOn judged made f x p d sh → WrittenBack ys p y n ys′ p′ → lent n ys′ p′ d′ sh′ [] ≡ written ys (madeOn judged made f x p d sh)
+    → tableLeft y d′ sh′ [] ≡ madeOn judged made f x p d sh → WrittenBack ys p y n ys′ p′ → lent n ys′ p′ d′ sh′ [] ≡ writtenBack ys (madeOn judged made f x p d sh)
 made-back judged made f ys p d sh x y n ys′ p′ d′ sh′ =
-    written-back ys p x (pick (leb (cores f) (x .count)) made (left (answerOf (next judged 21) (tableOf 0 0)) d sh [])) y n ys′ p′ d′ sh′ []
+    written-back ys p x (pick (leb (cores f) (x .count)) made (leftAs (answerOf (next judged 21) (tableOf 0 0)) d sh [])) y n ys′ p′ d′ sh′ []
 
 pub step-written : (f t : List ℕ) (ys : List Core) (p : Semaphore) (d sh : List ℕ) (k : ℕ) (x : Table) (y : After) (n : ℕ) (ys′ : List Core) (p′ : Semaphore) (d′ sh′ : List ℕ)
     → x ≡ loaded ys → tableLeft y d′ sh′ [] ≡ stepTable f t x p d sh k → WrittenBack ys p y n ys′ p′

@@ -21,16 +21,16 @@ use Rattle.semaphore.specs.declared.Semaphore.{Semaphore}
 use Rattle.semaphore.specs.Line.{semaphoreOf}
 use Rattle.states.specs.declared.State.{State}
 use Rattle.states.specs.declared.CoreTask.{CoreTask}
-use Rattle.states.specs.Machine.{none}
+use Rattle.states.specs.Machine.{noRegisters}
 use Rattle.states.specs.Tasks.{coreTask, taskAt}
 use Rattle.table.specs.declared.Moving.the-variants.{Core as moving}
-use Rattle.table.specs.Table.{canMove, moves, roundFrom, firstMoving, nextMoving}
+use Rattle.table.specs.Table.{canMove, canMoveAt, roundFrom, firstMoving, nextMoving}
 use Rattle.machine.specs.Calls.{nextRefusal}
 use Rattle.snapshot.specs.declared.Core.{Core}
 use Rattle.snapshot.specs.declared.Table.{Table}
 use Rattle.snapshot.specs.declared.Ring.{Ring}
-use Rattle.snapshot.specs.Snapshot.{registersIn, held, countsOf, noRing, ringOf, placeAfter, recordMoves, answered, ringAnswer}
-use Rattle.rikzord.specs.Lent.{recordAt, loaded, scanFrom, scanned, numberOf, nextLent}
+use Rattle.snapshot.specs.Snapshot.{registersIn, held, countsOf, refusedRing, ringOf, placeAfter, recordMoves, answered, ringAnswer}
+use Rattle.rikzord.specs.Lent.{recordAt, loaded, scanFrom, scanned, coreNumber, nextLent}
 use Rattle.snapshot.proofs.Asked.{wholeRing}
 
 -- ---- one record
@@ -57,12 +57,12 @@ module _ (f t : List ℕ) (ys : List Core) (p : Semaphore) (given : ℕ) (few : 
   unfolding taskAt coreTask
   count-is k l = ap (λ (z : CoreTask). z .count) (pick-true _ _ _ (lt-ltb k (cores f) l))
 
-  registers-at : (k : ℕ) → k < 4 → getD (state .cores) k none ≡ registersIn (recordAt ys k)
+  registers-at : (k : ℕ) → k < 4 → getD (state .cores) k noRegisters ≡ registersIn (recordAt ys k)
   unfolding held
-  registers-at = four (λ (k : ℕ). getD (state .cores) k none ≡ registersIn (recordAt ys k)) refl refl refl refl
+  registers-at = four (λ (k : ℕ). getD (state .cores) k noRegisters ≡ registersIn (recordAt ys k)) refl refl refl refl
 
-  record-moves : (k : ℕ) → k < cores f → recordMoves ring k (recordAt ys k) ≡ moves f t state k
-  unfolding moves held
+  record-moves : (k : ℕ) → k < cores f → recordMoves ring k (recordAt ys k) ≡ canMoveAt f t state k
+  unfolding canMoveAt held
   record-moves k l =
       let m : k < 4 = omega arith in
       ap (λ (n : ℕ). canMove (semaphoreOf p) k n (registersIn (recordAt ys k))) (pick-true _ _ _ (lt-ltb k 4 m) ∙ counts-at k m ∙ count-is k l)
@@ -73,19 +73,19 @@ module _ (f t : List ℕ) (ys : List Core) (p : Semaphore) (given : ℕ) (few : 
   place-is : (i : ℕ) → placeAfter ring i ≡ roundFrom (cores f) given (i + 1)
   place-is i = pick-false _ _ _ (ne-eqb (cores f) 0 (λ e. absurd (omega arith)))
 
-  scans : (m i : ℕ) → scanFrom ys ring m i ≡ numberOf (firstMoving (moves f t state) (listed (roundFrom (cores f) given) m (i + 1)))
+  scans : (m i : ℕ) → scanFrom ys ring m i ≡ coreNumber (firstMoving (canMoveAt f t state) (listed (roundFrom (cores f) given) m (i + 1)))
   unfolding listed
   scans zero i = refl
   scans (suc m) i =
       let k = roundFrom (cores f) given (i + 1) in
       let l : k < cores f = mod-lt (given + (i + 1)) (omega arith) in
-      let rest = firstMoving (moves f t state) (listed (roundFrom (cores f) given) m (suc (i + 1))) in
+      let rest = firstMoving (canMoveAt f t state) (listed (roundFrom (cores f) given) m (suc (i + 1))) in
       ap (λ (p : ℕ). pick (recordMoves ring p (recordAt ys p)) p (scanFrom ys ring m (i + 1))) (place-is i)
       ∙ ap (λ (b : Bool). pick b k (scanFrom ys ring m (i + 1))) (record-moves k l)
-      ∙ ap (pick (moves f t state k) k) (scans m (i + 1) ∙ ap (λ (j : ℕ). numberOf (firstMoving (moves f t state) (listed (roundFrom (cores f) given) m j))) (add-one (i + 1)))
-      ∙ sym (pick-ap numberOf (moves f t state k) (moving k) rest)
+      ∙ ap (pick (canMoveAt f t state k) k) (scans m (i + 1) ∙ ap (λ (j : ℕ). coreNumber (firstMoving (canMoveAt f t state) (listed (roundFrom (cores f) given) m j))) (add-one (i + 1)))
+      ∙ sym (pick-ap coreNumber (canMoveAt f t state k) (moving k) rest)
 
-  pub scan-is : scanned ys ring ≡ numberOf (nextMoving f t state given)
+  pub scan-is : scanned ys ring ≡ coreNumber (nextMoving f t state given)
   unfolding nextMoving
   scan-is = scans (cores f) 0
 
@@ -142,7 +142,7 @@ module _ (f t : List ℕ) (ys : List Core) (p : Semaphore) (given found : ℕ) (
   next-stays : nextRefusal f t (held (loaded ys) p) given ≢ 0 → answered number found′ ≡ nextLent f t ys p given found
   unfolding nextLent ringOf
   next-stays ne =
-      let q : r ≡ noRing (nextRefusal f t (held (loaded ys) p) given) given p = ring-is ∙ pick-false _ _ _ (ne-eqb _ 0 ne) in
+      let q : r ≡ refusedRing (nextRefusal f t (held (loaded ys) p) given) given p = ring-is ∙ pick-false _ _ _ (ne-eqb _ 0 ne) in
       ea ∙ ap (λ (z : Ring). ringAnswer z k found) q ∙ pick-false _ _ _ (ne-eqb _ 0 ne) ∙ sym (pick-false _ _ _ (ne-eqb _ 0 ne))
 
   next-found : nextRefusal f t (held (loaded ys) p) given ≡ 0 → cores f ≤ 4 → given < cores f → answered number found′ ≡ nextLent f t ys p given found

@@ -16,13 +16,13 @@ use Rattle.snapshot.specs.declared.Core.{Core}
 use Rattle.snapshot.specs.declared.Table.{Table}
 use Rattle.snapshot.specs.declared.After.{After}
 use Rattle.snapshot.specs.declared.Ring.{Ring}
-use Rattle.snapshot.specs.Snapshot.{noCore, tableFrom, held, TableLeft, stepTable, runTable, takenTable, freshTableFor, freshTable, rerunTable, placeAfter, recordMoves, Answered, answered}
+use Rattle.snapshot.specs.Snapshot.{noRecord, tableFrom, held, TableLeft, stepTable, runTable, takenTable, freshTableFor, freshTable, rerunTable, placeAfter, recordMoves, Answered, answered}
 
 -- ---- a table copied out
 
 -- record k of a lent table
 abbrev pub recordAt : List Core → ℕ → Core
-recordAt ys k = getD ys k noCore
+recordAt ys k = getD ys k noRecord
 
 abbrev pub loaded : List Core → Table
 loaded ys = tableFrom (recordAt ys 0) (recordAt ys 1) (recordAt ys 2) (recordAt ys 3) (length ys)
@@ -42,40 +42,40 @@ abbrev pub lent : ℕ → List Core → Semaphore → List ℕ → List ℕ → 
 lent r ys p d sh list = record { refusal = r; table = ys; semaphore = p; memory = d; shared = sh; order = list }
 
 -- the records that a table has are written back; of a refused call none
-abbrev pub stored : List Core → After → List Core
-stored ys x = set (set (set (set ys 0 (x .a)) 1 (x .b)) 2 (x .c)) 3 (x .d)
+abbrev pub storedRecords : List Core → After → List Core
+storedRecords ys x = set (set (set (set ys 0 (x .a)) 1 (x .b)) 2 (x .c)) 3 (x .d)
 
 abbrev pub saved : List Core → After → List Core
-saved ys x = pick (eqb (x .refusal) 0) (stored ys x) ys
+saved ys x = pick (eqb (x .refusal) 0) (storedRecords ys x) ys
 
 -- so is the answer's semaphore; of a refused call the one on entry stays
 abbrev pub savedSemaphore : Semaphore → After → Semaphore
 savedSemaphore p x = pick (eqb (x .refusal) 0) (x .semaphore) p
 
-abbrev pub written : List Core → TableLeft → Lent
-written ys l = lent (l .after .refusal) (saved ys (l .after)) (l .after .semaphore) (l .memory) (l .shared) (l .order)
+abbrev pub writtenBack : List Core → TableLeft → Lent
+writtenBack ys l = lent (l .after .refusal) (saved ys (l .after)) (l .after .semaphore) (l .memory) (l .shared) (l .order)
 
 -- ---- the calls: on the snapshot, which is written back
 
 unfoldable pub stepLent : List ℕ → List ℕ → List Core → Semaphore → List ℕ → List ℕ → ℕ → Lent
-stepLent f t ys p d sh k = written ys (stepTable f t (loaded ys) p d sh k)
+stepLent f t ys p d sh k = writtenBack ys (stepTable f t (loaded ys) p d sh k)
 
 unfoldable pub runLent : List ℕ → List ℕ → List Core → Semaphore → List ℕ → List ℕ → List ℕ → List ℕ → Lent
-runLent f t ys p d sh order list = written ys (runTable f t (loaded ys) p d sh order list)
+runLent f t ys p d sh order list = writtenBack ys (runTable f t (loaded ys) p d sh order list)
 
 unfoldable pub takenLent : List ℕ → List ℕ → List Core → Semaphore → List ℕ → List ℕ → List ℕ → List ℕ → ℕ → ℕ
 takenLent f t ys p d sh order list taken = takenTable f t (loaded ys) p d sh order list taken
 
 unfoldable pub freshLent : List ℕ → List Core → Semaphore → List ℕ → List ℕ → Lent
-freshLent f ys p d sh = written ys (freshTable f (loaded ys) p d sh)
+freshLent f ys p d sh = writtenBack ys (freshTable f (loaded ys) p d sh)
 
 -- the same under the profile that the caller names
 unfoldable pub freshLentFor : Profile → List ℕ → List Core → Semaphore → List ℕ → List ℕ → Lent
-freshLentFor profile f ys p d sh = written ys (freshTableFor profile f (loaded ys) p d sh)
+freshLentFor profile f ys p d sh = writtenBack ys (freshTableFor profile f (loaded ys) p d sh)
 
 -- an order list, rerun from the fresh state
 unfoldable pub rerunLent : List ℕ → List ℕ → List ℕ → List Core → Semaphore → List ℕ → List ℕ → Lent
-rerunLent f t list ys p d sh = written ys (rerunTable f t list (loaded ys) p d sh)
+rerunLent f t list ys p d sh = writtenBack ys (rerunTable f t list (loaded ys) p d sh)
 
 -- ---- the next core to move: the lent records are scanned round the ring
 
@@ -88,13 +88,13 @@ abbrev pub scanned : List Core → Ring → ℕ
 scanned ys r = scanFrom ys r (r .cores) 0
 
 -- its number for C: 255 stands for none
-abbrev pub numberOf : Moving → ℕ
-numberOf (moving k) = k
-numberOf Nothing = 255
+abbrev pub coreNumber : Moving → ℕ
+coreNumber (moving k) = k
+coreNumber Nothing = 255
 
 -- the call: what the one by value answers (crate machine, specs/Calls) of the state that the table holds
 unfoldable pub nextLent : List ℕ → List ℕ → List Core → Semaphore → ℕ → ℕ → Answered
 nextLent f t ys p given found =
     pick (eqb (nextRefusal f t (held (loaded ys) p) given) 0)
-    (answered 0 (numberOf (nextMoving f t (held (loaded ys) p) given)))
+    (answered 0 (coreNumber (nextMoving f t (held (loaded ys) p) given)))
     (answered (nextRefusal f t (held (loaded ys) p) given) found)

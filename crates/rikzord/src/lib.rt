@@ -17,7 +17,7 @@ ghost use mathlib.Core.List.{[]};
 ghost use lib.ListN.{length, getD, set};
 ghost use Rattle.code.specs.declared.Profile.the-variants.{Small};
 ghost use Rattle.taskset.specs.Judge.{judgeFor, judge};
-ghost use Rattle.runner.specs.Runs.{left};
+ghost use Rattle.runner.specs.Runs.{leftAs};
 ghost use Rattle.cycles.specs.Check.{linesOf, linesRefusal, linesByte};
 ghost use Rattle.window.specs.declared.Shown.the-variants.{Code, Data};
 ghost use Rattle.window.specs.Window.{windowAt, windowCall};
@@ -241,7 +241,7 @@ pub fn step_registers(
     shared: &mut [u8],
     core: u8,
 ) -> Ran
-    ensures { λ x. ⌜ (left x (now (buffer .exit)) (now (shared .exit)) [] ≡ stepRegisters (now (file .entry)) (now (trace .entry)) s (now (registers .entry)) (now (buffer .entry)) (now (shared .entry)) core) × (now (registers .exit) ≡ registersAfter (x .state) core (now (registers .entry))) ⌝ }
+    ensures { λ x. ⌜ (leftAs x (now (buffer .exit)) (now (shared .exit)) [] ≡ stepRegisters (now (file .entry)) (now (trace .entry)) s (now (registers .entry)) (now (buffer .entry)) (now (shared .entry)) core) × (now (registers .exit) ≡ registersAfter (x .state) core (now (registers .entry))) ⌝ }
 {
     let x = snapshot::step_with(file, trace, s, *registers, buffer, shared, core);
     *registers = x.registers;

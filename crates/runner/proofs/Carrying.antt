@@ -22,14 +22,14 @@ use Rattle.semaphore.specs.Line.{waitsAt}
 use Rattle.exchange.specs.declared.Cursor.{Cursor}
 use Rattle.records.specs.File.{cores}
 use Rattle.taskset.specs.Task.{sizesOf}
-use Rattle.states.specs.Set.{Set}
+use Rattle.states.specs.Set.{AcceptedSet}
 use Rattle.states.specs.declared.CoreTask.{CoreTask}
 use Rattle.states.specs.Tasks.{coreTask}
-use Rattle.states.specs.Machine.{none}
+use Rattle.states.specs.Machine.{noRegisters}
 use Rattle.steps.specs.Effects.{Idle, Fault, Next, Call, Return, CycleEnded, backAt, effectOf, Takes, Steps, InstructsIn}
-use Rattle.steps.specs.Moving.{Ready}
+use Rattle.steps.specs.Moving.{StepGiven}
 use Rattle.steps.proofs.Does.{does-wait}
-use Rattle.runner.specs.Running.{stepsOn, executingAt, Looping, Stands, Carries}
+use Rattle.runner.specs.Running.{stepsOn, executingAt, RunningAt, RunStands, CarriesRun}
 use Rattle.runner.proofs.Loop.{ready, stays, plain-arm, stack-arm, after-advanced, after-called, after-returned, after-faulted, after-ended, returned-by, in-line}
 
 -- ---- an instruction
@@ -40,18 +40,18 @@ step-in order i k e =
     (ltb-true i (length order) (a .0), sym (eqb-true (getD order i 0) k (a .1)))
 
 -- no step yet
-pub carry-none : (f t order : List ℕ) (k i : ℕ) (r : Registers) (places offsets d : List ℕ) → Carries f t order k i r places offsets d i r places offsets d
+pub carry-none : (f t order : List ℕ) (k i : ℕ) (r : Registers) (places offsets d : List ℕ) → CarriesRun f t order k i r places offsets d i r places offsets d
 carry-none f t order k i r places offsets d list₀ s₀ cs₀ places₀ offsets₀ cs h taken sh list cursor e w =
-    subst (λ (u : List Registers). Looping f t order list₀ s₀ cs₀ places₀ offsets₀ i u places offsets h taken d sh list cursor) (sym (ap (set cs k) (sym e) ∙ set-getD cs k none)) w
+    subst (λ (u : List Registers). RunningAt f t order list₀ s₀ cs₀ places₀ offsets₀ i u places offsets h taken d sh list cursor) (sym (ap (set cs k) (sym e) ∙ set-getD cs k noRegisters)) w
 
 -- with other names for the registers and the stacks
 pub carries-as : {f t order : List ℕ} {k from i : ℕ} {before : Registers} {p₀ o₀ d₀ places offsets places′ offsets′ d : List ℕ} {r r′ : Registers}
     → r′ ≡ r → places′ ≡ places → offsets′ ≡ offsets
-    → Carries f t order k from before p₀ o₀ d₀ i r places offsets d → Carries f t order k from before p₀ o₀ d₀ i r′ places′ offsets′ d
+    → CarriesRun f t order k from before p₀ o₀ d₀ i r places offsets d → CarriesRun f t order k from before p₀ o₀ d₀ i r′ places′ offsets′ d
 carries-as {f} {t} {order} {k} {from} {i} {before} {p₀} {o₀} {d₀} {places} {offsets} {places′} {offsets′} {d} {r} {r′} a b e w =
-    subst⁻¹ (λ (u : Registers). Carries f t order k from before p₀ o₀ d₀ i u places′ offsets′ d) a
-    (subst⁻¹ (λ (u : List ℕ). Carries f t order k from before p₀ o₀ d₀ i r u offsets′ d) b
-    (subst⁻¹ (λ (u : List ℕ). Carries f t order k from before p₀ o₀ d₀ i r places u d) e w))
+    subst⁻¹ (λ (u : Registers). CarriesRun f t order k from before p₀ o₀ d₀ i u places′ offsets′ d) a
+    (subst⁻¹ (λ (u : List ℕ). CarriesRun f t order k from before p₀ o₀ d₀ i r u offsets′ d) b
+    (subst⁻¹ (λ (u : List ℕ). CarriesRun f t order k from before p₀ o₀ d₀ i r places u d) e w))
 
 pub instructs-as : {f t : List ℕ} {k : ℕ} {d d′ : List ℕ} {r r′ : Registers} (o : Outcome) → r ≡ r′ → InstructsIn f t k r d o d′ → InstructsIn f t k r′ d o d′
 instructs-as {f} {t} {k} {d} {d′} o e = subst (λ (u : Registers). InstructsIn f t k u d o d′) e
@@ -83,14 +83,14 @@ unfolding cycleEnded
 ended-mode r = refl
 
 -- what holds of the run under way
-module _ {f t order : List ℕ} {from i k : ℕ} {before r : Registers} {p₀ o₀ d₀ places offsets d : List ℕ} (s : Stands f t order from k before p₀ o₀ d₀)
-    (w : Carries f t order k from before p₀ o₀ d₀ i r places offsets d) where
-  under-way : Looping f t order (s .list₀) (s .s₀) (s .cs₀) (s .places₀) (s .offsets₀) i (set (s .cs) k r) places offsets (s .h) (s .taken) d (s .sh) (s .list) (s .cursor)
+module _ {f t order : List ℕ} {from i k : ℕ} {before r : Registers} {p₀ o₀ d₀ places offsets d : List ℕ} (s : RunStands f t order from k before p₀ o₀ d₀)
+    (w : CarriesRun f t order k from before p₀ o₀ d₀ i r places offsets d) where
+  under-way : RunningAt f t order (s .list₀) (s .s₀) (s .cs₀) (s .places₀) (s .offsets₀) i (set (s .cs) k r) places offsets (s .h) (s .taken) d (s .sh) (s .list) (s .cursor)
   under-way = w _ _ _ _ _ _ _ _ _ _ _ (s .here) (s .loops)
 
-  pub ready-now : {c : CoreTask} → c ≡ coreTask f t k → Ready f t k c r (getD (split (sizesOf f) d) k [])
+  pub ready-now : {c : CoreTask} → c ≡ coreTask f t k → StepGiven f t k c r (getD (split (sizesOf f) d) k [])
   ready-now {c} e =
-      subst (λ (u : Registers). Ready f t k c u (getD (split (sizesOf f) d) k [])) (getD-set-same (s .cs) k r none (omega (arith, s .known, s .accepted .few, s .loops .running .four)))
+      subst (λ (u : Registers). StepGiven f t k c u (getD (split (sizesOf f) d) k [])) (getD-set-same (s .cs) k r noRegisters (omega (arith, s .known, s .accepted .few, s .loops .running .four)))
       (ready (s .accepted) e under-way (s .known))
 
   pub buffer-now : length d ≡ total (sizesOf f)
@@ -99,17 +99,17 @@ module _ {f t order : List ℕ} {from i k : ℕ} {before r : Registers} {p₀ o�
   pub length-now : length d ≡ length d₀
   length-now = buffer-now ∙ sym (s .loops .running .buffer)
 
-pub core-few : {f t order : List ℕ} {from k : ℕ} {before : Registers} {p₀ o₀ d₀ : List ℕ} → Stands f t order from k before p₀ o₀ d₀ → k < 4
+pub core-few : {f t order : List ℕ} {from k : ℕ} {before : Registers} {p₀ o₀ d₀ : List ℕ} → RunStands f t order from k before p₀ o₀ d₀ → k < 4
 core-few s = omega (arith, s .known, s .accepted .few)
 
-module _ {f t order : List ℕ} (ok : Set f t) {i k : ℕ} (b : stepsOn order i k ≡ true) (ik : k < cores f)
+module _ {f t order : List ℕ} (ok : AcceptedSet f t) {i k : ℕ} (b : stepsOn order i k ≡ true) (ik : k < cores f)
     {from : ℕ} {before : Registers} {p₀ o₀ d₀ places offsets d : List ℕ} {r : Registers}
-    (w : Carries f t order k from before p₀ o₀ d₀ i r places offsets d)
+    (w : CarriesRun f t order k from before p₀ o₀ d₀ i r places offsets d)
     (o : Outcome) {d′ : List ℕ} (y : InstructsIn f t k r d o d′) (dl : length d′ ≡ length d) where
-  here : (cs : List Registers) → length (set cs k r) ≡ 4 → getD (set cs k r) k none ≡ r
-  here cs l = getD-set-same cs k r none (omega (arith, ok .few, length-set cs k r))
+  here : (cs : List Registers) → length (set cs k r) ≡ 4 → getD (set cs k r) k noRegisters ≡ r
+  here cs l = getD-set-same cs k r noRegisters (omega (arith, ok .few, length-set cs k r))
 
-  does : (cs : List Registers) → length (set cs k r) ≡ 4 → (h : Semaphore) (sh : List ℕ) → Steps f t k (getD (set cs k r) k none) d sh h (effectOf (r .depth) o) d′ sh
+  does : (cs : List Registers) → length (set cs k r) ≡ 4 → (h : Semaphore) (sh : List ℕ) → Steps f t k (getD (set cs k r) k noRegisters) d sh h (effectOf (r .depth) o) d′ sh
   does cs l h sh = subst (λ (u : Registers). Steps f t k u d sh h (effectOf (r .depth) o) d′ sh) (sym (here cs l)) (y h sh)
 
   -- what the registers can take
@@ -128,48 +128,48 @@ module _ {f t order : List ℕ} (ok : Set f t) {i k : ℕ} (b : stepsOn order i 
           let y : Takes r (Return n) = subst (Takes r) (ap backAt q) (takes-outcome Returns e) in
           (y .0, omega (arith, y .2))
 
-  pub carry-next : (p : ℕ) → o ≡ Onward p → Carries f t order k from before p₀ o₀ d₀ (i + 1) (advanced p r) places offsets d′
+  pub carry-next : (p : ℕ) → o ≡ Onward p → CarriesRun f t order k from before p₀ o₀ d₀ (i + 1) (advanced p r) places offsets d′
   carry-next p e list₀ s₀ cs₀ places₀ offsets₀ cs h taken sh list cursor u x =
       let v = w list₀ s₀ cs₀ places₀ offsets₀ cs h taken sh list cursor u x in
-      let q : advanced p r ≡ advanced p (getD (set cs k r) k none) = ap (advanced p) (sym (here cs (v .running .four))) in
+      let q : advanced p r ≡ advanced p (getD (set cs k r) k noRegisters) = ap (advanced p) (sym (here cs (v .running .four))) in
       plain-arm v ok (step-in order i k b .0) (step-in order i k b .1) ik (does cs (v .running .four) h sh) dl
       (Next p) (ap (effectOf (r .depth)) e) refl refl q refl (sym (set-set cs k r (advanced p r))) refl refl refl (after-advanced p q refl) refl
 
-  pub carry-fault : (n : ℕ) → o ≡ Failed n → Carries f t order k from before p₀ o₀ d₀ (i + 1) (faulted n r) places offsets d′
+  pub carry-fault : (n : ℕ) → o ≡ Failed n → CarriesRun f t order k from before p₀ o₀ d₀ (i + 1) (faulted n r) places offsets d′
   carry-fault n e list₀ s₀ cs₀ places₀ offsets₀ cs h taken sh list cursor u x =
       let v = w list₀ s₀ cs₀ places₀ offsets₀ cs h taken sh list cursor u x in
-      let q : faulted n r ≡ faulted n (getD (set cs k r) k none) = ap (faulted n) (sym (here cs (v .running .four))) in
+      let q : faulted n r ≡ faulted n (getD (set cs k r) k noRegisters) = ap (faulted n) (sym (here cs (v .running .four))) in
       plain-arm v ok (step-in order i k b .0) (step-in order i k b .1) ik (does cs (v .running .four) h sh) dl
       (Fault n) (ap (effectOf (r .depth)) e) refl refl q refl (sym (set-set cs k r (faulted n r))) refl refl refl (after-faulted n q refl) refl
 
-  pub carry-ended : o ≡ Returns → r .depth ≡ 0 → Carries f t order k from before p₀ o₀ d₀ (i + 1) (cycleEnded r) places offsets d′
+  pub carry-ended : o ≡ Returns → r .depth ≡ 0 → CarriesRun f t order k from before p₀ o₀ d₀ (i + 1) (cycleEnded r) places offsets d′
   carry-ended e z list₀ s₀ cs₀ places₀ offsets₀ cs h taken sh list cursor u x =
       let v = w list₀ s₀ cs₀ places₀ offsets₀ cs h taken sh list cursor u x in
-      let q : cycleEnded r ≡ cycleEnded (getD (set cs k r) k none) = ap cycleEnded (sym (here cs (v .running .four))) in
+      let q : cycleEnded r ≡ cycleEnded (getD (set cs k r) k noRegisters) = ap cycleEnded (sym (here cs (v .running .four))) in
       plain-arm v ok (step-in order i k b .0) (step-in order i k b .1) ik (does cs (v .running .four) h sh) dl
       CycleEnded (ap (effectOf (r .depth)) e ∙ ap backAt z) refl refl q refl (sym (set-set cs k r (cycleEnded r))) refl refl refl (after-ended q refl) refl
 
   pub carry-call : (next target offset : ℕ) → o ≡ Calls next target offset
-      → Carries f t order k from before p₀ o₀ d₀ (i + 1) (called target offset r) (set places (16 * k + r .depth) next) (set offsets (16 * k + r .depth) (r .offset)) d′
+      → CarriesRun f t order k from before p₀ o₀ d₀ (i + 1) (called target offset r) (set places (16 * k + r .depth) next) (set offsets (16 * k + r .depth) (r .offset)) d′
   unfolding pushed
   carry-call next target offset e list₀ s₀ cs₀ places₀ offsets₀ cs h taken sh list cursor u x =
       let v = w list₀ s₀ cs₀ places₀ offsets₀ cs h taken sh list cursor u x in
-      let q : called target offset r ≡ called target offset (getD (set cs k r) k none) = ap (called target offset) (sym (here cs (v .running .four))) in
+      let q : called target offset r ≡ called target offset (getD (set cs k r) k noRegisters) = ap (called target offset) (sym (here cs (v .running .four))) in
       stack-arm v ok (step-in order i k b .0) (step-in order i k b .1) ik (does cs (v .running .four) h sh) dl
       (Call next target offset) (ap (effectOf (r .depth)) e) refl q (r .depth) next (r .offset) (takes-outcome (Calls next target offset) e .1)
       (ap (λ (a : Registers). pushed (a .depth) next (a .offset) record { places = part places (16 * k) 16; offsets = part offsets (16 * k) 16 }) (sym (here cs (v .running .four))))
       refl (sym (set-set cs k r (called target offset r))) refl refl refl (after-called target offset q refl) refl
 
   pub carry-return : (n : ℕ) → o ≡ Returns → r .depth ≡ suc n
-      → Carries f t order k from before p₀ o₀ d₀ (i + 1) (returned (getD places (16 * k + n) 0) (getD offsets (16 * k + n) 0) r) (set places (16 * k + n) 0) (set offsets (16 * k + n) 0) d′
+      → CarriesRun f t order k from before p₀ o₀ d₀ (i + 1) (returned (getD places (16 * k + n) 0) (getD offsets (16 * k + n) 0) r) (set places (16 * k + n) 0) (set offsets (16 * k + n) 0) d′
   unfolding popped
   carry-return n e z list₀ s₀ cs₀ places₀ offsets₀ cs h taken sh list cursor u x =
       let v = w list₀ s₀ cs₀ places₀ offsets₀ cs h taken sh list cursor u x in
       let m : n < 16 = subst (Takes r) (ap backAt z) (takes-outcome Returns e) .2 in
-      let q : returned (getD places (16 * k + n) 0) (getD offsets (16 * k + n) 0) r ≡ returned (getD places (16 * k + n) 0) (getD offsets (16 * k + n) 0) (getD (set cs k r) k none)
+      let q : returned (getD places (16 * k + n) 0) (getD offsets (16 * k + n) 0) r ≡ returned (getD places (16 * k + n) 0) (getD offsets (16 * k + n) 0) (getD (set cs k r) k noRegisters)
       = ap (returned (getD places (16 * k + n) 0) (getD offsets (16 * k + n) 0)) (sym (here cs (v .running .four))) in
       stack-arm v ok (step-in order i k b .0) (step-in order i k b .1) ik (does cs (v .running .four) h sh) dl
-      (Return n) (ap (effectOf (r .depth)) e ∙ ap backAt z) refl (returned-by (getD (set cs k r) k none) places offsets k n q refl refl m) n 0 0 m refl
+      (Return n) (ap (effectOf (r .depth)) e ∙ ap backAt z) refl (returned-by (getD (set cs k r) k noRegisters) places offsets k n q refl refl m) n 0 0 m refl
       refl (sym (set-set cs k r _)) refl refl refl (after-returned _ _ q refl) refl
 
 -- ---- a run hands its core over
@@ -178,8 +178,8 @@ pub steps-on : (order : List ℕ) (i k : ℕ) → i < length order → k ≡ get
 steps-on order i k b e = rw (lt-ltb i (length order) b, eq-eqb (getD order i 0) k (sym e))
 
 pub stands : {f t : List ℕ} {order list₀ : List ℕ} {s₀ : State} {cs₀ : List Registers} {places₀ offsets₀ : List ℕ}
-    {i : ℕ} {cs : List Registers} {places offsets : List ℕ} {h : Semaphore} {taken : ℕ} {d sh list : List ℕ} {cursor : Cursor} {k : ℕ} → Set f t
-    → Looping f t order list₀ s₀ cs₀ places₀ offsets₀ i cs places offsets h taken d sh list cursor → k < cores f → Stands f t order i k (getD cs k none) places offsets d
+    {i : ℕ} {cs : List Registers} {places offsets : List ℕ} {h : Semaphore} {taken : ℕ} {d sh list : List ℕ} {cursor : Cursor} {k : ℕ} → AcceptedSet f t
+    → RunningAt f t order list₀ s₀ cs₀ places₀ offsets₀ i cs places offsets h taken d sh list cursor → k < cores f → RunStands f t order i k (getD cs k noRegisters) places offsets d
 stands {list₀ = list₀} {s₀ = s₀} {cs₀ = cs₀} {places₀ = places₀} {offsets₀ = offsets₀} {cs = cs} {h = h} {taken = taken} {sh = sh} {list = list} {cursor = cursor} ok w ik = record {
   accepted = ok;
   known = ik;
@@ -204,16 +204,16 @@ stands {list₀ = list₀} {s₀ = s₀} {cs₀ = cs₀} {places₀ = places₀}
 abbrev pub Idles : List ℕ → List ℕ → List ℕ → List Registers → List ℕ → List ℕ → Semaphore → ℕ → List ℕ → List ℕ → List ℕ → Cursor → ℕ → ℕ → Type 0
 Idles f t order cs places offsets h taken d sh list cursor i i′ =
     (list₀ : List ℕ) (s₀ : State) (cs₀ : List Registers) (places₀ offsets₀ : List ℕ)
-    → Looping f t order list₀ s₀ cs₀ places₀ offsets₀ i cs places offsets h taken d sh list cursor
-    → Looping f t order list₀ s₀ cs₀ places₀ offsets₀ i′ cs places offsets h taken d sh list cursor
+    → RunningAt f t order list₀ s₀ cs₀ places₀ offsets₀ i cs places offsets h taken d sh list cursor
+    → RunningAt f t order list₀ s₀ cs₀ places₀ offsets₀ i′ cs places offsets h taken d sh list cursor
 
 -- the step of a core that waits changes nothing
 pub idle : {f t : List ℕ} {order list₀ : List ℕ} {s₀ : State} {cs₀ : List Registers} {places₀ offsets₀ : List ℕ}
-    {i : ℕ} {cs : List Registers} {places offsets : List ℕ} {h : Semaphore} {taken : ℕ} {d sh list : List ℕ} {cursor : Cursor} → Set f t
-    → Looping f t order list₀ s₀ cs₀ places₀ offsets₀ i cs places offsets h taken d sh list cursor → i < length order → {k : ℕ} → k ≡ getD order i 0 → k < cores f
-    → waitsAt h k ≡ true → Looping f t order list₀ s₀ cs₀ places₀ offsets₀ (i + 1) cs places offsets h taken d sh list cursor
+    {i : ℕ} {cs : List Registers} {places offsets : List ℕ} {h : Semaphore} {taken : ℕ} {d sh list : List ℕ} {cursor : Cursor} → AcceptedSet f t
+    → RunningAt f t order list₀ s₀ cs₀ places₀ offsets₀ i cs places offsets h taken d sh list cursor → i < length order → {k : ℕ} → k ≡ getD order i 0 → k < cores f
+    → waitsAt h k ≡ true → RunningAt f t order list₀ s₀ cs₀ places₀ offsets₀ (i + 1) cs places offsets h taken d sh list cursor
 idle {f} {cs = cs} {h = h} {d = d} ok w b {k} e ik z =
     let a = both-true (inLine k (h .line)) (not (turn h k)) z in
     plain-arm w ok b e ik
     record { memory = getD (split (sizesOf f) d) k []; does = does-wait _ _ _ _ _ _ (a .0) (not-true _ (a .1)) (in-line w ik (a .0)); kept = sym (set-getD (split (sizesOf f) d) k []) }
-    refl Idle refl refl refl refl refl (sym (set-getD cs k none)) refl refl refl (stays (λ a. a) refl) refl
+    refl Idle refl refl refl refl refl (sym (set-getD cs k noRegisters)) refl refl refl (stays (λ a. a) refl) refl

@@ -28,10 +28,10 @@ use Rattle.taskset.proofs.Accepted.{length-listed, listed-at}
 use Rattle.states.specs.declared.State.{State as Held}
 use Rattle.states.specs.declared.CoreTask.{CoreTask}
 use Rattle.states.specs.Task.{taskOf}
-use Rattle.states.specs.Machine.{none, stackIn, coreIn, stateIn, stateOf, registersBack, entryBack, heldAfter, dataOf}
-use Rattle.runner.specs.Runs.{left, ranCall}
-use Rattle.runner.specs.Going.{Going}
-use Rattle.runner.specs.Running.{Running, Looping}
+use Rattle.states.specs.Machine.{noRegisters, stackIn, coreIn, stateIn, stateOf, registersBack, entryBack, heldAfter, dataOf}
+use Rattle.runner.specs.Runs.{leftAs, ranCall}
+use Rattle.runner.specs.Going.{RunGiven}
+use Rattle.runner.specs.Running.{Running, RunningAt}
 use Rattle.runner.proofs.Loop.{part-entry}
 use Rattle.runner.proofs.Running.{core-in, shared-in, semaphore-in}
 
@@ -68,11 +68,11 @@ module _ (f t : List ℕ) (order list₀ : List ℕ) (s₀ : State) (s : Held) (
     (w : Running f t order list₀ s₀ (s .cores) (s .places) (s .offsets) i cs places offsets h taken d sh list) where
   -- ---- the table
 
-  registers-back : (k : ℕ) → k < 4 → registersBack (cores f) (s .cores) (stateIn f cs places offsets h d sh) k ≡ getD cs k none
+  registers-back : (k : ℕ) → k < 4 → registersBack (cores f) (s .cores) (stateIn f cs places offsets h d sh) k ≡ getD cs k noRegisters
   unfolding pick
   registers-back k j = go (ltb k (cores f)) refl
     where
-      go : (b : Bool) → ltb k (cores f) ≡ b → pick b (core (stateIn f cs places offsets h d sh .plant) k .registers) (getD (s .cores) k none) ≡ getD cs k none
+      go : (b : Bool) → ltb k (cores f) ≡ b → pick b (core (stateIn f cs places offsets h d sh .plant) k .registers) (getD (s .cores) k noRegisters) ≡ getD cs k noRegisters
       go true e = ap (λ (c : Core). c .registers) (core-in f cs places offsets h d sh k (ltb-true k (cores f) e))
       go false e = sym (w .spare k (ltb-false k (cores f) e) .0)
 
@@ -97,7 +97,7 @@ module _ (f t : List ℕ) (order list₀ : List ℕ) (s₀ : State) (s : Held) (
   unfolding heldAfter
   held-back m e = same
       (ap semaphoreBack (semaphore-in f cs places offsets h d sh) ∙ sym e)
-      (listed-is _ 4 cs none (w .four) registers-back)
+      (listed-is _ 4 cs noRegisters (w .four) registers-back)
       (listed-is _ 64 places 0 (w .entries .0) (entry-back (λ k. k .places) places (s .places) (λ k. refl) (λ k. refl)))
       (listed-is _ 64 offsets 0 (w .entries .1) (entry-back (λ k. k .offsets) offsets (s .offsets) (λ k. refl) (λ k. refl)))
     where
@@ -112,9 +112,9 @@ drop-done l i h k = let e : i ≡ length l = omega arith in rw (e, drop-length)
 
 pub looping-end : {f t : List ℕ} {tasks : List CoreTask} {first end : ℕ} {order : List ℕ} {s : Held} {aim : Cursor} {d₀ sh₀ list₀ : List ℕ}
     {i : ℕ} {cs : List Registers} {places offsets : List ℕ} {x : Line} {taken : ℕ} {d sh list : List ℕ} {cursor : Cursor}
-    → Going f t tasks first end order s aim d₀ sh₀ list₀
-    → Looping f t order list₀ (stateOf f s d₀ sh₀) (s .cores) (s .places) (s .offsets) i cs places offsets (semaphoreOf (x .semaphore)) taken d sh list cursor → Lined x → length order ≤ i
-    → left (record { refusal = 0; taken = taken; state = record { count = s .count; semaphore = x .semaphore; cores = cs; places = places; offsets = offsets } }) d sh list
+    → RunGiven f t tasks first end order s aim d₀ sh₀ list₀
+    → RunningAt f t order list₀ (stateOf f s d₀ sh₀) (s .cores) (s .places) (s .offsets) i cs places offsets (semaphoreOf (x .semaphore)) taken d sh list cursor → Lined x → length order ≤ i
+    → leftAs (record { refusal = 0; taken = taken; state = record { count = s .count; semaphore = x .semaphore; cores = cs; places = places; offsets = offsets } }) d sh list
     ≡ ranCall f t s d₀ sh₀ order list₀
 unfolding ranCall splice lineOf
 looping-end {f} {t} {order = order} {s = s} {d₀ = d₀} {sh₀ = sh₀} {list₀ = list₀} {i = i} {cs = cs} {places = places} {offsets = offsets} {x = x} {taken = taken} {d = d} {sh = sh} {list = list} g w l b =
@@ -134,5 +134,5 @@ looping-end {f} {t} {order = order} {s = s} {d₀ = d₀} {sh₀ = sh₀} {list�
     wrote
   where
     same : {n n′ : ℕ} {a a′ : Held} {m m′ x x′ l l′ : List ℕ} → n ≡ n′ → a ≡ a′ → m ≡ m′ → x ≡ x′ → l ≡ l′
-        → left (record { refusal = 0; taken = n; state = a }) m x l ≡ left (record { refusal = 0; taken = n′; state = a′ }) m′ x′ l′
-    same p q u v y = λ z. left (record { refusal = 0; taken = p z; state = q z }) (u z) (v z) (y z)
+        → leftAs (record { refusal = 0; taken = n; state = a }) m x l ≡ leftAs (record { refusal = 0; taken = n′; state = a′ }) m′ x′ l′
+    same p q u v y = λ z. leftAs (record { refusal = 0; taken = p z; state = q z }) (u z) (v z) (y z)

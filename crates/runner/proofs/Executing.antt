@@ -20,11 +20,11 @@ use Rattle.protocol.proofs.Steps.{run-append, takings-append}
 use Rattle.exchange.specs.declared.Cursor.{Cursor}
 use Rattle.records.specs.File.{cores, limit}
 use Rattle.states.specs.Task.{taskOf}
-use Rattle.states.specs.Machine.{none, stackIn, coreIn, stateIn}
+use Rattle.states.specs.Machine.{noRegisters, stackIn, coreIn, stateIn}
 use Rattle.states.specs.Fit.{FitCore}
-use Rattle.states.specs.Set.{Set}
-use Rattle.runner.specs.Running.{stepsOn, Looping, Stands, Carries}
-use Rattle.runner.specs.Executing.{Standing, Executing, Stretch, Executes}
+use Rattle.states.specs.Set.{AcceptedSet}
+use Rattle.runner.specs.Running.{stepsOn, RunningAt, RunStands, CarriesRun}
+use Rattle.runner.specs.Executing.{Standing, ExecutionGiven, Stretch, Executes}
 use Rattle.runner.proofs.Running.{core-in}
 use Rattle.runner.proofs.Carrying.{stands}
 
@@ -47,8 +47,8 @@ no-taking (x ∷ xs) ys e = absurd (let z : ⊥ = omega (arith, length-append (x
 abbrev nowhere : Cursor
 nowhere = record { «record» = 0; byte = 0 }
 
-module _ (f t order : List ℕ) (k : ℕ) (r : Registers) (cs : List Registers) (places offsets d sh : List ℕ) (ok : Set f t) (e : getD cs k none ≡ r) (s : Standing f t cs places offsets d sh) where
-  starting : Looping f t order [] (stateIn f cs places offsets untaken d sh) cs places offsets 0 cs places offsets untaken 0 d sh [] nowhere
+module _ (f t order : List ℕ) (k : ℕ) (r : Registers) (cs : List Registers) (places offsets d sh : List ℕ) (ok : AcceptedSet f t) (e : getD cs k noRegisters ≡ r) (s : Standing f t cs places offsets d sh) where
+  starting : RunningAt f t order [] (stateIn f cs places offsets untaken d sh) cs places offsets 0 cs places offsets untaken 0 d sh [] nowhere
   starting = record {
     running = record {
       within = omega arith;
@@ -67,11 +67,11 @@ module _ (f t order : List ℕ) (k : ℕ) (r : Registers) (cs : List Registers) 
     aimed = λ j g h. absurd (let z : ⊥ = omega arith in z);
   }
 
-  stand-alone : k < cores f → Stands f t order 0 k r places offsets d
-  stand-alone ik = subst (λ (u : Registers). Stands f t order 0 k u places offsets d) e (stands ok starting ik)
+  stand-alone : k < cores f → RunStands f t order 0 k r places offsets d
+  stand-alone ik = subst (λ (u : Registers). RunStands f t order 0 k u places offsets d) e (stands ok starting ik)
 
-  module _ (n : ℕ) {i : ℕ} {r′ : Registers} {places′ offsets′ d′ : List ℕ} (alone : order ≡ replicate n k) (w : Carries f t order k 0 r places offsets d i r′ places′ offsets′ d′) where
-    carried : Looping f t order [] (stateIn f cs places offsets untaken d sh) cs places offsets i (set cs k r′) places′ offsets′ untaken 0 d′ sh [] nowhere
+  module _ (n : ℕ) {i : ℕ} {r′ : Registers} {places′ offsets′ d′ : List ℕ} (alone : order ≡ replicate n k) (w : CarriesRun f t order k 0 r places offsets d i r′ places′ offsets′ d′) where
+    carried : RunningAt f t order [] (stateIn f cs places offsets untaken d sh) cs places offsets i (set cs k r′) places′ offsets′ untaken 0 d′ sh [] nowhere
     carried = w [] (stateIn f cs places offsets untaken d sh) cs places offsets cs untaken 0 sh [] nowhere e starting
 
     first : take i order ≡ replicate i k
@@ -103,7 +103,7 @@ module _ {f t : List ℕ} {k : ℕ} {r : Registers} {places offsets d : List ℕ
   -- no step yet
   pub executes-none : Executes f t k r places offsets d r places offsets d
   executes-none cs sh e s =
-      let same : set cs k r ≡ cs = ap (set cs k) (sym e) ∙ set-getD cs k none in
+      let same : set cs k r ≡ cs = ap (set cs k) (sym e) ∙ set-getD cs k noRegisters in
       record {
         steps = 0;
         moved = ap (λ (l : List Registers). stateIn f l places offsets untaken d sh) (sym same);
@@ -113,11 +113,11 @@ module _ {f t : List ℕ} {k : ℕ} {r : Registers} {places offsets d : List ℕ
       }
 
   module _ {r′ r″ : Registers} {places′ offsets′ d′ places″ offsets″ d″ : List ℕ} where
-    pub executes-on : Set f t → k < cores f → Executes f t k r places offsets d r′ places′ offsets′ d′ → Executes f t k r′ places′ offsets′ d′ r″ places″ offsets″ d″
+    pub executes-on : AcceptedSet f t → k < cores f → Executes f t k r places offsets d r′ places′ offsets′ d′ → Executes f t k r′ places′ offsets′ d′ r″ places″ offsets″ d″
         → Executes f t k r places offsets d r″ places″ offsets″ d″
     executes-on ok ik a b cs sh e s =
         let x = a cs sh e s in
-        let y = b (set cs k r′) sh (getD-set-same cs k r′ none (omega (arith, ok .few, s .four))) (x .stands) in
+        let y = b (set cs k r′) sh (getD-set-same cs k r′ noRegisters (omega (arith, ok .few, s .four))) (x .stands) in
         let both = sym (replicate-append-replicate (x .steps) (y .steps) k) in
         let twice : set (set cs k r′) k r″ ≡ set cs k r″ = set-set cs k r′ r″ in
         record {
@@ -135,7 +135,7 @@ module _ {f t : List ℕ} {k : ℕ} {r : Registers} {places offsets d : List ℕ
         }
 
   -- the state that the function was given, after a stretch
-  pub executing-on : {r′ : Registers} {places′ offsets′ d′ : List ℕ} → Executing f t k r places offsets d → Executes f t k r places offsets d r′ places′ offsets′ d′ → Executing f t k r′ places′ offsets′ d′
+  pub executing-on : {r′ : Registers} {places′ offsets′ d′ : List ℕ} → ExecutionGiven f t k r places offsets d → Executes f t k r places offsets d r′ places′ offsets′ d′ → ExecutionGiven f t k r′ places′ offsets′ d′
   executing-on {r′} x w =
       let y = w (x .cs) (x .sh) (x .here) (x .stands) in
       record {
@@ -143,25 +143,25 @@ module _ {f t : List ℕ} {k : ℕ} {r : Registers} {places offsets d : List ℕ
         known = x .known;
         cs = set (x .cs) k r′;
         sh = x .sh;
-        here = getD-set-same (x .cs) k r′ none (omega (arith, x .accepted .few, x .known, x .stands .four));
+        here = getD-set-same (x .cs) k r′ noRegisters (omega (arith, x .accepted .few, x .known, x .stands .four));
         stands = y .stands;
       }
 
-  pub executing-length : {r′ : Registers} {places′ offsets′ d′ : List ℕ} → Executing f t k r places offsets d → Executes f t k r places offsets d r′ places′ offsets′ d′ → length d′ ≡ length d
+  pub executing-length : {r′ : Registers} {places′ offsets′ d′ : List ℕ} → ExecutionGiven f t k r places offsets d → Executes f t k r places offsets d r′ places′ offsets′ d′ → length d′ ≡ length d
   executing-length x w = w (x .cs) (x .sh) (x .here) (x .stands) .stands .buffer ∙ sym (x .stands .buffer)
 
-  pub executing-count : Executing f t k r places offsets d → r .count ≤ 65535
+  pub executing-count : ExecutionGiven f t k r places offsets d → r .count ≤ 65535
   executing-count x =
       let c : FitCore f t k (coreIn f (x .cs) places offsets d k) = subst (FitCore f t k) (core-in f (x .cs) places offsets untaken d (x .sh) k (x .known)) (x .stands .fit .each k (x .known)) in
-      let n : getD (x .cs) k none .count ≡ r .count = ap (λ (u : Registers). u .count) (x .here) in
+      let n : getD (x .cs) k noRegisters .count ≡ r .count = ap (λ (u : Registers). u .count) (x .here) in
       omega (arith, c .counts, x .accepted .limits k (x .known) .1)
 
 -- an order that names core k alone carries every such state on
-pub executes-alone : {f t order : List ℕ} {k i : ℕ} (n : ℕ) {r r′ : Registers} {places offsets d places′ offsets′ d′ : List ℕ} → Set f t → order ≡ replicate n k
-    → Carries f t order k 0 r places offsets d i r′ places′ offsets′ d′ → Executes f t k r places offsets d r′ places′ offsets′ d′
+pub executes-alone : {f t order : List ℕ} {k i : ℕ} (n : ℕ) {r r′ : Registers} {places offsets d places′ offsets′ d′ : List ℕ} → AcceptedSet f t → order ≡ replicate n k
+    → CarriesRun f t order k 0 r places offsets d i r′ places′ offsets′ d′ → Executes f t k r places offsets d r′ places′ offsets′ d′
 executes-alone {f} {t} {order} {k} n {r} {places = places} {offsets = offsets} {d = d} ok e w cs sh here s = stretched f t order k r cs places offsets d sh ok here s n e w
 
-pub standing-alone : {f t : List ℕ} (order : List ℕ) {k : ℕ} {r : Registers} {places offsets d : List ℕ} → Executing f t k r places offsets d → Stands f t order 0 k r places offsets d
+pub standing-alone : {f t : List ℕ} (order : List ℕ) {k : ℕ} {r : Registers} {places offsets d : List ℕ} → ExecutionGiven f t k r places offsets d → RunStands f t order 0 k r places offsets d
 standing-alone {f} {t} order {k} {r} {places} {offsets} {d} x = stand-alone f t order k r (x .cs) places offsets d (x .sh) (x .accepted) (x .here) (x .stands) (x .known)
 
 -- ---- an execution ends: the instructions that are left, while the core is in mode 2

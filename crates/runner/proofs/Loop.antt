@@ -34,16 +34,16 @@ use Rattle.states.specs.declared.State.{State as Held}
 use Rattle.states.specs.declared.CoreTask.{CoreTask}
 use Rattle.states.specs.Task.{taskOf}
 use Rattle.states.specs.Tasks.{coreTask, noTask}
-use Rattle.states.specs.Machine.{none, stackIn, coreIn, stateIn, stateOf}
+use Rattle.states.specs.Machine.{noRegisters, stackIn, coreIn, stateIn, stateOf}
 use Rattle.states.specs.Fit.{FitCore, Fit}
 use Rattle.states.proofs.Executes.{executes}
 use Rattle.steps.specs.Effects.{Effect, registersBy, stackBy, semaphoreBy, takenBy, Takes, More, Steps}
 use Rattle.steps.specs.declared.Exchange.{Exchange}
 use Rattle.steps.specs.declared.Exchange.the-variants.{Joins, ReadBegun, ReadOn, WriteBegun, WriteOn}
-use Rattle.steps.specs.Moving.{Aimed, Ready, Moving}
-use Rattle.runner.specs.Going.{Going}
-use Rattle.runner.specs.Running.{Looping}
-use Rattle.states.specs.Set.{Set}
+use Rattle.steps.specs.Moving.{CursorAimed, StepGiven, ExchangeGiven}
+use Rattle.runner.specs.Going.{RunGiven}
+use Rattle.runner.specs.Running.{RunningAt}
+use Rattle.states.specs.Set.{AcceptedSet}
 use Rattle.runner.proofs.Running.{core-in, shared-in, semaphore-in, running-on}
 
 -- entry j of sixteen from place p on
@@ -53,7 +53,7 @@ part-entry l p j h = rw (getD-take, getD-drop)
 
 -- ---- the line of a fit state
 
-module _ {f t : List ℕ} {s : State} {h : Semaphore} (ok : Set f t) (fit : Fit f t s) (e : s .semaphore ≡ h) where
+module _ {f t : List ℕ} {s : State} {h : Semaphore} (ok : AcceptedSet f t) (fit : Fit f t s) (e : s .semaphore ≡ h) where
   line-fit : FitLine (taskOf f t) record { plant = s .plant; semaphore = h }
   line-fit = subst (λ (m : Semaphore). FitLine (taskOf f t) record { plant = s .plant; semaphore = m }) e (fit .line)
 
@@ -74,9 +74,9 @@ module _ {f t : List ℕ} {s : State} {h : Semaphore} (ok : Set f t) (fit : Fit 
 -- ---- the start
 
 pub looping-start : {f t : List ℕ} {tasks : List CoreTask} {first end : ℕ} {order : List ℕ} {s : Held} {cursor : Cursor} {d sh list : List ℕ} {cs : List Registers} {places offsets : List ℕ}
-    → Going f t tasks first end order s cursor d sh list → (cs ≡ s .cores) × (length cs ≡ 4) → (places ≡ s .places) × (length places ≡ 64) → (offsets ≡ s .offsets) × (length offsets ≡ 64)
+    → RunGiven f t tasks first end order s cursor d sh list → (cs ≡ s .cores) × (length cs ≡ 4) → (places ≡ s .places) × (length places ≡ 64) → (offsets ≡ s .offsets) × (length offsets ≡ 64)
     → {x : Line} → x ≡ lineOf (semaphoreOf (s .semaphore))
-    → Looping f t order list (stateOf f s d sh) (s .cores) (s .places) (s .offsets) 0 cs places offsets (semaphoreOf (x .semaphore)) 0 d sh list cursor × Lined x
+    → RunningAt f t order list (stateOf f s d sh) (s .cores) (s .places) (s .offsets) 0 cs places offsets (semaphoreOf (x .semaphore)) 0 d sh list cursor × Lined x
 looping-start {f} {t} {tasks} {first} {end} {order} {s} {cursor} {d} {sh} {list} {cs} {places} {offsets} g a b e {x} q =
     let y : Becomes x (semaphoreOf (s .semaphore)) = becomes x (semaphoreOf (s .semaphore)) q (line-few (g .accepted) (g .fit) (semaphore-in f (s .cores) (s .places) (s .offsets) (semaphoreOf (s .semaphore)) d sh)) in (
       rw (y .is, a .0, b .0, e .0) record {
@@ -102,8 +102,8 @@ looping-start {f} {t} {tasks} {first} {end} {order} {s} {cursor} {d} {sh} {list}
 -- ---- what a step requires
 
 pub ready : {f t : List ℕ} {order list₀ : List ℕ} {s₀ : State} {cs₀ : List Registers} {places₀ offsets₀ : List ℕ} {i : ℕ} {cs : List Registers} {places offsets : List ℕ} {h : Semaphore} {taken : ℕ} {d sh list : List ℕ} {cursor : Cursor} {k : ℕ} {c : CoreTask}
-    → Set f t → c ≡ coreTask f t k → Looping f t order list₀ s₀ cs₀ places₀ offsets₀ i cs places offsets h taken d sh list cursor → k < cores f
-    → Ready f t k c (getD cs k none) (getD (split (sizesOf f) d) k [])
+    → AcceptedSet f t → c ≡ coreTask f t k → RunningAt f t order list₀ s₀ cs₀ places₀ offsets₀ i cs places offsets h taken d sh list cursor → k < cores f
+    → StepGiven f t k c (getD cs k noRegisters) (getD (split (sizesOf f) d) k [])
 ready {f} {t} {cs = cs} {places = places} {offsets = offsets} {h = h} {d = d} {sh = sh} {k = k} ok e w i = record {
   accepted = ok;
   known = i;
@@ -114,8 +114,8 @@ ready {f} {t} {cs = cs} {places = places} {offsets = offsets} {h = h} {d = d} {s
 
 pub moving : {f t : List ℕ} {tasks : List CoreTask} {first end : ℕ} {order : List ℕ} {s : Held} {aim : Cursor} {d₀ sh₀ list₀ : List ℕ}
     {s₀ : State} {cs₀ : List Registers} {places₀ offsets₀ : List ℕ} {i : ℕ} {cs : List Registers} {places offsets : List ℕ} {h : Semaphore} {taken : ℕ} {d sh list : List ℕ} {cursor : Cursor} {k : ℕ}
-    → Going f t tasks first end order s aim d₀ sh₀ list₀ → Looping f t order list₀ s₀ cs₀ places₀ offsets₀ i cs places offsets h taken d sh list cursor → k < cores f
-    → Moving f t k (getD tasks k noTask) (getD cs k none) d sh end cursor
+    → RunGiven f t tasks first end order s aim d₀ sh₀ list₀ → RunningAt f t order list₀ s₀ cs₀ places₀ offsets₀ i cs places offsets h taken d sh list cursor → k < cores f
+    → ExchangeGiven f t k (getD tasks k noTask) (getD cs k noRegisters) d sh end cursor
 moving {f} {t} {cs = cs} {places = places} {offsets = offsets} {h = h} {d = d} {sh = sh} {cursor = cursor} {k = k} g w i = record {
   ready = ready (g .accepted) (g .tasked k i) w i;
   buffer = w .running .buffer;
@@ -163,21 +163,21 @@ kept-line {x} {y} l e = record { is = ap (λ (u : Line). semaphoreOf (u .semapho
 -- ---- the cursor
 
 -- what holds of core k's new registers and of the other cores' holds of every core
-pub aimed-on : (f : List ℕ) (cs : List Registers) (k : ℕ) (r : Registers) (h : ℕ) (cursor : Cursor) → k < length cs → (h ≡ suc k → Aimed f k r cursor)
-    → ((j : ℕ) → j ≢ k → j < cores f → h ≡ suc j → Aimed f j (getD cs j none) cursor)
-    → (j : ℕ) → j < cores f → h ≡ suc j → Aimed f j (getD (set cs k r) j none) cursor
+pub aimed-on : (f : List ℕ) (cs : List Registers) (k : ℕ) (r : Registers) (h : ℕ) (cursor : Cursor) → k < length cs → (h ≡ suc k → CursorAimed f k r cursor)
+    → ((j : ℕ) → j ≢ k → j < cores f → h ≡ suc j → CursorAimed f j (getD cs j noRegisters) cursor)
+    → (j : ℕ) → j < cores f → h ≡ suc j → CursorAimed f j (getD (set cs k r) j noRegisters) cursor
 aimed-on f cs k r h cursor i mine others j l e = go (ℕ-discrete j k)
   where
-    go : Dec (j ≡ k) → Aimed f j (getD (set cs k r) j none) cursor
-    go (yes q) = rw (q, getD-set-same cs k r none i) (mine (rw q at e))
-    go (no n) = rw (getD-set-other cs k j r none n) (others j n l e)
+    go : Dec (j ≡ k) → CursorAimed f j (getD (set cs k r) j noRegisters) cursor
+    go (yes q) = rw (q, getD-set-same cs k r noRegisters i) (mine (rw q at e))
+    go (no n) = rw (getD-set-other cs k j r noRegisters n) (others j n l e)
 
 -- the same mode and exchange number
-pub aimed-same : {f : List ℕ} {k : ℕ} {r r′ : Registers} {cursor : Cursor} → r′ .mode ≡ r .mode → r′ .exchange ≡ r .exchange → Aimed f k r cursor → Aimed f k r′ cursor
+pub aimed-same : {f : List ℕ} {k : ℕ} {r r′ : Registers} {cursor : Cursor} → r′ .mode ≡ r .mode → r′ .exchange ≡ r .exchange → CursorAimed f k r cursor → CursorAimed f k r′ cursor
 aimed-same a b w = record { reading = λ m. rw b (w .reading (sym a ∙ m)); writing = λ m. rw b (w .writing (sym a ∙ m)) }
 
 -- no exchange
-pub aimed-none : {f : List ℕ} {k : ℕ} {r : Registers} {cursor : Cursor} → r .mode ≢ 1 → r .mode ≢ 4 → Aimed f k r cursor
+pub aimed-none : {f : List ℕ} {k : ℕ} {r : Registers} {cursor : Cursor} → r .mode ≢ 1 → r .mode ≢ 4 → CursorAimed f k r cursor
 aimed-none a b = record { reading = λ m. absurd (a m); writing = λ m. absurd (b m) }
 
 -- ---- an arm
@@ -185,10 +185,10 @@ aimed-none a b = record { reading = λ m. absurd (a m); writing = λ m. absurd (
 -- where the cursor stands after an arm, by what the arm does to the holder
 pub data After (f : List ℕ) (k h : ℕ) (r r′ : Registers) (cursor cursor′ : Cursor) : ℕ → Type 0 where
   -- the holder stays, and so does the cursor; core k's exchange, if it is in one, stands where it stood
-  stays : (Aimed f k r cursor → Aimed f k r′ cursor′) → cursor′ ≡ cursor → After f k h r r′ cursor cursor′ h
+  stays : (CursorAimed f k r cursor → CursorAimed f k r′ cursor′) → cursor′ ≡ cursor → After f k h r r′ cursor cursor′ h
   -- core k is the holder, before and after
-  moves : h ≡ suc k → Aimed f k r′ cursor′ → After f k h r r′ cursor cursor′ h
-  takes : Aimed f k r′ cursor′ → After f k h r r′ cursor cursor′ (suc k)
+  moves : h ≡ suc k → CursorAimed f k r′ cursor′ → After f k h r r′ cursor cursor′ h
+  takes : CursorAimed f k r′ cursor′ → After f k h r r′ cursor cursor′ (suc k)
   frees : After f k h r r′ cursor cursor′ 0
 
 -- the registers' changes: what becomes of the cursor
@@ -279,9 +279,9 @@ module _ (places offsets : List ℕ) {places′ offsets′ : List ℕ} (k i v u 
 
 module _ {f t : List ℕ} {order list₀ : List ℕ} {s₀ : State} {cs₀ : List Registers} {places₀ offsets₀ : List ℕ}
     {i : ℕ} {cs : List Registers} {places offsets : List ℕ} {h : Semaphore} {taken : ℕ} {d sh list : List ℕ} {cursor : Cursor}
-    (w : Looping f t order list₀ s₀ cs₀ places₀ offsets₀ i cs places offsets h taken d sh list cursor) where
-  after-aimed : {k h′ : ℕ} {r′ : Registers} {cursor′ : Cursor} → k < cores f → k < length cs → After f k (h .holder) (getD cs k none) r′ cursor cursor′ h′
-      → (j : ℕ) → j < cores f → h′ ≡ suc j → Aimed f j (getD (set cs k r′) j none) cursor′
+    (w : RunningAt f t order list₀ s₀ cs₀ places₀ offsets₀ i cs places offsets h taken d sh list cursor) where
+  after-aimed : {k h′ : ℕ} {r′ : Registers} {cursor′ : Cursor} → k < cores f → k < length cs → After f k (h .holder) (getD cs k noRegisters) r′ cursor cursor′ h′
+      → (j : ℕ) → j < cores f → h′ ≡ suc j → CursorAimed f j (getD (set cs k r′) j noRegisters) cursor′
   after-aimed {k} {h′} {r′} {cursor′} ik il (stays g q) =
       aimed-on f cs k r′ (h .holder) cursor′ il (λ e. g (w .aimed k ik e)) (λ j n l e. rw q (w .aimed j l e))
   after-aimed {k} {h′} {r′} {cursor′} ik il (moves q g) = aimed-on f cs k r′ (h .holder) cursor′ il (λ e. g) (λ j n l e. absurd (n (omega arith)))
@@ -289,23 +289,23 @@ module _ {f t : List ℕ} {order list₀ : List ℕ} {s₀ : State} {cs₀ : Lis
   after-aimed {k} {h′} {r′} {cursor′} ik il frees = λ j l e. absurd (omega arith)
 
   -- An arm: the effect z, which is z₀, with what the arm has made of the table, the stacks, the holder, the cursor and the list
-  pub arm : Set f t
+  pub arm : AcceptedSet f t
       → i < length order → {k : ℕ} → k ≡ getD order i 0 → k < cores f
-      → {z : Effect} {d′ sh′ : List ℕ} → Steps f t k (getD cs k none) d sh h z d′ sh′ → length d′ ≡ length d
+      → {z : Effect} {d′ sh′ : List ℕ} → Steps f t k (getD cs k noRegisters) d sh h z d′ sh′ → length d′ ≡ length d
       → (z₀ : Effect) → z ≡ z₀
       → {cs′ : List Registers} {r′ : Registers} → cs′ ≡ set cs k r′ → r′ ≡ registersBy z₀ (coreIn f cs places offsets d k)
       → {places′ offsets′ : List ℕ} → stackIn places′ offsets′ k ≡ stackBy z₀ (coreIn f cs places offsets d k)
       → ((j : ℕ) → j ≢ k → stackIn places′ offsets′ j ≡ stackIn places offsets j) → (length places′ ≡ 64) × (length offsets′ ≡ 64)
-      → {h′ : Semaphore} → h′ ≡ semaphoreBy z₀ k h → {cursor′ : Cursor} → After f k (h .holder) (getD cs k none) r′ cursor cursor′ (semaphoreBy z₀ k h .holder)
+      → {h′ : Semaphore} → h′ ≡ semaphoreBy z₀ k h → {cursor′ : Cursor} → After f k (h .holder) (getD cs k noRegisters) r′ cursor cursor′ (semaphoreBy z₀ k h .holder)
       → {list′ : List ℕ} → list′ ≡ splice list taken (map encoded (takenBy z₀ k)) → {taken′ : ℕ} → taken′ ≡ taken + length (takenBy z₀ k) → length (takenBy z₀ k) ≤ 1
-      → Looping f t order list₀ s₀ cs₀ places₀ offsets₀ (i + 1) cs′ places′ offsets′ h′ taken′ d′ sh′ list′ cursor′
+      → RunningAt f t order list₀ s₀ cs₀ places₀ offsets₀ (i + 1) cs′ places′ offsets′ h′ taken′ d′ sh′ list′ cursor′
   arm g b {k} e ik {z} {d′} {sh′} y dl z₀ ze {cs′} {r′} ce re {places′} {offsets′} se so en {h′} he {cursor′} ae {list′} le {taken′} te one =
-      let y₀ : Steps f t k (getD cs k none) d sh h z₀ d′ sh′ = subst (λ (u : Effect). Steps f t k (getD cs k none) d sh h u d′ sh′) ze y in
+      let y₀ : Steps f t k (getD cs k noRegisters) d sh h z₀ d′ sh′ = subst (λ (u : Effect). Steps f t k (getD cs k noRegisters) d sh h u d′ sh′) ze y in
       record {
         running = running-on f t g (executes f t g) order list₀ s₀ cs₀ places₀ offsets₀ i cs places offsets h taken d sh list (w .running)
             b k (sym e) ik (g .few) z₀ (y₀ .memory) sh′ cs′ places′ offsets′ h′ taken′ d′ list′ (y₀ .does)
             record { registers = ce ∙ ap (set cs k) re; stack = se; stacks = so; semaphore = he; memory = y₀ .kept } le te one en dl;
-        aimed = λ j l q. subst (λ (u : List Registers). Aimed f j (getD u j none) cursor′) (sym ce) (after-aimed ik (rw (w .running .four) (omega (arith, g .few))) (subst (After f k (h .holder) (getD cs k none) r′ cursor cursor′) (sym (ap (λ (m : Semaphore). m .holder) he)) ae) j l q);
+        aimed = λ j l q. subst (λ (u : List Registers). CursorAimed f j (getD u j noRegisters) cursor′) (sym ce) (after-aimed ik (rw (w .running .four) (omega (arith, g .few))) (subst (After f k (h .holder) (getD cs k noRegisters) r′ cursor cursor′) (sym (ap (λ (m : Semaphore). m .holder) he)) ae) j l q);
       }
 
   -- a core in an exchange is the holder
@@ -315,7 +315,7 @@ module _ {f t : List ℕ} {order list₀ : List ℕ} {s₀ : State} {cs₀ : Lis
       ∙ w .running .fit .held .held k (subst (λ (c : Core). (mode c ≡ 1) ⊎ (mode c ≡ 4)) (sym (core-in f cs places offsets h d sh k ik)) m)
 
   -- a core in line is in mode 0 or 3
-  pub in-line : {k : ℕ} → k < cores f → inLine k (h .line) ≡ true → (getD cs k none .mode ≡ 0) ⊎ (getD cs k none .mode ≡ 3)
+  pub in-line : {k : ℕ} → k < cores f → inLine k (h .line) ≡ true → (getD cs k noRegisters .mode ≡ 0) ⊎ (getD cs k noRegisters .mode ≡ 3)
   unfolding stateIn
   in-line {k} ik e = subst (λ (c : Core). (mode c ≡ 0) ⊎ (mode c ≡ 3)) (core-in f cs places offsets h d sh k ik) (w .running .fit .line .modes k (tested _ e))
 
@@ -323,11 +323,11 @@ module _ {f t : List ℕ} {order list₀ : List ℕ} {s₀ : State} {cs₀ : Lis
   unfolding stateIn
   line-once = w .running .fit .line .once
 
-  pub room-in-line : Set f t → {k : ℕ} → k < cores f → inLine k (h .line) ≡ false → length (h .line) < 4
+  pub room-in-line : AcceptedSet f t → {k : ℕ} → k < cores f → inLine k (h .line) ≡ false → length (h .line) < 4
   room-in-line ok {k} ik e = line-room ok (w .running .fit) (semaphore-in f cs places offsets h d sh) k ik e
 
   -- a core that does not wait, and that it is not its turn, is not in line yet
-  pub joining : Set f t → {k : ℕ} → k < cores f → waitsAt h k ≡ false → turn h k ≡ false → (inLine k (h .line) ≡ false) × (length (h .line) < 4)
+  pub joining : AcceptedSet f t → {k : ℕ} → k < cores f → waitsAt h k ≡ false → turn h k ≡ false → (inLine k (h .line) ≡ false) × (length (h .line) < 4)
   joining ok {k} ik e u = let out : inLine k (h .line) ≡ false = not-both (inLine k (h .line)) (turn h k) e u in (out, room-in-line ok ik out)
     where
       not-both : (a b : Bool) → both a (not b) ≡ false → b ≡ false → a ≡ false
@@ -336,13 +336,13 @@ module _ {f t : List ℕ} {order list₀ : List ℕ} {s₀ : State} {cs₀ : Lis
       not-both false b p q = refl
 
   -- the same for the effects of one kind
-  module _ (g : Set f t) (b : i < length order) {k : ℕ} (e : k ≡ getD order i 0) (ik : k < cores f)
-      {z : Effect} {d′ sh′ : List ℕ} (y : Steps f t k (getD cs k none) d sh h z d′ sh′) (dl : length d′ ≡ length d)
+  module _ (g : AcceptedSet f t) (b : i < length order) {k : ℕ} (e : k ≡ getD order i 0) (ik : k < cores f)
+      {z : Effect} {d′ sh′ : List ℕ} (y : Steps f t k (getD cs k noRegisters) d sh h z d′ sh′) (dl : length d′ ≡ length d)
       {list′ : List ℕ} {cs′ : List Registers} {places′ offsets′ : List ℕ} {h′ : Semaphore} {cursor′ : Cursor} {taken′ : ℕ} {r′ : Registers} where
     -- neither stack nor order list
     pub plain-arm : (z₀ : Effect) → z ≡ z₀ → takenBy z₀ k ≡ [] → stackBy z₀ (coreIn f cs places offsets d k) ≡ stackIn places offsets k → r′ ≡ registersBy z₀ (coreIn f cs places offsets d k)
-        → list′ ≡ list → cs′ ≡ set cs k r′ → places′ ≡ places → offsets′ ≡ offsets → h′ ≡ semaphoreBy z₀ k h → After f k (h .holder) (getD cs k none) r′ cursor cursor′ (semaphoreBy z₀ k h .holder) → taken′ ≡ taken
-        → Looping f t order list₀ s₀ cs₀ places₀ offsets₀ (i + 1) cs′ places′ offsets′ h′ taken′ d′ sh′ list′ cursor′
+        → list′ ≡ list → cs′ ≡ set cs k r′ → places′ ≡ places → offsets′ ≡ offsets → h′ ≡ semaphoreBy z₀ k h → After f k (h .holder) (getD cs k noRegisters) r′ cursor cursor′ (semaphoreBy z₀ k h .holder) → taken′ ≡ taken
+        → RunningAt f t order list₀ s₀ cs₀ places₀ offsets₀ (i + 1) cs′ places′ offsets′ h′ taken′ d′ sh′ list′ cursor′
     plain-arm z₀ ze nt st re le ce pe oe he ae te =
         arm g b e ik y dl z₀ ze ce re (same-stack (ap (λ (l : List ℕ). part l (16 * k) 16) pe) (ap (λ (l : List ℕ). part l (16 * k) 16) oe) ∙ sym st)
         (λ j n. same-stack (ap (λ (l : List ℕ). part l (16 * j) 16) pe) (ap (λ (l : List ℕ). part l (16 * j) 16) oe))
@@ -353,8 +353,8 @@ module _ {f t : List ℕ} {order list₀ : List ℕ} {s₀ : State} {cs₀ : Lis
     -- a taking
     pub taking-arm : (z₀ : Effect) → z ≡ z₀ → (x : Taking) → takenBy z₀ k ≡ x ∷ [] → stackBy z₀ (coreIn f cs places offsets d k) ≡ stackIn places offsets k → r′ ≡ registersBy z₀ (coreIn f cs places offsets d k)
         → list′ ≡ set list taken (encoded x) → cs′ ≡ set cs k r′ → places′ ≡ places → offsets′ ≡ offsets → h′ ≡ semaphoreBy z₀ k h
-        → After f k (h .holder) (getD cs k none) r′ cursor cursor′ (semaphoreBy z₀ k h .holder) → taken′ ≡ taken + 1
-        → Looping f t order list₀ s₀ cs₀ places₀ offsets₀ (i + 1) cs′ places′ offsets′ h′ taken′ d′ sh′ list′ cursor′
+        → After f k (h .holder) (getD cs k noRegisters) r′ cursor cursor′ (semaphoreBy z₀ k h .holder) → taken′ ≡ taken + 1
+        → RunningAt f t order list₀ s₀ cs₀ places₀ offsets₀ (i + 1) cs′ places′ offsets′ h′ taken′ d′ sh′ list′ cursor′
     taking-arm z₀ ze x one st re le ce pe oe he ae te =
         arm g b e ik y dl z₀ ze ce re (same-stack (ap (λ (l : List ℕ). part l (16 * k) 16) pe) (ap (λ (l : List ℕ). part l (16 * k) 16) oe) ∙ sym st)
         (λ j n. same-stack (ap (λ (l : List ℕ). part l (16 * j) 16) pe) (ap (λ (l : List ℕ). part l (16 * j) 16) oe))
@@ -366,8 +366,8 @@ module _ {f t : List ℕ} {order list₀ : List ℕ} {s₀ : State} {cs₀ : Lis
     pub stack-arm : (z₀ : Effect) → z ≡ z₀ → takenBy z₀ k ≡ [] → r′ ≡ registersBy z₀ (coreIn f cs places offsets d k) → (n v u : ℕ) → n < 16
         → record { places = set (part places (16 * k) 16) n v; offsets = set (part offsets (16 * k) 16) n u } ≡ stackBy z₀ (coreIn f cs places offsets d k)
         → list′ ≡ list → cs′ ≡ set cs k r′ → places′ ≡ set places (16 * k + n) v → offsets′ ≡ set offsets (16 * k + n) u → h′ ≡ semaphoreBy z₀ k h
-        → After f k (h .holder) (getD cs k none) r′ cursor cursor′ (semaphoreBy z₀ k h .holder) → taken′ ≡ taken
-        → Looping f t order list₀ s₀ cs₀ places₀ offsets₀ (i + 1) cs′ places′ offsets′ h′ taken′ d′ sh′ list′ cursor′
+        → After f k (h .holder) (getD cs k noRegisters) r′ cursor cursor′ (semaphoreBy z₀ k h .holder) → taken′ ≡ taken
+        → RunningAt f t order list₀ s₀ cs₀ places₀ offsets₀ (i + 1) cs′ places′ offsets′ h′ taken′ d′ sh′ list′ cursor′
     stack-arm z₀ ze nt re n v u m st le ce pe oe he ae te =
         arm g b e ik y dl z₀ ze ce re (stack-here places offsets k n v u m pe oe ∙ st) (stack-other places offsets k n v u m pe oe)
         (ap length pe ∙ length-set places (16 * k + n) v ∙ w .running .entries .0, ap length oe ∙ length-set offsets (16 * k + n) u ∙ w .running .entries .1) he ae
@@ -378,6 +378,6 @@ module _ {f t : List ℕ} {order list₀ : List ℕ} {s₀ : State} {cs₀ : Lis
 
 pub shared-length : {f t : List ℕ} {tasks : List CoreTask} {first end : ℕ} {order : List ℕ} {s : Held} {aim : Cursor} {d₀ sh₀ list₀ : List ℕ}
     {s₀ : State} {cs₀ : List Registers} {places₀ offsets₀ : List ℕ} {i : ℕ} {cs : List Registers} {places offsets : List ℕ} {h : Semaphore} {taken : ℕ} {d sh list : List ℕ} {cursor : Cursor}
-    → Going f t tasks first end order s aim d₀ sh₀ list₀ → Looping f t order list₀ s₀ cs₀ places₀ offsets₀ i cs places offsets h taken d sh list cursor → length sh ≡ length sh₀
+    → RunGiven f t tasks first end order s aim d₀ sh₀ list₀ → RunningAt f t order list₀ s₀ cs₀ places₀ offsets₀ i cs places offsets h taken d sh list cursor → length sh ≡ length sh₀
 shared-length {f} {s = s} {d₀ = d₀} {sh₀ = sh₀} {cs = cs} {places = places} {offsets = offsets} {h = h} {d = d} {sh = sh} g w =
     sym (ap length (shared-in f cs places offsets h d sh)) ∙ w .running .fit .shared ∙ sym (g .fit .shared) ∙ ap length (shared-in f (s .cores) (s .places) (s .offsets) (semaphoreOf (s .semaphore)) d₀ sh₀)

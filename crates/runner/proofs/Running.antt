@@ -28,9 +28,9 @@ use Rattle.taskset.specs.Task.{listed, sizesOf}
 use Rattle.taskset.proofs.Accepted.{length-listed, listed-at}
 use Rattle.states.proofs.Tables.{listed-set}
 use Rattle.states.specs.Task.{taskOf}
-use Rattle.states.specs.Machine.{none, stackIn, coreIn, stateIn}
+use Rattle.states.specs.Machine.{noRegisters, stackIn, coreIn, stateIn}
 use Rattle.states.specs.Fit.{Fit}
-use Rattle.states.specs.Set.{Set}
+use Rattle.states.specs.Set.{AcceptedSet}
 use Rattle.runner.specs.Running.{Running}
 use Rattle.steps.specs.Effects.{Effect, registersBy, stackBy, semaphoreBy, takenBy, effected, Does}
 use Rattle.states.proofs.Kept.{Executes, fit-kept}
@@ -91,14 +91,14 @@ module _ (f : List ℕ) (k : ℕ) (z : Effect) (m sh sh′ : List ℕ) (cs : Lis
           }
       here c =
           same-core
-          (ap (λ (l : List Registers). getD l k none) (p .registers) ∙ getD-set-same cs k (registersBy z (coreIn f cs places offsets d k)) none (omega arith) ∙ ap (registersBy z) (sym c))
+          (ap (λ (l : List Registers). getD l k noRegisters) (p .registers) ∙ getD-set-same cs k (registersBy z (coreIn f cs places offsets d k)) noRegisters (omega arith) ∙ ap (registersBy z) (sym c))
           (p .stack ∙ ap (stackBy z) (sym c))
           (ap (λ (l : List (List ℕ)). getD l k []) (p .memory) ∙ getD-set-same (split (sizesOf f) d) k m [] (rw (length-split (sizesOf f) d, length-sizes f) i))
 
       others : (j : ℕ) → j ≢ k → coreIn f cs′ places′ offsets′ d′ j ≡ coreIn f cs places offsets d j
       others j q =
           same-core
-          (ap (λ (l : List Registers). getD l j none) (p .registers) ∙ getD-set-other cs k j (registersBy z (coreIn f cs places offsets d k)) none q)
+          (ap (λ (l : List Registers). getD l j noRegisters) (p .registers) ∙ getD-set-other cs k j (registersBy z (coreIn f cs places offsets d k)) noRegisters q)
           (p .stacks j q)
           (ap (λ (l : List (List ℕ)). getD l j []) (p .memory) ∙ getD-set-other (split (sizesOf f) d) k j m [] q)
 
@@ -130,29 +130,29 @@ rest-from order i k h e = drop-cons order i 0 h ∙ rw (e, ← add-one i)
 front-to : (order : List ℕ) (i k : ℕ) → i < length order → getD order i 0 ≡ k → take (i + 1) order ≡ take i order ++ (k ∷ [])
 front-to order i k h e = ap (λ (n : ℕ). take n order) (add-one i) ∙ take-suc order i 0 h ∙ ap (λ (j : ℕ). take i order ++ (j ∷ [])) e
 
-module _ (f t : List ℕ) (ok : Set f t) (ex : Executes f t) where
+module _ (f t : List ℕ) (ok : AcceptedSet f t) (ex : Executes f t) where
   -- the effect z of core k, with the data m of core k and the shared memory sh′ afterwards, is its step
   next-state : (cs : List Registers) (places offsets : List ℕ) (h : Semaphore) (d sh : List ℕ) (k : ℕ) → k < cores f → cores f ≤ length cs
       → (z : Effect) (m sh′ : List ℕ) (cs′ : List Registers) (places′ offsets′ : List ℕ) (h′ : Semaphore) (d′ : List ℕ)
-      → Does (taskOf f t) k (getD cs k none) (getD (split (sizesOf f) d) k []) sh h z m sh′
+      → Does (taskOf f t) k (getD cs k noRegisters) (getD (split (sizesOf f) d) k []) sh h z m sh′
       → Put f k z m cs places offsets h d cs′ places′ offsets′ h′ d′
       → (stateIn f cs′ places′ offsets′ h′ d′ sh′ ≡ step (taskOf f t) k (stateIn f cs places offsets h d sh)) × (takingOf (taskOf f t) k (stateIn f cs places offsets h d sh) ≡ takenBy z k)
   next-state cs places offsets h d sh k i n z m sh′ cs′ places′ offsets′ h′ d′ y p =
       let c : core (stateIn f cs places offsets h d sh .plant) k ≡ coreIn f cs places offsets d k = core-in f cs places offsets h d sh k i in
       let l : k < length (stateIn f cs places offsets h d sh .plant .cores) = rw (cores-in f cs places offsets h d sh) i in
-      let a : core (stateIn f cs places offsets h d sh .plant) k .registers ≡ getD cs k none = ap (λ (x : Core). x .registers) c in
+      let a : core (stateIn f cs places offsets h d sh .plant) k .registers ≡ getD cs k noRegisters = ap (λ (x : Core). x .registers) c in
       let b : core (stateIn f cs places offsets h d sh .plant) k .memory ≡ getD (split (sizesOf f) d) k [] = ap (λ (x : Core). x .memory) c in (
         put-effected f k z m sh sh′ cs places offsets h d cs′ places′ offsets′ h′ d′ i n p ∙ y .moves (stateIn f cs places offsets h d sh) l a b (shared-in f cs places offsets h d sh) (semaphore-in f cs places offsets h d sh),
         y .takes (stateIn f cs places offsets h d sh) l a b (shared-in f cs places offsets h d sh) (semaphore-in f cs places offsets h d sh),
       )
 
 -- One turn of a run
-module _ (f t : List ℕ) (ok : Set f t) (ex : Executes f t) (order list₀ : List ℕ) (s₀ : State) (cs₀ : List Registers) (places₀ offsets₀ : List ℕ) where
+module _ (f t : List ℕ) (ok : AcceptedSet f t) (ex : Executes f t) (order list₀ : List ℕ) (s₀ : State) (cs₀ : List Registers) (places₀ offsets₀ : List ℕ) where
   pub running-on : (i : ℕ) (cs : List Registers) (places offsets : List ℕ) (h : Semaphore) (taken : ℕ) (d sh list : List ℕ)
       → Running f t order list₀ s₀ cs₀ places₀ offsets₀ i cs places offsets h taken d sh list
       → i < length order → (k : ℕ) → getD order i 0 ≡ k → k < cores f → cores f ≤ 4
       → (z : Effect) (m sh′ : List ℕ) (cs′ : List Registers) (places′ offsets′ : List ℕ) (h′ : Semaphore) (taken′ : ℕ) (d′ list′ : List ℕ)
-      → Does (taskOf f t) k (getD cs k none) (getD (split (sizesOf f) d) k []) sh h z m sh′
+      → Does (taskOf f t) k (getD cs k noRegisters) (getD (split (sizesOf f) d) k []) sh h z m sh′
       → Put f k z m cs places offsets h d cs′ places′ offsets′ h′ d′
       → list′ ≡ splice list taken (map encoded (takenBy z k)) → taken′ ≡ taken + length (takenBy z k) → length (takenBy z k) ≤ 1
       → (length places′ ≡ 64) × (length offsets′ ≡ 64) → length d′ ≡ length d
@@ -179,7 +179,7 @@ module _ (f t : List ℕ) (ok : Set f t) (ex : Executes f t) (order list₀ : Li
         buffer = dl ∙ w .buffer;
         list-length = ap length le ∙ length-splice list taken (map encoded (takenBy z k)) ∙ w .list-length;
         spare = λ j g. (
-          ap (λ (l : List Registers). getD l j none) (p .registers) ∙ getD-set-other cs k j (registersBy z (coreIn f cs places offsets d k)) none (apart j g) ∙ w .spare j g .0,
+          ap (λ (l : List Registers). getD l j noRegisters) (p .registers) ∙ getD-set-other cs k j (registersBy z (coreIn f cs places offsets d k)) noRegisters (apart j g) ∙ w .spare j g .0,
           p .stacks j (apart j g) ∙ w .spare j g .1,
         );
       }

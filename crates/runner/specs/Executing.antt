@@ -11,9 +11,9 @@ use Rattle.protocol.specs.Step.{run, takings}
 use Rattle.records.specs.File.{cores}
 use Rattle.taskset.specs.Task.{sizesOf}
 use Rattle.states.specs.Task.{taskOf}
-use Rattle.states.specs.Machine.{none, stackIn, stateIn}
+use Rattle.states.specs.Machine.{noRegisters, stackIn, stateIn}
 use Rattle.states.specs.Fit.{Fit}
-use Rattle.states.specs.Set.{Set}
+use Rattle.states.specs.Set.{AcceptedSet}
 
 -- the state of these parts, with the semaphore untaken, is one that steps may start from
 pub record Standing (f t : List ℕ) (cs : List Registers) (places offsets d sh : List ℕ) : Type 0 where
@@ -24,12 +24,12 @@ pub record Standing (f t : List ℕ) (cs : List Registers) (places offsets d sh 
 
 -- ---- what is asked: some such state has a core k with the registers r
 
-pub record Executing (f t : List ℕ) (k : ℕ) (r : Registers) (places offsets d : List ℕ) : Type 0 where
-  pub accepted : Set f t
+pub record ExecutionGiven (f t : List ℕ) (k : ℕ) (r : Registers) (places offsets d : List ℕ) : Type 0 where
+  pub accepted : AcceptedSet f t
   pub known : k < cores f
   pub cs : List Registers
   pub sh : List ℕ
-  pub here : getD cs k none ≡ r
+  pub here : getD cs k noRegisters ≡ r
   pub stands : Standing f t cs places offsets d sh
 
 -- ---- what they make of a state: steps of core k alone, with no taking among them
@@ -45,4 +45,4 @@ pub record Stretch (f t : List ℕ) (k : ℕ) (cs : List Registers) (places offs
 
 abbrev pub Executes : List ℕ → List ℕ → ℕ → Registers → List ℕ → List ℕ → List ℕ → Registers → List ℕ → List ℕ → List ℕ → Type 0
 Executes f t k r places offsets d r′ places′ offsets′ d′ =
-    (cs : List Registers) (sh : List ℕ) → getD cs k none ≡ r → Standing f t cs places offsets d sh → Stretch f t k cs places offsets d sh r′ places′ offsets′ d′
+    (cs : List Registers) (sh : List ℕ) → getD cs k noRegisters ≡ r → Standing f t cs places offsets d sh → Stretch f t k cs places offsets d sh r′ places′ offsets′ d′

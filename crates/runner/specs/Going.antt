@@ -11,14 +11,14 @@ use Rattle.taskset.specs.Task.{sizesOf}
 use Rattle.states.specs.declared.State.{State as Held}
 use Rattle.states.specs.declared.CoreTask.{CoreTask}
 use Rattle.states.specs.Tasks.{coreTask, noTask}
-use Rattle.states.specs.Set.{Set}
-use Rattle.states.specs.Machine.{none, stateOf}
+use Rattle.states.specs.Set.{AcceptedSet}
+use Rattle.states.specs.Machine.{noRegisters, stateOf}
 use Rattle.states.specs.Fit.{Fit}
-use Rattle.steps.specs.Moving.{Aimed}
+use Rattle.steps.specs.Moving.{CursorAimed}
 use Rattle.runner.specs.Runs.{allBelow}
 
-pub record Going (f t : List ℕ) (tasks : List CoreTask) (first end : ℕ) (order : List ℕ) (s : Held) (cursor : Cursor) (d sh list : List ℕ) : Type 0 where
-  pub accepted : Set f t
+pub record RunGiven (f t : List ℕ) (tasks : List CoreTask) (first end : ℕ) (order : List ℕ) (s : Held) (cursor : Cursor) (d sh list : List ℕ) : Type 0 where
+  pub accepted : AcceptedSet f t
   pub tasked : (k : ℕ) → k < cores f → getD tasks k noTask ≡ coreTask f t k
   pub from : first ≡ recordPlace f 0
   pub upto : end ≡ recordPlace f (variables f)
@@ -26,4 +26,4 @@ pub record Going (f t : List ℕ) (tasks : List CoreTask) (first end : ℕ) (ord
   pub room : length order ≤ length list
   pub buffer : length d ≡ total (sizesOf f)
   pub fit : Fit f t (stateOf f s d sh)
-  pub aimed : (k : ℕ) → k < cores f → s .semaphore .holder ≡ suc k → Aimed f k (getD (s .cores) k none) cursor
+  pub aimed : (k : ℕ) → k < cores f → s .semaphore .holder ≡ suc k → CursorAimed f k (getD (s .cores) k noRegisters) cursor

@@ -15,10 +15,10 @@ use Rattle.exchange.specs.declared.Cursor.{Cursor}
 use Rattle.records.specs.File.{cores}
 use Rattle.taskset.specs.Task.{sizesOf}
 use Rattle.states.specs.Task.{taskOf}
-use Rattle.states.specs.Machine.{none, stackIn, stateIn}
+use Rattle.states.specs.Machine.{noRegisters, stackIn, stateIn}
 use Rattle.states.specs.Fit.{Fit}
-use Rattle.states.specs.Set.{Set}
-use Rattle.steps.specs.Moving.{Aimed}
+use Rattle.states.specs.Set.{AcceptedSet}
+use Rattle.steps.specs.Moving.{CursorAimed}
 
 -- ---- the order
 
@@ -76,19 +76,19 @@ pub record Running (f t : List ℕ) (order list₀ : List ℕ) (s₀ : State) (c
   pub entries : (length places ≡ 64) × (length offsets ≡ 64)
   pub buffer : length d ≡ total (sizesOf f)
   pub list-length : length list ≡ length list₀
-  pub spare : (j : ℕ) → cores f ≤ j → (getD cs j none ≡ getD cs₀ j none) × (stackIn places offsets j ≡ stackIn places₀ offsets₀ j)
+  pub spare : (j : ℕ) → cores f ≤ j → (getD cs j noRegisters ≡ getD cs₀ j noRegisters) × (stackIn places offsets j ≡ stackIn places₀ offsets₀ j)
 
 -- the same with the cursor
-pub record Looping (f t : List ℕ) (order list₀ : List ℕ) (s₀ : State) (cs₀ : List Registers) (places₀ offsets₀ : List ℕ)
+pub record RunningAt (f t : List ℕ) (order list₀ : List ℕ) (s₀ : State) (cs₀ : List Registers) (places₀ offsets₀ : List ℕ)
     (i : ℕ) (cs : List Registers) (places offsets : List ℕ) (h : Semaphore) (taken : ℕ) (d sh list : List ℕ) (cursor : Cursor) : Type 0 where
   pub running : Running f t order list₀ s₀ cs₀ places₀ offsets₀ i cs places offsets h taken d sh list
-  pub aimed : (k : ℕ) → k < cores f → h .holder ≡ suc k → Aimed f k (getD cs k none) cursor
+  pub aimed : (k : ℕ) → k < cores f → h .holder ≡ suc k → CursorAimed f k (getD cs k noRegisters) cursor
 
 -- ---- steps that carry a run on
 
 -- some run stands before step i, and core k has the registers r
-pub record Stands (f t order : List ℕ) (i k : ℕ) (r : Registers) (places offsets d : List ℕ) : Type 0 where
-  pub accepted : Set f t
+pub record RunStands (f t order : List ℕ) (i k : ℕ) (r : Registers) (places offsets d : List ℕ) : Type 0 where
+  pub accepted : AcceptedSet f t
   pub known : k < cores f
   pub list₀ : List ℕ
   pub s₀ : State
@@ -101,14 +101,14 @@ pub record Stands (f t order : List ℕ) (i k : ℕ) (r : Registers) (places off
   pub sh : List ℕ
   pub list : List ℕ
   pub cursor : Cursor
-  pub here : getD cs k none ≡ r
-  pub loops : Looping f t order list₀ s₀ cs₀ places₀ offsets₀ i cs places offsets h taken d sh list cursor
+  pub here : getD cs k noRegisters ≡ r
+  pub loops : RunningAt f t order list₀ s₀ cs₀ places₀ offsets₀ i cs places offsets h taken d sh list cursor
 
 -- every run that stands before step i, where core k has the registers r and the stacks and data are those, stands before step i′ with the
 -- registers r′ of core k and these stacks and data; nothing else has changed
-abbrev pub Carries : List ℕ → List ℕ → List ℕ → ℕ → ℕ → Registers → List ℕ → List ℕ → List ℕ → ℕ → Registers → List ℕ → List ℕ → List ℕ → Type 0
-Carries f t order k i r places offsets d i′ r′ places′ offsets′ d′ =
+abbrev pub CarriesRun : List ℕ → List ℕ → List ℕ → ℕ → ℕ → Registers → List ℕ → List ℕ → List ℕ → ℕ → Registers → List ℕ → List ℕ → List ℕ → Type 0
+CarriesRun f t order k i r places offsets d i′ r′ places′ offsets′ d′ =
     (list₀ : List ℕ) (s₀ : State) (cs₀ : List Registers) (places₀ offsets₀ : List ℕ) (cs : List Registers) (h : Semaphore) (taken : ℕ) (sh list : List ℕ) (cursor : Cursor)
-    → getD cs k none ≡ r
-    → Looping f t order list₀ s₀ cs₀ places₀ offsets₀ i cs places offsets h taken d sh list cursor
-    → Looping f t order list₀ s₀ cs₀ places₀ offsets₀ i′ (set cs k r′) places′ offsets′ h taken d′ sh list cursor
+    → getD cs k noRegisters ≡ r
+    → RunningAt f t order list₀ s₀ cs₀ places₀ offsets₀ i cs places offsets h taken d sh list cursor
+    → RunningAt f t order list₀ s₀ cs₀ places₀ offsets₀ i′ (set cs k r′) places′ offsets′ h taken d′ sh list cursor

@@ -26,13 +26,13 @@ pub record Left : Type 0 where
   pub shared : List ℕ
   pub order : List ℕ
 
-abbrev pub left : Ran → List ℕ → List ℕ → List ℕ → Left
-left r d sh list = record { answer = r; memory = d; shared = sh; order = list }
+abbrev pub leftAs : Ran → List ℕ → List ℕ → List ℕ → Left
+leftAs r d sh list = record { answer = r; memory = d; shared = sh; order = list }
 
 -- the steps of an order, whose takings go to the front of the order list
 unfoldable pub ranCall : List ℕ → List ℕ → Held → List ℕ → List ℕ → List ℕ → List ℕ → Left
 ranCall f t h d sh order list =
-    left
+    leftAs
     (record { refusal = 0; taken = length (orderList (taskOf f t) order (stateOf f h d sh)); state = heldAfter (cores f) h (run (taskOf f t) order (stateOf f h d sh)) })
     (dataOf (run (taskOf f t) order (stateOf f h d sh)))
     (run (taskOf f t) order (stateOf f h d sh) .plant .shared)

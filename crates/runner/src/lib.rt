@@ -12,12 +12,12 @@ ghost use mathlib.Core.Logic.{_≢_};
 ghost use Prim.Native.Nat.{_+_, _*_, _<_, _≤_};
 ghost use lib.ListN.{length, getD, set};
 ghost use Rattle.records.specs.File.{cores};
-ghost use Rattle.runner.specs.Runs.{allBelow, left, ranCall};
+ghost use Rattle.runner.specs.Runs.{allBelow, leftAs, ranCall};
 ghost use Rattle.states.specs.Tasks.{coreTask};
 ghost use Rattle.steps.specs.Bytes.{Ahead};
-ghost use Rattle.runner.specs.Going.{Going};
-ghost use Rattle.runner.specs.Running.{stepsOn, AllOn, executingAt, bytesOn, Stands, Carries};
-ghost use Rattle.runner.specs.Executing.{Executing, Executes};
+ghost use Rattle.runner.specs.Going.{RunGiven};
+ghost use Rattle.runner.specs.Running.{stepsOn, AllOn, executingAt, bytesOn, RunStands, CarriesRun};
+ghost use Rattle.runner.specs.Executing.{ExecutionGiven, Executes};
 
 // What a call that moves the machine answers: the refusal number, 0 for none; how many takings it wrote; the state.
 pub struct Ran {
@@ -166,8 +166,8 @@ fn run_core(
     offsets: &mut [u16; 64],
     buffer: &mut [u8],
 ) -> Reached
-    requires { ⌜ Stands (now file) (now trace) (now order) from k before (now places) (now offsets) (now buffer) × (c ≡ coreTask (now file) (now trace) k) × (stepsOn (now order) from k ≡ true) × (before .mode ≡ 2) ⌝ }
-    ensures { λ x. ⌜ (from < x .step) × Carries (now (file .entry)) (now (trace .entry)) (now (order .entry)) k from before (now (places .entry)) (now (offsets .entry)) (now (buffer .entry)) (x .step) (x .registers) (now (places .exit)) (now (offsets .exit)) (now (buffer .exit)) × (x .registers .mode ≡ 2 → (stepsOn (now (order .entry)) (x .step) k ≡ false) × (x .registers .count + from ≡ before .count + x .step)) ⌝ }
+    requires { ⌜ RunStands (now file) (now trace) (now order) from k before (now places) (now offsets) (now buffer) × (c ≡ coreTask (now file) (now trace) k) × (stepsOn (now order) from k ≡ true) × (before .mode ≡ 2) ⌝ }
+    ensures { λ x. ⌜ (from < x .step) × CarriesRun (now (file .entry)) (now (trace .entry)) (now (order .entry)) k from before (now (places .entry)) (now (offsets .entry)) (now (buffer .entry)) (x .step) (x .registers) (now (places .exit)) (now (offsets .exit)) (now (buffer .exit)) × (x .registers .mode ≡ 2 → (stepsOn (now (order .entry)) (x .step) k ≡ false) × (x .registers .count + from ≡ before .count + x .step)) ⌝ }
 {
     let mut counter = before.counter;
     let mut offset = before.offset;
@@ -233,7 +233,7 @@ pub fn run_alone(
     offsets: &mut [u16; 64],
     buffer: &mut [u8],
 ) -> Registers
-    requires { ⌜ Executing (now file) (now trace) k before (now places) (now offsets) (now buffer) × (c ≡ coreTask (now file) (now trace) k) ⌝ }
+    requires { ⌜ ExecutionGiven (now file) (now trace) k before (now places) (now offsets) (now buffer) × (c ≡ coreTask (now file) (now trace) k) ⌝ }
     ensures { λ r. ⌜ (r .mode ≢ 2) × Executes (now (file .entry)) (now (trace .entry)) k before (now (places .entry)) (now (offsets .entry)) (now (buffer .entry)) r (now (places .exit)) (now (offsets .exit)) (now (buffer .exit)) ⌝ }
 {
     let order = [k as u8; STRETCH];
@@ -260,8 +260,8 @@ pub fn run_order(
     shared: &mut [u8],
     list: &mut [u8],
 ) -> Ran
-    requires { ⌜ Going (now file) (now trace) tasks first end (now order) s aim (now buffer) (now shared) (now list) ⌝ }
-    ensures { λ r. ⌜ left r (now (buffer .exit)) (now (shared .exit)) (now (list .exit)) ≡ ranCall (now (file .entry)) (now (trace .entry)) s (now (buffer .entry)) (now (shared .entry)) (now (order .entry)) (now (list .entry)) ⌝ }
+    requires { ⌜ RunGiven (now file) (now trace) tasks first end (now order) s aim (now buffer) (now shared) (now list) ⌝ }
+    ensures { λ r. ⌜ leftAs r (now (buffer .exit)) (now (shared .exit)) (now (list .exit)) ≡ ranCall (now (file .entry)) (now (trace .entry)) s (now (buffer .entry)) (now (shared .entry)) (now (order .entry)) (now (list .entry)) ⌝ }
 {
     let mut cores = table_of(s);
     let mut places = places_of(s);

@@ -14,17 +14,17 @@ use Rattle.states.specs.Tasks.{tasksOf, noTask}
 use Rattle.machine.specs.Calls.{nextRefusal}
 use Rattle.snapshot.specs.declared.Table.{Table}
 use Rattle.snapshot.specs.declared.Ring.{Ring}
-use Rattle.snapshot.specs.Snapshot.{held, countsOf, noRing, ringOf}
+use Rattle.snapshot.specs.Snapshot.{held, countsOf, refusedRing, ringOf}
 
 abbrev pub wholeRing : List ℕ → List ℕ → Semaphore → ℕ → Ring
 wholeRing f t p given = record { refusal = 0; cores = cores f; given = given; semaphore = p; counts = countsOf f t }
 
 module _ (f t : List ℕ) (x : Table) (p : Semaphore) (given : ℕ) (s : State) (es : s ≡ held x p) where
-  pub ring-refused : (n : ℕ) (r : Ring) → n ≡ nextRefusal f t s given → n ≢ 0 → r ≡ noRing n given p → r ≡ ringOf f t x p given
+  pub ring-refused : (n : ℕ) (r : Ring) → n ≡ nextRefusal f t s given → n ≢ 0 → r ≡ refusedRing n given p → r ≡ ringOf f t x p given
   unfolding ringOf
   ring-refused n r e ne er =
       let q : n ≡ nextRefusal f t (held x p) given = e ∙ ap (λ (z : State). nextRefusal f t z given) es in
-      er ∙ ap (λ (m : ℕ). noRing m given p) q ∙ sym (pick-false _ _ _ (ne-eqb _ 0 (λ z. ne (q ∙ z))))
+      er ∙ ap (λ (m : ℕ). refusedRing m given p) q ∙ sym (pick-false _ _ _ (ne-eqb _ 0 (λ z. ne (q ∙ z))))
 
   pub ring-whole : nextRefusal f t s given ≡ 0 → (n : ℕ) (tasks : List CoreTask) → n ≡ cores f → tasks ≡ tasksOf f t
       → _≡_ {A = Ring} record {

@@ -20,7 +20,7 @@ use Rattle.taskset.specs.Judge.{judgeFor, judge}
 use Rattle.semaphore.specs.declared.Semaphore.{Semaphore}
 use Rattle.states.specs.declared.State.{State}
 use Rattle.runner.specs.declared.Ran.{Ran}
-use Rattle.runner.specs.Runs.{Left, left}
+use Rattle.runner.specs.Runs.{Left, leftAs}
 use Rattle.machine.specs.Calls.{answerOf, tableOf, freshCallFor, runCall, stepCall}
 use Rattle.machine.proofs.Calls.{fresh-full}
 use Rattle.rerun.specs.Calls.{rerunCall}
@@ -40,12 +40,12 @@ splice-whole s ys e =
 
 -- ---- what a call by value left
 
-pub on-refused : (x : Table) (p : Semaphore) (r : Ran) (d sh list : List ℕ) → r .refusal ≢ 0 → onTable x p (left r d sh list) ≡ tableLeft (refusedOf x p (r .refusal)) d sh list
+pub on-refused : (x : Table) (p : Semaphore) (r : Ran) (d sh list : List ℕ) → r .refusal ≢ 0 → onTable x p (leftAs r d sh list) ≡ tableLeft (refusedOf x p (r .refusal)) d sh list
 on-refused x p r d sh list ne =
     let kept : afterOf x p r ≡ refusedOf x p (r .refusal) = pick-false _ _ _ (ne-eqb (r .refusal) 0 ne) in
     (λ i. tableLeft (kept i) d sh list)
 
-pub on-accepted : (x : Table) (p : Semaphore) (r : Ran) (d sh list : List ℕ) → r .refusal ≡ 0 → onTable x p (left r d sh list) ≡ tableLeft (acceptedOf x (r .state)) d sh list
+pub on-accepted : (x : Table) (p : Semaphore) (r : Ran) (d sh list : List ℕ) → r .refusal ≡ 0 → onTable x p (leftAs r d sh list) ≡ tableLeft (acceptedOf x (r .state)) d sh list
 on-accepted x p r d sh list z =
     let new : afterOf x p r ≡ acceptedOf x (r .state) = pick-true _ _ _ (eq-eqb (r .refusal) 0 z) in
     (λ i. tableLeft (new i) d sh list)
@@ -58,8 +58,8 @@ short-refused (suc a) e = suc-ne-zero a e
 
 -- ---- a call on a snapshot: refused, or not
 
-module _ (f t : List ℕ) (x : Table) (p : Semaphore) (d sh : List ℕ) (k : ℕ) (s : State) (r : Ran) (y : After) (d′ sh′ : List ℕ) (es : s ≡ held x p) (e : left r d′ sh′ [] ≡ stepCall f t s d sh k) where
-  stepped-on : onTable x p (left r d′ sh′ []) ≡ stepTable f t x p d sh k
+module _ (f t : List ℕ) (x : Table) (p : Semaphore) (d sh : List ℕ) (k : ℕ) (s : State) (r : Ran) (y : After) (d′ sh′ : List ℕ) (es : s ≡ held x p) (e : leftAs r d′ sh′ [] ≡ stepCall f t s d sh k) where
+  stepped-on : onTable x p (leftAs r d′ sh′ []) ≡ stepTable f t x p d sh k
   unfolding stepTable
   stepped-on = ap (onTable x p) (e ∙ ap (λ (z : State). stepCall f t z d sh k) es)
 
@@ -69,8 +69,8 @@ module _ (f t : List ℕ) (x : Table) (p : Semaphore) (d sh : List ℕ) (k : ℕ
   pub step-moves : r .refusal ≡ 0 → y ≡ acceptedOf x (r .state) → tableLeft y d′ sh′ [] ≡ stepTable f t x p d sh k
   step-moves z ey = ap (λ (z : After). tableLeft z d′ sh′ []) ey ∙ sym (on-accepted x p r d′ sh′ [] z) ∙ stepped-on
 
-module _ (f t : List ℕ) (x : Table) (p : Semaphore) (d sh order list : List ℕ) (taken : ℕ) (s : State) (r : Ran) (y : After) (d′ sh′ list′ : List ℕ) (es : s ≡ held x p) (e : left r d′ sh′ list′ ≡ runCall f t s d sh order list) where
-  ran-on : onTable x p (left r d′ sh′ list′) ≡ runTable f t x p d sh order list
+module _ (f t : List ℕ) (x : Table) (p : Semaphore) (d sh order list : List ℕ) (taken : ℕ) (s : State) (r : Ran) (y : After) (d′ sh′ list′ : List ℕ) (es : s ≡ held x p) (e : leftAs r d′ sh′ list′ ≡ runCall f t s d sh order list) where
+  ran-on : onTable x p (leftAs r d′ sh′ list′) ≡ runTable f t x p d sh order list
   unfolding runTable
   ran-on = ap (onTable x p) (e ∙ ap (λ (z : State). runCall f t z d sh order list) es)
 
@@ -101,8 +101,8 @@ module _ (judged : ℕ) (made : Left) (f : List ℕ) (x : Table) (p : Semaphore)
       ∙ sym (on-refused x p (answerOf q (tableOf 0 0)) d sh [] (short-refused judged))
       ∙ ap (onTable x p) (sym (pick-false _ _ _ (lt-leb (cores f) (x .count) (omega (arith, en, h)))))
 
-  module _ (r : Ran) (y : After) (d′ sh′ : List ℕ) (h : n ≤ x .count) (e : left r d′ sh′ [] ≡ made) where
-    made-on : onTable x p (left r d′ sh′ []) ≡ madeOn judged made f x p d sh
+  module _ (r : Ran) (y : After) (d′ sh′ : List ℕ) (h : n ≤ x .count) (e : leftAs r d′ sh′ [] ≡ made) where
+    made-on : onTable x p (leftAs r d′ sh′ []) ≡ madeOn judged made f x p d sh
     made-on = ap (onTable x p) (e ∙ sym (pick-true _ _ _ (le-leb (cores f) (x .count) (omega (arith, en, h)))))
 
     pub made-stays : r .refusal ≢ 0 → y ≡ refusedOf x p (r .refusal) → tableLeft y d′ sh′ [] ≡ madeOn judged made f x p d sh
@@ -116,7 +116,7 @@ module _ (o : Profile) (f : List ℕ) (x : Table) (p : Semaphore) (d sh : List �
   unfolding freshTableFor
   fresh-short = made-short (judgeFor o f) (freshCallFor o f d sh) f x p d sh n en
 
-  module _ (r : Ran) (y : After) (d′ sh′ : List ℕ) (h : n ≤ x .count) (e : left r d′ sh′ [] ≡ freshCallFor o f d sh) where
+  module _ (r : Ran) (y : After) (d′ sh′ : List ℕ) (h : n ≤ x .count) (e : leftAs r d′ sh′ [] ≡ freshCallFor o f d sh) where
     pub fresh-stays : r .refusal ≢ 0 → y ≡ refusedOf x p (r .refusal) → tableLeft y d′ sh′ [] ≡ freshTableFor o f x p d sh
     unfolding freshTableFor
     fresh-stays = made-stays (judgeFor o f) (freshCallFor o f d sh) f x p d sh n en r y d′ sh′ h e
@@ -130,7 +130,7 @@ module _ (f t list : List ℕ) (x : Table) (p : Semaphore) (d sh : List ℕ) (n 
   unfolding rerunTable
   rerun-short = made-short (judge f) (rerunCall f t list d sh) f x p d sh n en
 
-  module _ (r : Ran) (y : After) (d′ sh′ : List ℕ) (h : n ≤ x .count) (e : left r d′ sh′ [] ≡ rerunCall f t list d sh) where
+  module _ (r : Ran) (y : After) (d′ sh′ : List ℕ) (h : n ≤ x .count) (e : leftAs r d′ sh′ [] ≡ rerunCall f t list d sh) where
     pub rerun-stays : r .refusal ≢ 0 → y ≡ refusedOf x p (r .refusal) → tableLeft y d′ sh′ [] ≡ rerunTable f t list x p d sh
     unfolding rerunTable
     rerun-stays = made-stays (judge f) (rerunCall f t list d sh) f x p d sh n en r y d′ sh′ h e

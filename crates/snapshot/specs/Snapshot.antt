@@ -17,10 +17,10 @@ use Rattle.taskset.specs.Judge.{judgeFor, judge}
 use Rattle.semaphore.specs.declared.Semaphore.{Semaphore}
 use Rattle.semaphore.specs.Line.{semaphoreOf}
 use Rattle.states.specs.declared.State.{State}
-use Rattle.states.specs.Machine.{none}
+use Rattle.states.specs.Machine.{noRegisters}
 use Rattle.states.specs.Tasks.{taskAt}
 use Rattle.runner.specs.declared.Ran.{Ran}
-use Rattle.runner.specs.Runs.{Left, left}
+use Rattle.runner.specs.Runs.{Left, leftAs}
 use Rattle.table.specs.Table.{canMove, roundFrom}
 use Rattle.machine.specs.Calls.{answerOf, tableOf, freshCallFor, freshCall, runCall, stepCall, nextRefusal}
 use Rattle.rerun.specs.Calls.{rerunCall}
@@ -63,8 +63,8 @@ recordWith r places offsets = record {
 }
 
 -- a record past the end of a table
-abbrev pub noCore : Core
-noCore = recordWith none (replicate 16 0) (replicate 16 0)
+abbrev pub noRecord : Core
+noRecord = recordWith noRegisters (replicate 16 0) (replicate 16 0)
 
 -- record k of a table copied out, which has four; no other is ever read
 abbrev pub recordOf : Table → ℕ → Core
@@ -113,7 +113,7 @@ held t p = record {
 
 -- the record of core k of a state
 unfoldable pub coreOf : State → ℕ → Core
-coreOf s k = recordWith (getD (s .cores) k none) (part (s .places) (16 * k) 16) (part (s .offsets) (16 * k) 16)
+coreOf s k = recordWith (getD (s .cores) k noRegisters) (part (s .places) (16 * k) 16) (part (s .offsets) (16 * k) 16)
 
 -- ---- what a call leaves
 
@@ -164,7 +164,7 @@ takenTable f t x p d sh order list taken = takenAfter taken (runCall f t (held x
 -- value makes
 abbrev pub madeOn : ℕ → Left → List ℕ → Table → Semaphore → List ℕ → List ℕ → TableLeft
 madeOn judged made f x p d sh =
-    onTable x p (pick (leb (cores f) (x .count)) made (left (answerOf (next judged 21) (tableOf 0 0)) d sh []))
+    onTable x p (pick (leb (cores f) (x .count)) made (leftAs (answerOf (next judged 21) (tableOf 0 0)) d sh []))
 
 unfoldable pub freshTableFor : Profile → List ℕ → Table → Semaphore → List ℕ → List ℕ → TableLeft
 freshTableFor profile f x p d sh = madeOn (judgeFor profile f) (freshCallFor profile f d sh) f x p d sh
@@ -183,15 +183,15 @@ rerunTable f t list x p d sh = madeOn (judge f) (rerunCall f t list d sh) f x p 
 abbrev pub countsOf : List ℕ → List ℕ → List ℕ
 countsOf f t = taskAt f t 0 .count ∷ taskAt f t 1 .count ∷ taskAt f t 2 .count ∷ taskAt f t 3 .count ∷ []
 
-abbrev pub noRing : ℕ → ℕ → Semaphore → Ring
-noRing number given p = record { refusal = number; cores = 0; given = given; semaphore = p; counts = replicate 4 0 }
+abbrev pub refusedRing : ℕ → ℕ → Semaphore → Ring
+refusedRing number given p = record { refusal = number; cores = 0; given = given; semaphore = p; counts = replicate 4 0 }
 
 -- what the scan needs beside the records
 unfoldable pub ringOf : List ℕ → List ℕ → Table → Semaphore → ℕ → Ring
 ringOf f t x p given =
     pick (eqb (nextRefusal f t (held x p) given) 0)
     (record { refusal = 0; cores = cores f; given = given; semaphore = p; counts = countsOf f t })
-    (noRing (nextRefusal f t (held x p) given) given p)
+    (refusedRing (nextRefusal f t (held x p) given) given p)
 
 -- core number i + 1 after the given one
 abbrev pub placeAfter : Ring → ℕ → ℕ
@@ -220,7 +220,7 @@ withRegisters s k r = record { count = s .count; semaphore = s .semaphore; cores
 
 -- the lent registers after a call that left this state; those on entry where it names no core
 abbrev pub registersAfter : State → ℕ → Registers → Registers
-registersAfter s k r = pick (ltb k 4) (getD (s .cores) k none) r
+registersAfter s k r = pick (ltb k 4) (getD (s .cores) k noRegisters) r
 
 unfoldable pub stepRegisters : List ℕ → List ℕ → State → Registers → List ℕ → List ℕ → ℕ → Left
 stepRegisters f t s r d sh k = stepCall f t (withRegisters s k r) d sh k

@@ -13,8 +13,8 @@ ghost use Rattle.verdict.specs.Verdict.{next};
 ghost use Rattle.memory.specs.Memory.{splice, part};
 ghost use Rattle.code.specs.declared.Profile.the-variants.{Small};
 ghost use Rattle.taskset.specs.Judge.{judgeFor};
-ghost use Rattle.runner.specs.Runs.{left};
-ghost use Rattle.snapshot.specs.Snapshot.{noCore, tableFrom, entries, counted, registersIn, recordWith, heldPlaces, heldOffsets, held, coreOf, recordAfter, acceptedOf, refusedOf, tableLeft, stepTable, runTable, takenTable, freshTableFor, freshTable, rerunTable, ringOf, noRing, placeAfter, recordMoves, answered, ringAnswer, withRegisters, registersAfter, stepRegisters};
+ghost use Rattle.runner.specs.Runs.{leftAs};
+ghost use Rattle.snapshot.specs.Snapshot.{noRecord, tableFrom, entries, counted, registersIn, recordWith, heldPlaces, heldOffsets, held, coreOf, recordAfter, acceptedOf, refusedOf, tableLeft, stepTable, runTable, takenTable, freshTableFor, freshTable, rerunTable, ringOf, refusedRing, placeAfter, recordMoves, answered, ringAnswer, withRegisters, registersAfter, stepRegisters};
 
 // A record of the core table: a core's registers and call stack, in 84 bytes of which each belongs to a field, so that what a call says of the
 // fields it says of every byte. Spare bytes are never judged, and a record that a call writes has zeros there.
@@ -407,7 +407,7 @@ pub fn ring_of(file: &[u8], trace: &[u8], t: Table, semaphore: Semaphore, given:
 }
 
 fn no_ring(number: u8, given: u8, semaphore: Semaphore) -> Ring
-    ensures { λ r. ⌜ r ≡ noRing number given semaphore ⌝ }
+    ensures { λ r. ⌜ r ≡ refusedRing number given semaphore ⌝ }
 {
     let counts = [0usize; 4];
     Ring {
@@ -507,7 +507,7 @@ pub fn step_with(
     shared: &mut [u8],
     core: u8,
 ) -> Stepped
-    ensures { λ x. ⌜ (left (x .ran) (now (buffer .exit)) (now (shared .exit)) [] ≡ stepRegisters (now (file .entry)) (now (trace .entry)) s registers (now (buffer .entry)) (now (shared .entry)) core) × (x .registers ≡ registersAfter (x .ran .state) core registers) ⌝ }
+    ensures { λ x. ⌜ (leftAs (x .ran) (now (buffer .exit)) (now (shared .exit)) [] ≡ stepRegisters (now (file .entry)) (now (trace .entry)) s registers (now (buffer .entry)) (now (shared .entry)) core) × (x .registers ≡ registersAfter (x .ran .state) core registers) ⌝ }
 {
     let k = core as usize;
     let ran = machine::step(
@@ -529,7 +529,7 @@ pub fn step_with(
 
 // A record of zeros.
 pub fn no_core() -> Core
-    ensures { λ r. ⌜ r ≡ noCore ⌝ }
+    ensures { λ r. ⌜ r ≡ noRecord ⌝ }
 {
     let registers = Registers {
         mode: protocol::BETWEEN,

@@ -15,13 +15,13 @@ use Rattle.taskset.proofs.Records.{record-inside}
 use Rattle.taskset.proofs.Exact.{keeps-rules}
 use Rattle.taskset.proofs.Accepted.{CoreFacts, core-facts}
 use Rattle.exchange.proofs.Accepted.{laid}
-use Rattle.states.specs.Set.{Set}
+use Rattle.states.specs.Set.{AcceptedSet}
 
 -- a 16-bit number of a list of bytes
 word-small : (s : List ℕ) (p : ℕ) → ((i : ℕ) → getD s i 0 < 256) → word s p ≤ 65535
 word-small s p b = omega (arith, read-lt s p 2 b)
 
-pub accepted-set : (f t : List ℕ) → ((i : ℕ) → getD f i 0 < 256) → ((i : ℕ) → getD t i 0 < 256) → judge f ≡ 0 → traceRefusal f t ≡ 0 → Set f t
+pub accepted-set : (f t : List ℕ) → ((i : ℕ) → getD f i 0 < 256) → ((i : ℕ) → getD t i 0 < 256) → judge f ≡ 0 → traceRefusal f t ≡ 0 → AcceptedSet f t
 accepted-set f t b d z y =
     record {
       file = z;

@@ -32,8 +32,8 @@ use Rattle.taskset.specs.Trace.{recordCount}
 use Rattle.taskset.proofs.Accepted.{length-listed, listed-at, sizes-length, sizes-at}
 use Rattle.states.specs.declared.State.{State}
 use Rattle.states.specs.Task.{taskOf}
-use Rattle.states.specs.Machine.{none, coreIn, stateIn, stateOf, Sized}
-use Rattle.states.specs.Set.{Set}
+use Rattle.states.specs.Machine.{noRegisters, coreIn, stateIn, stateOf, Sized}
+use Rattle.states.specs.Set.{AcceptedSet}
 use Rattle.states.specs.Fit.{entry, placesFit, offsetsFit, depthFit, exchangeFit, cyclesFit, holderFit, freedFit, executionFit, exchangesFit, coreFit, fitAt, lineFit, stateFit, stateRefusal, FitCore, Fit}
 use Rattle.states.proofs.Tables.{listed-none}
 use Rattle.states.proofs.Says.{Says, known, says-itself, says-less, says-most, says-equal, says-both, says-within, says-either, says-pick, says-agree, says-upto}
@@ -179,12 +179,12 @@ data-size f d k h e =
 
 -- ---- one core, from its rules and back
 
-module _ (f t : List ℕ) (ok : Set f t) (h : State) (d sh : List ℕ) (z : Sized f h d sh) where
+module _ (f t : List ℕ) (ok : AcceptedSet f t) (h : State) (d sh : List ℕ) (z : Sized f h d sh) where
   abbrev mine : ℕ → Core
   mine k = coreIn f (h .cores) (h .places) (h .offsets) d k
 
   abbrev Kept : ℕ → Type 0
-  Kept k = Rules f t (h .semaphore .holder) k (getD (h .cores) k none) (entry (h .places) k) (entry (h .offsets) k)
+  Kept k = Rules f t (h .semaphore .holder) k (getD (h .cores) k noRegisters) (entry (h .places) k) (entry (h .offsets) k)
 
   stack-long : (l : List ℕ) (k : ℕ) → k < cores f → length l ≡ 64 → length (part l (16 * k) 16) ≡ 16
   stack-long l k i e = length-part l (16 * k) 16 (omega (arith, ok .few))

@@ -20,7 +20,7 @@ use Rattle.processor.specs.Processor.{Decided, refused, decided, answer, contro
 use Rattle.processor.proofs.Kept.{DataFault, data-faults, instruction-laws, placed-kept}
 use Rattle.records.specs.File.{cores, dataSize, limit}
 use Rattle.taskset.specs.Judge.{codeOf}
-use Rattle.states.specs.Set.{Set}
+use Rattle.states.specs.Set.{AcceptedSet}
 use Rattle.states.specs.Task.{taskOf}
 use Rattle.states.proofs.Kept.{Bits, Executes}
 
@@ -52,7 +52,7 @@ executed-bits c r d = controlled-bits (kindAt c (r .counter)) _ _ _ d _ (data-fa
 
 -- ---- the three facts
 
-instruction-placed : (f t : List ℕ) → Set f t → (k : ℕ) → k < cores f → (c : Core) → length (c .memory) ≡ dataSize f k
+instruction-placed : (f t : List ℕ) → AcceptedSet f t → (k : ℕ) → k < cores f → (c : Core) → length (c .memory) ≡ dataSize f k
     → Placed (codeOf f k) (dataSize f k) (c .registers) (c .stack)
     → Placed (codeOf f k) (dataSize f k) (taskOf f t .instruction k c .registers) (taskOf f t .instruction k c .stack)
 unfolding taskOf instructionBy
@@ -60,7 +60,7 @@ instruction-placed f t ok k h c e p =
     let q = placed-kept (codeOf f k) (limit f k) c (ok .code k h) (rw e p) in
     rw (q .size ∙ e) at (q .placed)
 
-pub executes : (f t : List ℕ) → Set f t → Executes f t
+pub executes : (f t : List ℕ) → AcceptedSet f t → Executes f t
 unfolding taskOf
 executes f t ok =
     record {

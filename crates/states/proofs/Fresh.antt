@@ -14,7 +14,7 @@ use Rattle.taskset.specs.Judge.{codeOf}
 use Rattle.taskset.specs.Starts.{startData}
 use Rattle.taskset.specs.Fresh.{freshOf}
 use Rattle.taskset.proofs.Accepted.{fresh-of, fresh-cores, fresh-core, length-start, length-shared}
-use Rattle.states.specs.Set.{Set}
+use Rattle.states.specs.Set.{AcceptedSet}
 use Rattle.states.specs.Fit.{FitCore, Fit}
 
 pub map-at : {A B : Type 0} (g : A → B) (l : List A) (k : ℕ) (d : A) (e : B) → k < length l → getD (map g l) k e ≡ g (getD l k d)
@@ -22,7 +22,7 @@ map-at g [] k d e h = absurd (not-suc-le-zero h)
 map-at g (x ∷ l) zero d e h = refl
 map-at g (x ∷ l) (suc k) d e h = map-at g l k d e (le-of-suc-le-suc h)
 
-fresh-fit-core : (f t : List ℕ) → Set f t → (k : ℕ) → k < cores f → FitCore f t k (freshCore (startData f k))
+fresh-fit-core : (f t : List ℕ) → AcceptedSet f t → (k : ℕ) → k < cores f → FitCore f t k (freshCore (startData f k))
 fresh-fit-core f t ok k h =
     record {
       modes = omega arith;
@@ -45,7 +45,7 @@ still (inl a) (inr b) = omega arith
 still (inr a) (inl b) = omega arith
 still (inr a) (inr b) = omega arith
 
-pub fresh-fit : (f t : List ℕ) → Set f t → Fit f t (freshOf f)
+pub fresh-fit : (f t : List ℕ) → AcceptedSet f t → Fit f t (freshOf f)
 fresh-fit f t ok = record {
   table = fresh-cores f;
   each = λ k h. subst (FitCore f t k) (sym (fresh-core f k h)) (fresh-fit-core f t ok k h);

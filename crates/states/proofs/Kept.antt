@@ -18,10 +18,10 @@ use Rattle.protocol.specs.declared.Outcome.{Outcome}
 use Rattle.protocol.specs.declared.Outcome.the-variants.{Fault, Next, Call, Return}
 use Rattle.protocol.specs.Registers.{withFlag, warm, readAcquired, byteCopied, readReleased, writeAcquired, writeReleased, advanced, called, returned, cycleEnded, faulted, flagBound}
 use Rattle.protocol.specs.State.{Core, Semaphore, State, Task, Move, Sample, mode}
-use Rattle.protocol.specs.Step.{acquiredBy, released, left, readTaken, readNext, readDone, writeTaken, writeNext, writeDone, step, Taking, takingOf}
+use Rattle.protocol.specs.Step.{acquiredBy, released, uncopied, readTaken, readNext, readDone, writeTaken, writeNext, writeDone, step, Taking, takingOf}
 use Rattle.protocol.specs.Instruction.{Executed, backFrom, appliedBy, applied, halted, limited, instructionBy}
 use Rattle.protocol.specs.Variables.{readsOf, writesOf}
-use Rattle.protocol.specs.Laws.{Laws, Held}
+use Rattle.protocol.specs.Laws.{Laws, SemaphoreHeld}
 use Rattle.protocol.specs.Fair.{FitLine}
 use Rattle.protocol.proofs.Fair.{Lined, fit-step}
 use Rattle.protocol.proofs.View.{after, at, readByte, writeByte, Moves, rests, waits, takesRead, readsOn, readsLast, runs, takesWrite, writesOn, writesLast, view, inside}
@@ -35,7 +35,7 @@ use Rattle.taskset.specs.Task.{variablesOf, samplesOf, sampleAt}
 use Rattle.taskset.specs.Trace.{recordCount}
 use Rattle.states.specs.Task.{taskOf}
 use Rattle.states.specs.Fit.{FitCore, Fit}
-use Rattle.states.specs.Set.{Set}
+use Rattle.states.specs.Set.{AcceptedSet}
 use Rattle.states.proofs.Line.{records-left}
 use Rattle.taskset.proofs.Accepted.{length-listed}
 
@@ -133,11 +133,11 @@ drop-more l n x xs e =
     omega (arith, length-drop 1 (drop n l), length-drop n l)
 
 read-length : (t : Task) (k : ℕ) (s : State) → length (readByte t k s) ≡ length (at s k .memory)
-read-length t k s = copy-length (take 1 (left (at s k) (t .reads k))) (s .plant .shared) (at s k .memory)
+read-length t k s = copy-length (take 1 (uncopied (at s k) (t .reads k))) (s .plant .shared) (at s k .memory)
 
-module _ (f t : List ℕ) (ok : Set f t) (ex : Executes f t) (k : ℕ) (s : State) (fit : Fit f t s) where
+module _ (f t : List ℕ) (ok : AcceptedSet f t) (ex : Executes f t) (k : ℕ) (s : State) (fit : Fit f t s) where
   -- core k and the rest of the state after a step
-  fit-after : (c : Core) (sh : List ℕ) (h : Semaphore) → k < length (s .plant .cores) → FitCore f t k c → Held (after s k c sh h) → FitLine (taskOf f t) (after s k c sh h) → length sh ≡ 1024 → Fit f t (after s k c sh h)
+  fit-after : (c : Core) (sh : List ℕ) (h : Semaphore) → k < length (s .plant .cores) → FitCore f t k c → SemaphoreHeld (after s k c sh h) → FitLine (taskOf f t) (after s k c sh h) → length sh ≡ 1024 → Fit f t (after s k c sh h)
   fit-after c sh h i x held line long = record {
     table = length-set (s .plant .cores) k c ∙ fit .table;
     each = each (λ j y. j < cores f → FitCore f t j y) (s .plant .cores) k c i (λ z. x) (λ j n z. fit .each j z);
@@ -171,7 +171,7 @@ module _ (f t : List ℕ) (ok : Set f t) (ex : Executes f t) (k : ℕ) (s : Stat
         size = length-splice (at s k .memory) 0 (r .input) ∙ x .size;
       }
 
-  by-readsOn : (m : Move) (ms : List Move) → k < length (s .plant .cores) → mode (at s k) ≡ 1 → drop 1 (left (at s k) (readsOf (variablesOf f) k)) ≡ m ∷ ms
+  by-readsOn : (m : Move) (ms : List Move) → k < length (s .plant .cores) → mode (at s k) ≡ 1 → drop 1 (uncopied (at s k) (readsOf (variablesOf f) k)) ≡ m ∷ ms
       → length (readByte (taskOf f t) k s) ≡ length (at s k .memory) → FitCore f t k (readNext (readByte (taskOf f t) k s) (at s k))
   unfolding readNext byteCopied
   by-readsOn m ms i e d l =
@@ -278,7 +278,7 @@ module _ (f t : List ℕ) (ok : Set f t) (ex : Executes f t) (k : ℕ) (s : Stat
         size = x .size;
       }
 
-  by-writesOn : (m : Move) (ms : List Move) → k < length (s .plant .cores) → mode (at s k) ≡ 4 → drop 1 (left (at s k) (writesOf (variablesOf f) k)) ≡ m ∷ ms
+  by-writesOn : (m : Move) (ms : List Move) → k < length (s .plant .cores) → mode (at s k) ≡ 4 → drop 1 (uncopied (at s k) (writesOf (variablesOf f) k)) ≡ m ∷ ms
       → FitCore f t k (writeNext (at s k))
   unfolding writeNext byteCopied
   by-writesOn m ms i e d =
@@ -315,7 +315,7 @@ module _ (f t : List ℕ) (ok : Set f t) (ex : Executes f t) (k : ℕ) (s : Stat
         size = x .size;
       }
 
-  fit-moved : (s′ : State) (ts : List Taking) → Moves (taskOf f t) k s s′ ts → Held s′ → FitLine (taskOf f t) s′ → SameLengths s s′ → Fit f t s′
+  fit-moved : (s′ : State) (ts : List Taking) → Moves (taskOf f t) k s s′ ts → SemaphoreHeld s′ → FitLine (taskOf f t) s′ → SameLengths s s′ → Fit f t s′
   unfolding taskOf
   fit-moved s′ ts (rests z) held line same = fit
   fit-moved s′ ts (waits i z b) held line same = record { table = fit .table; each = fit .each; held = held; line = line; shared = fit .shared }
@@ -340,7 +340,7 @@ module _ (f t : List ℕ) (ok : Set f t) (ex : Executes f t) (k : ℕ) (s : Stat
   }
 
 -- Every step of every core keeps a fit state fit
-pub fit-kept : (f t : List ℕ) → Set f t → Executes f t → (k : ℕ) (s : State) → Fit f t s → Fit f t (step (taskOf f t) k s)
+pub fit-kept : (f t : List ℕ) → AcceptedSet f t → Executes f t → (k : ℕ) (s : State) → Fit f t s → Fit f t (step (taskOf f t) k s)
 fit-kept f t ok ex k s fit =
     let same = lengths (taskOf f t) (ex .laws) k s in
     fit-moved f t ok ex k s fit (step (taskOf f t) k s) (takingOf (taskOf f t) k s) (view (taskOf f t) k s) (held-step (taskOf f t) (ex .laws) k s (fit .held))

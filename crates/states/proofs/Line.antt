@@ -22,7 +22,7 @@ use Rattle.taskset.specs.Task.{sampleAt, samplesOf}
 use Rattle.taskset.specs.Trace.{recordCount}
 use Rattle.taskset.proofs.Accepted.{length-listed}
 use Rattle.states.specs.declared.State.{State}
-use Rattle.states.specs.Machine.{none}
+use Rattle.states.specs.Machine.{noRegisters}
 use Rattle.states.specs.Task.{taskOf}
 use Rattle.states.specs.declared.CoreTask.{CoreTask}
 use Rattle.states.specs.Tasks.{coreTask}
@@ -62,13 +62,13 @@ says-not b = record { tested = not-true b; holds = λ e. rw e }
 
 module _ (f t : List ℕ) (s : State) where
   abbrev pub Stands : ℕ → Type 0
-  Stands k = (k < cores f) × MayWait (recordCount f t k) (getD (s .cores) k none)
+  Stands k = (k < cores f) × MayWait (recordCount f t k) (getD (s .cores) k noRegisters)
 
   pub says-line : (xs : List ℕ) → Says (lineFitIn f t s xs) (Once xs × ((j : ℕ) → T (inLine j xs) → Stands j))
   says-line [] = record { tested = λ e. (tt, λ j h. absurd h); holds = λ x. refl }
   says-line (k ∷ ks) =
       let rest = says-line ks in
-      let all = says-both (says-not (inLine k ks)) (says-both (says-less k (cores f)) (says-both (says-may (recordCount f t k) (getD (s .cores) k none)) rest)) in
+      let all = says-both (says-not (inLine k ks)) (says-both (says-less k (cores f)) (says-both (says-may (recordCount f t k) (getD (s .cores) k noRegisters)) rest)) in
       record {
         tested = λ e.
             let x = all .tested e in
@@ -95,7 +95,7 @@ module _ (f t : List ℕ) (s : State) where
 
   -- the test of core k, the entries from i on being left
   abbrev pub entryFit : ℕ → ℕ → Bool
-  entryFit i k = both (not (inLine k (drop i entries))) (both (ltb k (cores f)) (both (mayWait (recordCount f t k) (getD (s .cores) k none)) (lineFitIn f t s (drop i entries))))
+  entryFit i k = both (not (inLine k (drop i entries))) (both (ltb k (cores f)) (both (mayWait (recordCount f t k) (getD (s .cores) k noRegisters)) (lineFitIn f t s (drop i entries))))
 
   pub fitting-none : s .semaphore .waiting ≤ 4 → Fitting 0
   fitting-none h = record { few = h; same = refl }

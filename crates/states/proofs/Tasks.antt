@@ -15,7 +15,7 @@ use Rattle.taskset.specs.Trace.{recordSize, recordCount, tracePlace, countOf, f
 use Rattle.taskset.proofs.Accepted.{core-facts, base-start}
 use Rattle.exchange.specs.Laid.{exchangeBytes}
 use Rattle.exchange.proofs.Cursors.{length-reads, length-writes}
-use Rattle.states.specs.Set.{Set}
+use Rattle.states.specs.Set.{AcceptedSet}
 use Rattle.states.specs.Tasks.{coreTask, noTask, taskAt, tasksOf}
 use Rattle.states.specs.declared.CoreTask.{CoreTask}
 
@@ -27,7 +27,7 @@ four g (suc (suc zero)) d h = refl
 four g (suc (suc (suc zero))) d h = refl
 four g (suc (suc (suc (suc k)))) d h = absurd (let y : ⊥ = omega arith in y)
 
-pub tasks-at : (f t : List ℕ) → Set f t → (l : List CoreTask) → l ≡ tasksOf f t → (k : ℕ) → k < cores f → getD l k noTask ≡ coreTask f t k
+pub tasks-at : (f t : List ℕ) → AcceptedSet f t → (l : List CoreTask) → l ≡ tasksOf f t → (k : ℕ) → k < cores f → getD l k noTask ≡ coreTask f t k
 unfolding taskAt
 tasks-at f t ok l e k h =
     ap (λ (m : List CoreTask). getD m k noTask) e
@@ -36,7 +36,7 @@ tasks-at f t ok l e k h =
 
 -- ---- what loading has found
 
-module _ (f t : List ℕ) (ok : Set f t) (k : ℕ) (h : k < cores f) where
+module _ (f t : List ℕ) (ok : AcceptedSet f t) (k : ℕ) (h : k < cores f) where
   layout-at : (l : Layout) → l ≡ layoutOf f → getD (l .core) k noCore ≡ coreAt f k
   layout-at l e =
       ap (λ (m : Layout). getD (m .core) k noCore) e

@@ -16,7 +16,7 @@ use Rattle.protocol.specs.declared.Registers.{Registers}
 use Rattle.protocol.specs.State.{Core, State as Whole, core, mode}
 use Rattle.protocol.specs.Variables.{readsOf, writesOf}
 use Rattle.protocol.specs.Step.{inLine}
-use Rattle.protocol.specs.Laws.{Held}
+use Rattle.protocol.specs.Laws.{SemaphoreHeld}
 use Rattle.protocol.specs.Fair.{FitLine}
 use Rattle.semaphore.specs.Line.{semaphoreOf}
 use Rattle.processor.specs.Placed.{Placed}
@@ -26,7 +26,7 @@ use Rattle.taskset.specs.Task.{variablesOf}
 use Rattle.taskset.specs.Trace.{recordCount}
 use Rattle.states.specs.declared.State.{State}
 use Rattle.states.specs.Task.{taskOf}
-use Rattle.states.specs.Machine.{none}
+use Rattle.states.specs.Machine.{noRegisters}
 
 -- two tests agree
 abbrev pub agree : Bool → Bool → Bool
@@ -88,7 +88,7 @@ coreFit f t holder k r place offset =
 
 -- core k of a state
 unfoldable pub fitAt : List ℕ → List ℕ → State → ℕ → Bool
-fitAt f t s k = coreFit f t (s .semaphore .holder) k (getD (s .cores) k none) (entry (s .places) k) (entry (s .offsets) k)
+fitAt f t s k = coreFit f t (s .semaphore .holder) k (getD (s .cores) k noRegisters) (entry (s .places) k) (entry (s .offsets) k)
 
 -- a core with these registers and so many input records is in mode 0 or 3, and has records left
 unfoldable pub mayWait : ℕ → Registers → Bool
@@ -98,7 +98,7 @@ mayWait count r = both (either (eqb (r .mode) betweenCycles) (eqb (r .mode) wait
 abbrev pub lineFitIn : List ℕ → List ℕ → State → List ℕ → Bool
 lineFitIn f t s [] = true
 lineFitIn f t s (k ∷ ks) =
-    both (not (inLine k ks)) (both (ltb k (cores f)) (both (mayWait (recordCount f t k) (getD (s .cores) k none)) (lineFitIn f t s ks)))
+    both (not (inLine k ks)) (both (ltb k (cores f)) (both (mayWait (recordCount f t k) (getD (s .cores) k noRegisters)) (lineFitIn f t s ks)))
 
 -- a line has at most four entries
 unfoldable pub lineFit : List ℕ → List ℕ → State → Bool
@@ -131,6 +131,6 @@ pub record FitCore (f t : List ℕ) (k : ℕ) (c : Core) : Type 0 where
 pub record Fit (f t : List ℕ) (s : Whole) : Type 0 where
   pub table : length (s .plant .cores) ≡ cores f
   pub each : (k : ℕ) → k < cores f → FitCore f t k (core (s .plant) k)
-  pub held : Held s
+  pub held : SemaphoreHeld s
   pub line : FitLine (taskOf f t) s
   pub shared : length (s .plant .shared) ≡ 1024

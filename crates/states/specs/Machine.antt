@@ -15,8 +15,8 @@ use Rattle.taskset.specs.Task.{listed, sizesOf}
 use Rattle.states.specs.declared.State.{State as Held}
 
 -- registers past the table: never reached
-abbrev pub none : Registers
-none = cleared 0 0
+abbrev pub noRegisters : Registers
+noRegisters = cleared 0 0
 
 -- the sixteen entries of core k's call stack
 abbrev pub stackIn : List ℕ → List ℕ → ℕ → Stack
@@ -24,7 +24,7 @@ stackIn places offsets k = record { places = part places (16 * k) 16; offsets = 
 
 -- core k: its record, its stack and its stretch of the data buffer
 abbrev pub coreIn : List ℕ → List Registers → List ℕ → List ℕ → List ℕ → ℕ → Core
-coreIn f cs places offsets d k = record { registers = getD cs k none; stack = stackIn places offsets k; memory = getD (split (sizesOf f) d) k [] }
+coreIn f cs places offsets d k = record { registers = getD cs k noRegisters; stack = stackIn places offsets k; memory = getD (split (sizesOf f) d) k [] }
 
 -- the state of the n cores of the file f, from its parts
 unfoldable pub stateIn : List ℕ → List Registers → List ℕ → List ℕ → Semaphore → List ℕ → List ℕ → State
@@ -44,7 +44,7 @@ pub record Sized (f : List ℕ) (h : Held) (d sh : List ℕ) : Type 0 where
 -- ---- back: a caller's state after h, with s for its n cores; entries of no core stay
 
 abbrev pub registersBack : ℕ → List Registers → State → ℕ → Registers
-registersBack n old s k = pick (ltb k n) (core (s .plant) k .registers) (getD old k none)
+registersBack n old s k = pick (ltb k n) (core (s .plant) k .registers) (getD old k noRegisters)
 
 -- entry i of all call stacks, which is entry i % 16 of core i / 16
 abbrev pub entryBack : (Stack → List ℕ) → ℕ → List ℕ → State → ℕ → ℕ

@@ -11,7 +11,7 @@ use Rattle.taskset.specs.Judge.{codePlace, codeOf, judge}
 use Rattle.taskset.specs.Trace.{blank, recordSize, recordCount, samplePlace, traceRefusal}
 use Rattle.exchange.specs.Laid.{Laid}
 
-pub record Set (f t : List ℕ) : Type 0 where
+pub record AcceptedSet (f t : List ℕ) : Type 0 where
   pub file : judge f ≡ 0
   pub trace : traceRefusal f t ≡ 0
   pub few : cores f ≤ 4

@@ -6,7 +6,7 @@ use Rattle.protocol.specs.Instruction.{instructionBy}
 use Rattle.processor.specs.Processor.{executed}
 use Rattle.records.specs.File.{limit}
 use Rattle.taskset.specs.Judge.{codeOf}
-use Rattle.taskset.specs.Task.{taskOf as taskWith}
+use Rattle.taskset.specs.Task.{taskWith}
 
 unfoldable pub taskOf : List ℕ → List ℕ → Task
 taskOf f t = taskWith f t (instructionBy (limit f) (λ k c. executed (codeOf f k) (c .registers) (c .memory)))

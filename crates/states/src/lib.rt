@@ -8,7 +8,7 @@ ghost use Rattle.records.specs.File.{cores};
 ghost use Rattle.taskset.specs.Layout.{layoutOf};
 ghost use Rattle.taskset.specs.Judge.{judge};
 ghost use Rattle.taskset.specs.Trace.{traceLayout};
-ghost use Rattle.states.specs.Set.{Set};
+ghost use Rattle.states.specs.Set.{AcceptedSet};
 ghost use Rattle.states.specs.Tasks.{noTask, coreTask, taskAt, tasksOf};
 ghost use Rattle.states.specs.Fit.{entry, placesFit, offsetsFit, depthFit, exchangeFit, cyclesFit, holderFit, freedAt, freedFit, executionFit, exchangesFit, fitAt, mayWait, lineFit, stateRefusal};
 ghost use Rattle.states.specs.Places.{AcceptedCode, MapOrNone};
@@ -68,7 +68,7 @@ pub fn core_task(
     traces: TraceLayout,
     k: usize,
 ) -> CoreTask
-    requires { ⌜ Set (now file) (now trace) × (layout ≡ layoutOf (now file)) × (traces ≡ traceLayout (now file) (now trace)) × (k < cores (now file)) ⌝ }
+    requires { ⌜ AcceptedSet (now file) (now trace) × (layout ≡ layoutOf (now file)) × (traces ≡ traceLayout (now file) (now trace)) × (k < cores (now file)) ⌝ }
     ensures { λ r. ⌜ r ≡ coreTask (now (file .entry)) (now (trace .entry)) k ⌝ }
 {
     let core = layout.core[k];
@@ -89,7 +89,7 @@ pub fn core_task(
 }
 
 fn task_at(file: &[u8], trace: &[u8], layout: Layout, traces: TraceLayout, k: usize) -> CoreTask
-    requires { ⌜ Set (now file) (now trace) × (layout ≡ layoutOf (now file)) × (traces ≡ traceLayout (now file) (now trace)) ⌝ }
+    requires { ⌜ AcceptedSet (now file) (now trace) × (layout ≡ layoutOf (now file)) × (traces ≡ traceLayout (now file) (now trace)) ⌝ }
     ensures { λ r. ⌜ r ≡ taskAt (now (file .entry)) (now (trace .entry)) k ⌝ }
 {
     if layout.cores <= k {
@@ -100,7 +100,7 @@ fn task_at(file: &[u8], trace: &[u8], layout: Layout, traces: TraceLayout, k: us
 
 // The tasks of all cores; zeros for a core number from n on.
 pub fn core_tasks(file: &[u8], trace: &[u8], layout: Layout, traces: TraceLayout) -> [CoreTask; 4]
-    requires { ⌜ Set (now file) (now trace) × (layout ≡ layoutOf (now file)) × (traces ≡ traceLayout (now file) (now trace)) ⌝ }
+    requires { ⌜ AcceptedSet (now file) (now trace) × (layout ≡ layoutOf (now file)) × (traces ≡ traceLayout (now file) (now trace)) ⌝ }
     ensures { λ r. ⌜ r ≡ tasksOf (now (file .entry)) (now (trace .entry)) ⌝ }
 {
     let t0 = task_at(file, trace, layout, traces, 0);
@@ -344,7 +344,7 @@ fn exchanges_fit(task: CoreTask, holder: u8, k: usize, r: Registers) -> bool
 
 // Core k of a state.
 fn core_fit(file: &[u8], trace: &[u8], task: CoreTask, s: State, k: usize) -> bool
-    requires { ⌜ Set (now file) (now trace) × (k < cores (now file)) × (task ≡ coreTask (now file) (now trace) k) ⌝ }
+    requires { ⌜ AcceptedSet (now file) (now trace) × (k < cores (now file)) × (task ≡ coreTask (now file) (now trace) k) ⌝ }
     ensures { λ ok. ⌜ ok ≡ fitAt (now (file .entry)) (now (trace .entry)) s k ⌝ }
 {
     let r = s.cores[k];
@@ -380,7 +380,7 @@ fn may_wait(count: usize, r: Registers) -> bool
 
 // The line names no core twice, none from n on, none that is not in mode 0 or 3, and none that is out of records.
 fn line_fit(file: &[u8], trace: &[u8], tasks: [CoreTask; 4], n: usize, s: State) -> bool
-    requires { ⌜ Set (now file) (now trace) × (tasks ≡ tasksOf (now file) (now trace)) × (n ≡ cores (now file)) ⌝ }
+    requires { ⌜ AcceptedSet (now file) (now trace) × (tasks ≡ tasksOf (now file) (now trace)) × (n ≡ cores (now file)) ⌝ }
     ensures { λ ok. ⌜ ok ≡ lineFit (now (file .entry)) (now (trace .entry)) s ⌝ }
 {
     let m = s.semaphore;
@@ -408,7 +408,7 @@ fn line_fit(file: &[u8], trace: &[u8], tasks: [CoreTask; 4], n: usize, s: State)
 
 // The refusal of a state of an accepted file with n cores, whose tasks on a sound trace are given; 0 where it is fit.
 pub fn state_refusal(file: &[u8], trace: &[u8], tasks: [CoreTask; 4], n: usize, s: State) -> u8
-    requires { ⌜ Set (now file) (now trace) × (tasks ≡ tasksOf (now file) (now trace)) × (n ≡ cores (now file)) ⌝ }
+    requires { ⌜ AcceptedSet (now file) (now trace) × (tasks ≡ tasksOf (now file) (now trace)) × (n ≡ cores (now file)) ⌝ }
     ensures { λ r. ⌜ r ≡ stateRefusal (now (file .entry)) (now (trace .entry)) s ⌝ }
 {
     if s.count as usize != n {

@@ -1,4 +1,4 @@
--- Each case of a step, from what the functions of a step are given of their core (`Ready`). In order: input records; what an instruction
+-- Each case of a step, from what the functions of a step are given of their core (`StepGiven`). In order: input records; what an instruction
 -- answers; the cases with the core's task: the record of a cycle, the bytes of an exchange, the instruction; the data of
 -- core k in the buffer of all. Assumes nothing.
 use mathlib.Core.Path.{_≡_, refl, sym, ap, ap₂, _∙_, subst, subst⁻¹}
@@ -41,7 +41,7 @@ use Rattle.states.specs.Task.{taskOf}
 use Rattle.states.specs.Tasks.{coreTask}
 use Rattle.steps.specs.Effects.{Effect, Idle, Joined, ReadAcquired, ByteRead, ReadReleased, ByteWritten, WriteReleased, backAt, effectOf, Takes, Does, Alone, Steps}
 use Rattle.steps.specs.Bytes.{Ahead, BytesRead, BytesWritten}
-use Rattle.steps.specs.Moving.{Ready}
+use Rattle.steps.specs.Moving.{StepGiven}
 use Rattle.steps.proofs.Does.{does-spent, does-joined-0, does-read-acquired, does-byte-read, does-read-released, does-byte-written, does-write-released, Leaves, does-instruction}
 
 -- ---- input records
@@ -89,7 +89,7 @@ takes-outcome r c size Returns a h l = back-takes r (r .depth) refl h l
 
 -- ---- the cases with the core's task
 
-module _ {f t : List ℕ} {k : ℕ} {c : CoreTask} {r : Registers} {d : List ℕ} (w : Ready f t k c r d) where
+module _ {f t : List ℕ} {k : ℕ} {c : CoreTask} {r : Registers} {d : List ℕ} (w : StepGiven f t k c r d) where
   -- ---- mode 0: the record of a cycle
 
   count-is : c .count ≡ recordCount f t k
@@ -294,7 +294,7 @@ stretch-set ns s m k a e h n p q l =
     ap (split ns) (ap₂ (λ (i : ℕ) (u : List ℕ). take i s ++ (m ++ u)) p (drop-drop (e - a) a s ∙ ap (λ (i : ℕ). drop i s) z) ∙ sym (flat-set ns s k m h (sym n)))
     ∙ split-flat-of ns (set (split ns s) k m) (map-set-same length (split ns s) k m [] l ∙ lengths-split ns s (omega arith))
 
-module _ {f t : List ℕ} {k : ℕ} {c : CoreTask} {r : Registers} (d : List ℕ) (w : Ready f t k c r (getD (split (sizesOf f) d) k [])) (n : length d ≡ total (sizesOf f)) where
+module _ {f t : List ℕ} {k : ℕ} {c : CoreTask} {r : Registers} (d : List ℕ) (w : StepGiven f t k c r (getD (split (sizesOf f) d) k [])) (n : length d ≡ total (sizesOf f)) where
   size-at : getD (sizesOf f) k 0 ≡ dataSize f k
   unfolding sizesOf
   size-at = listed-at (dataSize f) (cores f) k 0 (w .known)

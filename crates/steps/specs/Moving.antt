@@ -13,28 +13,28 @@ use Rattle.records.specs.File.{cores, variables, recordPlace}
 use Rattle.taskset.specs.Task.{sizesOf}
 use Rattle.states.specs.declared.CoreTask.{CoreTask}
 use Rattle.states.specs.Tasks.{coreTask}
-use Rattle.states.specs.Set.{Set}
+use Rattle.states.specs.Set.{AcceptedSet}
 use Rattle.states.specs.Fit.{FitCore}
 
 -- ---- a step
 
 -- core k of the file, with its task c, the registers r and the data d
-pub record Ready (f t : List ℕ) (k : ℕ) (c : CoreTask) (r : Registers) (d : List ℕ) : Type 0 where
-  pub accepted : Set f t
+pub record StepGiven (f t : List ℕ) (k : ℕ) (c : CoreTask) (r : Registers) (d : List ℕ) : Type 0 where
+  pub accepted : AcceptedSet f t
   pub known : k < cores f
   pub task : c ≡ coreTask f t k
   pub stack : Stack
   pub fit : FitCore f t k record { registers = r; stack = stack; memory = d }
 
 -- where the exchange of core k with the registers r stands
-pub record Aimed (f : List ℕ) (k : ℕ) (r : Registers) (cursor : Cursor) : Type 0 where
+pub record CursorAimed (f : List ℕ) (k : ℕ) (r : Registers) (cursor : Cursor) : Type 0 where
   pub reading : r .mode ≡ readingExchange → At f (4 + k) (r .exchange) cursor
   pub writing : r .mode ≡ writingExchange → At f k (r .exchange) cursor
 
 -- the same with the data buffer d of all cores
-pub record Moving (f t : List ℕ) (k : ℕ) (c : CoreTask) (r : Registers) (d sh : List ℕ) (end : ℕ) (cursor : Cursor) : Type 0 where
-  pub ready : Ready f t k c r (getD (split (sizesOf f) d) k [])
+pub record ExchangeGiven (f t : List ℕ) (k : ℕ) (c : CoreTask) (r : Registers) (d sh : List ℕ) (end : ℕ) (cursor : Cursor) : Type 0 where
+  pub ready : StepGiven f t k c r (getD (split (sizesOf f) d) k [])
   pub buffer : length d ≡ total (sizesOf f)
   pub shared : length sh ≡ 1024
-  pub aimed : Aimed f k r cursor
+  pub aimed : CursorAimed f k r cursor
   pub upto : end ≡ recordPlace f (variables f)

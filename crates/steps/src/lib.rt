@@ -19,7 +19,7 @@ ghost use Rattle.taskset.specs.Task.{sizesOf, sampleAt};
 ghost use Rattle.steps.specs.Effects.{Instructs, Exchanges, ExchangesAlone, ExchangesOn, InstructsIn, ExchangesIn};
 ghost use Rattle.steps.specs.declared.Exchange.the-variants.{Joins, WriteBegun};
 ghost use Rattle.verdict.specs.Verdict.{pick};
-ghost use Rattle.steps.specs.Moving.{Ready, Aimed, Moving};
+ghost use Rattle.steps.specs.Moving.{StepGiven, CursorAimed, ExchangeGiven};
 ghost use Rattle.steps.specs.Bytes.{Ahead, BytesMoved};
 
 // What one step besides the instructions changes, apart from memory; the run applies it to the core in its table.
@@ -61,7 +61,7 @@ pub fn take_record(
     trace: &[u8],
     d: &mut [u8],
 ) -> u32
-    requires { ⌜ Ready (now file) (now trace) k c r (now d) × (r .cycles < c .count) ⌝ }
+    requires { ⌜ StepGiven (now file) (now trace) k c r (now d) × (r .cycles < c .count) ⌝ }
     ensures { λ x. ⌜ (x ≡ sampleAt (now (file .entry)) (now (trace .entry)) k (r .cycles) .time) × (now (d .exit) ≡ splice (now (d .entry)) 0 (sampleAt (now (file .entry)) (now (trace .entry)) k (r .cycles) .input)) ⌝ }
 {
     if trace.len() == 0 {
@@ -83,7 +83,7 @@ fn begin_reading(
     d: &mut [u8],
     turn: bool,
 ) -> Exchange
-    requires { ⌜ Ready (now file) (now trace) k c r (now d) × (r .mode ≡ 0) ⌝ }
+    requires { ⌜ StepGiven (now file) (now trace) k c r (now d) × (r .mode ≡ 0) ⌝ }
     ensures { λ z. ⌜ ExchangesAlone (now (file .entry)) (now (trace .entry)) k r (now (d .entry)) turn z (now (d .exit)) ⌝ }
 {
     let cycles = r.cycles as usize;
@@ -108,7 +108,7 @@ fn read_byte(
     end: usize,
     cursor: Cursor,
 ) -> Exchange
-    requires { ⌜ Ready (now file) (now trace) k c r (now d) × (r .mode ≡ 1) × (length (now shared) ≡ 1024) × At (now file) (4 + k) (r .exchange) cursor × (end ≡ recordPlace (now file) (variables (now file))) ⌝ }
+    requires { ⌜ StepGiven (now file) (now trace) k c r (now d) × (r .mode ≡ 1) × (length (now shared) ≡ 1024) × At (now file) (4 + k) (r .exchange) cursor × (end ≡ recordPlace (now file) (variables (now file))) ⌝ }
     ensures { λ z. ⌜ ExchangesOn (now (file .entry)) (now (trace .entry)) k r (now (d .entry)) (now (shared .entry)) z (now (d .exit)) (now (shared .entry)) ⌝ }
 {
     let x = r.exchange as usize;
@@ -124,7 +124,7 @@ fn read_byte(
 
 // Mode 2: one instruction; the limit is tried first.
 fn execute(r: Registers, k: usize, c: CoreTask, file: &[u8], trace: &[u8], d: &mut [u8]) -> Outcome
-    requires { ⌜ Ready (now file) (now trace) k c r (now d) × (r .mode ≡ 2) ⌝ }
+    requires { ⌜ StepGiven (now file) (now trace) k c r (now d) × (r .mode ≡ 2) ⌝ }
     ensures { λ o. ⌜ Instructs (now (file .entry)) (now (trace .entry)) k r (now (d .entry)) o (now (d .exit)) ⌝ }
 {
     if (r.count as usize) == c.limit {
@@ -157,7 +157,7 @@ fn write_byte(
     end: usize,
     cursor: Cursor,
 ) -> Exchange
-    requires { ⌜ Ready (now file) (now trace) k c r (now d) × (r .mode ≡ 4) × (length (now shared) ≡ 1024) × At (now file) k (r .exchange) cursor × (end ≡ recordPlace (now file) (variables (now file))) ⌝ }
+    requires { ⌜ StepGiven (now file) (now trace) k c r (now d) × (r .mode ≡ 4) × (length (now shared) ≡ 1024) × At (now file) k (r .exchange) cursor × (end ≡ recordPlace (now file) (variables (now file))) ⌝ }
     ensures { λ z. ⌜ ExchangesOn (now (file .entry)) (now (trace .entry)) k r (now (d .entry)) (now (shared .entry)) z (now (d .entry)) (now (shared .exit)) ⌝ }
 {
     let x = r.exchange as usize;
@@ -184,7 +184,7 @@ fn exchange_in(
     cursor: Cursor,
     turn: bool,
 ) -> Exchange
-    requires { ⌜ Ready (now file) (now trace) k c r (now d) × (r .mode ≢ 2) × (length (now shared) ≡ 1024) × Aimed (now file) k r cursor × (end ≡ recordPlace (now file) (variables (now file))) ⌝ }
+    requires { ⌜ StepGiven (now file) (now trace) k c r (now d) × (r .mode ≢ 2) × (length (now shared) ≡ 1024) × CursorAimed (now file) k r cursor × (end ≡ recordPlace (now file) (variables (now file))) ⌝ }
     ensures { λ z. ⌜ Exchanges (now (file .entry)) (now (trace .entry)) k r (now (d .entry)) (now (shared .entry)) turn z (now (d .exit)) (now (shared .exit)) ⌝ }
 {
     let mode = r.mode;
@@ -208,7 +208,7 @@ pub fn instruction_of(
     trace: &[u8],
     buffer: &mut [u8],
 ) -> Outcome
-    requires { ⌜ Ready (now file) (now trace) k c r (getD (split (sizesOf (now file)) (now buffer)) k []) × (length (now buffer) ≡ total (sizesOf (now file))) × (r .mode ≡ 2) ⌝ }
+    requires { ⌜ StepGiven (now file) (now trace) k c r (getD (split (sizesOf (now file)) (now buffer)) k []) × (length (now buffer) ≡ total (sizesOf (now file))) × (r .mode ≡ 2) ⌝ }
     ensures { λ o. ⌜ InstructsIn (now (file .entry)) (now (trace .entry)) k r (now (buffer .entry)) o (now (buffer .exit)) ⌝ }
 {
     let a = c.base;
@@ -229,7 +229,7 @@ pub fn exchange_of(
     cursor: Cursor,
     turn: bool,
 ) -> Exchange
-    requires { ⌜ Moving (now file) (now trace) k c r (now buffer) (now shared) end cursor × (r .mode ≢ 2) ⌝ }
+    requires { ⌜ ExchangeGiven (now file) (now trace) k c r (now buffer) (now shared) end cursor × (r .mode ≢ 2) ⌝ }
     ensures { λ z. ⌜ ExchangesIn (now (file .entry)) (now (trace .entry)) k r (now (buffer .entry)) (now (shared .entry)) turn z (now (buffer .exit)) (now (shared .exit)) ⌝ }
 {
     let a = c.base;
@@ -281,7 +281,7 @@ pub fn move_bytes(
     cursor: Cursor,
     count: usize,
 ) -> Cursor
-    requires { ⌜ Moving (now file) (now trace) k c r (now buffer) (now shared) end cursor × Ahead c r count ⌝ }
+    requires { ⌜ ExchangeGiven (now file) (now trace) k c r (now buffer) (now shared) end cursor × Ahead c r count ⌝ }
     ensures { λ z. ⌜ BytesMoved (now (file .entry)) k r count z (now (buffer .entry)) (now (shared .entry)) (now (buffer .exit)) (now (shared .exit)) ⌝ }
 {
     let a = c.base;

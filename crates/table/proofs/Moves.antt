@@ -17,7 +17,7 @@ use Rattle.protocol.specs.State.{Core, Semaphore, State, Task, mode}
 use Rattle.protocol.specs.Step.{inLine, joined, turn, wait, readTaken, readNext, readDone, writeTaken, writeNext, writeDone, step, Taking, takingOf}
 use Rattle.protocol.specs.Laws.{Laws}
 use Rattle.protocol.proofs.View.{after, at, there, Idle, Wants, Moves, rests, waits, takesRead, readsOn, readsLast, runs, takesWrite, writesOn, writesLast, view}
-use Rattle.table.specs.Table.{goesOn, canMoveIn, canMove}
+use Rattle.table.specs.Table.{servedOrJoins, canMoveIn, canMove}
 
 -- ---- the tests
 
@@ -57,10 +57,10 @@ module _ (t : Task) (k : ℕ) (s : State) where
   abbrev able : Bool
   able = canMove (s .semaphore) k (length (t .samples k)) (at s k .registers)
 
-  resting : Idle t k s → (m : ℕ) → mode (at s k) ≡ m → canMoveIn m (goesOn (s .semaphore) k) (length (t .samples k)) (at s k .registers .cycles) ≡ false
+  resting : Idle t k s → (m : ℕ) → mode (at s k) ≡ m → canMoveIn m (servedOrJoins (s .semaphore) k) (length (t .samples k)) (at s k .registers .cycles) ≡ false
   unfolding pick
   resting z zero e =
-      both-not (goesOn (s .semaphore) k) (ltb (at s k .registers .cycles) (length (t .samples k)))
+      both-not (servedOrJoins (s .semaphore) k) (ltb (at s k .registers .cycles) (length (t .samples k)))
       (λ a b.
       let l : at s k .registers .cycles < length (t .samples k) = ltb-true _ _ b in
       let none : length (drop (at s k .registers .cycles) (t .samples k)) ≡ 0 = ap length (z .no-read e) in
@@ -69,7 +69,7 @@ module _ (t : Task) (k : ℕ) (s : State) where
   resting z (suc (suc zero)) e = absurd (z .still .1 e)
   resting z (suc (suc (suc zero))) e = absurd (z .no-write e)
   resting z (suc (suc (suc (suc zero)))) e = absurd (z .still .2 e)
-  resting z (suc (suc (suc (suc (suc m))))) e = sym (other-modes (suc (suc (suc (suc (suc m))))) (goesOn (s .semaphore) k) (length (t .samples k)) (at s k .registers .cycles) (λ q. let y : ⊥ = omega arith in y) (λ q. let y : ⊥ = omega arith in y)) ∙ le-ltb (suc (suc (suc (suc (suc m))))) 5 (omega arith)
+  resting z (suc (suc (suc (suc (suc m))))) e = sym (other-modes (suc (suc (suc (suc (suc m))))) (servedOrJoins (s .semaphore) k) (length (t .samples k)) (at s k .registers .cycles) (λ q. let y : ⊥ = omega arith in y) (λ q. let y : ⊥ = omega arith in y)) ∙ le-ltb (suc (suc (suc (suc (suc m))))) 5 (omega arith)
 
   -- a core that waits: it joins, or it stands in line and nothing changes
   some-left : drop (at s k .registers .cycles) (t .samples k) ≢ [] → ltb (at s k .registers .cycles) (length (t .samples k)) ≡ true
@@ -79,9 +79,9 @@ module _ (t : Task) (k : ℕ) (s : State) where
       go true e = e
       go false e = absurd (n (drop-of-length-le (t .samples k) {i = at s k .registers .cycles} (ltb-false _ _ e)))
 
-  able-is : Wants t k s → able ≡ goesOn (s .semaphore) k
+  able-is : Wants t k s → able ≡ servedOrJoins (s .semaphore) k
   unfolding canMove pick
-  able-is (inl z) = rw (z .0, some-left (z .1)) (both-swap (goesOn (s .semaphore) k) true)
+  able-is (inl z) = rw (z .0, some-left (z .1)) (both-swap (servedOrJoins (s .semaphore) k) true)
   able-is (inr z) = rw z
 
   waiting : Wants t k s → turn (s .semaphore) k ≡ false → (b : Bool) → inLine k (s .semaphore .line) ≡ b → Seen able s (wait k s)

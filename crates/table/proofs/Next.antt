@@ -21,26 +21,26 @@ use Rattle.records.specs.File.{cores}
 use Rattle.taskset.specs.Task.{sampleAt, samplesOf}
 use Rattle.taskset.specs.Trace.{recordCount}
 use Rattle.taskset.proofs.Accepted.{length-listed, listed-at}
-use Rattle.states.specs.Set.{Set}
+use Rattle.states.specs.Set.{AcceptedSet}
 use Rattle.states.specs.Fit.{Fit}
 use Rattle.states.specs.Task.{taskOf}
-use Rattle.states.specs.Machine.{none, coreIn, stateIn, stateOf}
+use Rattle.states.specs.Machine.{noRegisters, coreIn, stateIn, stateOf}
 use Rattle.states.specs.declared.State.{State as Held}
 use Rattle.states.proofs.Line.{left-records}
 use Rattle.states.proofs.Executes.{executes}
-use Rattle.table.specs.Table.{goesOn, canMoveIn, canMove, moves, roundFrom, nextMoving}
-use Rattle.table.specs.Next.{First, AtRest, DoneAt, Done, NextCore}
+use Rattle.table.specs.Table.{servedOrJoins, canMoveIn, canMove, canMoveAt, roundFrom, nextMoving}
+use Rattle.table.specs.Next.{FirstToMove, AtRest, DoneAt, Done, NextCore}
 use Rattle.table.specs.declared.Moving.the-variants.{Core, Nothing}
 use Rattle.table.proofs.Moves.{Seen, moving-changes, changing-moves, resting-stays, staying-rests, step-seen}
 use Rattle.table.proofs.Ring.{found, none-found, all-passed, distance-to, round-inside, given-last}
 
-module _ (f t : List ℕ) (h : Held) (d sh : List ℕ) (ok : Set f t) (fit : Fit f t (stateOf f h d sh)) where
+module _ (f t : List ℕ) (h : Held) (d sh : List ℕ) (ok : AcceptedSet f t) (fit : Fit f t (stateOf f h d sh)) where
   abbrev whole : State
   whole = stateOf f h d sh
 
   -- ---- a core and its step
 
-  registers-in : (k : ℕ) → k < cores f → at whole k .registers ≡ getD (h .cores) k none
+  registers-in : (k : ℕ) → k < cores f → at whole k .registers ≡ getD (h .cores) k noRegisters
   unfolding stateIn
   registers-in k l = ap (λ (c : Whole). c .registers) (listed-at (coreIn f (h .cores) (h .places) (h .offsets) d) (cores f) k absent l)
 
@@ -48,22 +48,22 @@ module _ (f t : List ℕ) (h : Held) (d sh : List ℕ) (ok : Set f t) (fit : Fit
   unfolding taskOf samplesOf
   samples-count k = length-listed (sampleAt f t k) (recordCount f t k) 0
 
-  seen : (k : ℕ) → k < cores f → Seen (moves f t h k) whole (step (taskOf f t) k whole)
-  unfolding moves stateIn
+  seen : (k : ℕ) → k < cores f → Seen (canMoveAt f t h k) whole (step (taskOf f t) k whole)
+  unfolding canMoveAt stateIn
   seen k l = rw (← samples-count k, ← registers-in k l) (step-seen (taskOf f t) k whole (executes f t ok .laws))
 
   -- the test by the mode
-  moves-in : (k : ℕ) → k < cores f → (m : ℕ) → mode (at whole k) ≡ m → moves f t h k ≡ canMoveIn m (goesOn (whole .semaphore) k) (recordCount f t k) (at whole k .registers .cycles)
-  unfolding moves canMove stateIn
+  moves-in : (k : ℕ) → k < cores f → (m : ℕ) → mode (at whole k) ≡ m → canMoveAt f t h k ≡ canMoveIn m (servedOrJoins (whole .semaphore) k) (recordCount f t k) (at whole k .registers .cycles)
+  unfolding canMoveAt canMove stateIn
   moves-in k l m e = rw (← registers-in k l, e)
 
   -- ---- the first
 
   module _ (given : ℕ) (g : given < cores f) where
-    first-core : (j : ℕ) → nextMoving f t h given ≡ Core j → First (taskOf f t) (cores f) whole given j
+    first-core : (j : ℕ) → nextMoving f t h given ≡ Core j → FirstToMove (taskOf f t) (cores f) whole given j
     unfolding nextMoving
     first-core j e =
-        let x = found (moves f t h) (roundFrom (cores f) given) (cores f) 1 j e in
+        let x = found (canMoveAt f t h) (roundFrom (cores f) given) (cores f) 1 j e in
         let i : j < cores f = rw (x .is) (round-inside (cores f) given (x .number) g) in
         record {
           inside = i;
@@ -82,12 +82,12 @@ module _ (f t : List ℕ) (h : Held) (d sh : List ℕ) (ok : Set f t) (fit : Fit
     unfolding nextMoving
     none-rest e k l =
         let x = distance-to (cores f) given k g l in
-        resting-stays (seen k l) (rw (x .there) at (none-found (moves f t h) (roundFrom (cores f) given) (cores f) 1 e (x .distance) (x .least) (omega (arith, x .most))))
+        resting-stays (seen k l) (rw (x .there) at (none-found (canMoveAt f t h) (roundFrom (cores f) given) (cores f) 1 e (x .distance) (x .least) (omega (arith, x .most))))
 
     rest-none : AtRest (taskOf f t) (cores f) whole → nextMoving f t h given ≡ Nothing
     unfolding nextMoving
     rest-none s =
-        all-passed (moves f t h) (roundFrom (cores f) given) (cores f) 1
+        all-passed (canMoveAt f t h) (roundFrom (cores f) given) (cores f) 1
         (λ e a b. let l = round-inside (cores f) given e g in staying-rests (seen (roundFrom (cores f) given e) l) (s (roundFrom (cores f) given e) l))
 
   -- where no step changes anything the semaphore is free: its holder, in an exchange, would move
@@ -99,7 +99,7 @@ module _ (f t : List ℕ) (h : Held) (d sh : List ℕ) (ok : Set f t) (fit : Fit
       there : (m : ℕ) → mode (at whole j) ≡ m → m < 5 → j < cores f
       there m q b = rw (fit .table) at (inside (whole .plant .cores) j m q b)
 
-      never : (l : j < cores f) → moves f t h j ≡ true → ⊥
+      never : (l : j < cores f) → canMoveAt f t h j ≡ true → ⊥
       never l q = absurd-bool (sym (staying-rests (seen j l) (s j l)) ∙ q)
 
       go : Holding (at whole j) → ⊥
@@ -118,10 +118,10 @@ module _ (f t : List ℕ) (h : Held) (d sh : List ℕ) (ok : Set f t) (fit : Fit
       low : y < cores f
       low = rw (fit .table) at (fit .line .below y here)
 
-      never : moves f t h y ≡ true → ⊥
+      never : canMoveAt f t h y ≡ true → ⊥
       never q = absurd-bool (sym (staying-rests (seen y low) (s y low)) ∙ q)
 
-      goes : goesOn (whole .semaphore) y ≡ true
+      goes : servedOrJoins (whole .semaphore) y ≡ true
       goes = rw (free s (whole .semaphore .holder) refl, e, eq-eqb y y refl)
 
       go : (mode (at whole y) ≡ 0) ⊎ (mode (at whole y) ≡ 3) → ⊥
@@ -129,10 +129,10 @@ module _ (f t : List ℕ) (h : Held) (d sh : List ℕ) (ok : Set f t) (fit : Fit
       go (inr q) = never (moves-in y low 3 q ∙ goes)
 
   -- so whoever would have the semaphore takes it
-  go-on : AtRest (taskOf f t) (cores f) whole → (k : ℕ) → goesOn (whole .semaphore) k ≡ true
+  go-on : AtRest (taskOf f t) (cores f) whole → (k : ℕ) → servedOrJoins (whole .semaphore) k ≡ true
   go-on s k = go (inLine k (whole .semaphore .line)) refl
     where
-      go : (b : Bool) → inLine k (whole .semaphore .line) ≡ b → goesOn (whole .semaphore) k ≡ true
+      go : (b : Bool) → inLine k (whole .semaphore .line) ≡ b → servedOrJoins (whole .semaphore) k ≡ true
       go true e = absurd (nobody s (whole .semaphore .line) refl k (tested _ e))
       go false e = rw e (either-true (turn (whole .semaphore) k))
 
@@ -140,7 +140,7 @@ module _ (f t : List ℕ) (h : Held) (d sh : List ℕ) (ok : Set f t) (fit : Fit
   unfolding pick
   rest-done s k l = go (mode (at whole k)) refl
     where
-      no : moves f t h k ≡ true → ⊥
+      no : canMoveAt f t h k ≡ true → ⊥
       no q = absurd-bool (sym (staying-rests (seen k l) (s k l)) ∙ q)
 
       spent : mode (at whole k) ≡ 0 → (b : Bool) → ltb (at whole k .registers .cycles) (recordCount f t k) ≡ b → at whole k .registers .cycles ≡ recordCount f t k
@@ -162,11 +162,11 @@ module _ (f t : List ℕ) (h : Held) (d sh : List ℕ) (ok : Set f t) (fit : Fit
   unfolding pick
   done-rest x k l = resting-stays (seen k l) (go (x k l))
     where
-      go : DoneAt f t whole k → moves f t h k ≡ false
+      go : DoneAt f t whole k → canMoveAt f t h k ≡ false
       go (inl e) = moves-in k l 5 e
       go (inr y) =
           moves-in k l 0 (y .0)
-          ∙ both-not (goesOn (whole .semaphore) k) (ltb (at whole k .registers .cycles) (recordCount f t k))
+          ∙ both-not (servedOrJoins (whole .semaphore) k) (ltb (at whole k .registers .cycles) (recordCount f t k))
           (λ a b. let left : at whole k .registers .cycles < recordCount f t k = ltb-true _ _ b in omega (arith, y .1))
 
   -- ---- all of it

@@ -12,11 +12,11 @@ use Rattle.records.specs.File.{cores}
 use Rattle.taskset.specs.Trace.{recordCount}
 use Rattle.states.specs.Task.{taskOf}
 use Rattle.states.specs.declared.State.{State as Held}
-use Rattle.table.specs.Table.{moves, roundFrom, nextMoving}
+use Rattle.table.specs.Table.{canMoveAt, roundFrom, nextMoving}
 use Rattle.table.specs.declared.Moving.the-variants.{Core, Nothing}
 
 -- Of n cores, j is the first after the given one, round the ring and that one last, whose step changes the state s
-pub record First (t : Task) (n : ℕ) (s : State) (given j : ℕ) : Type 0 where
+pub record FirstToMove (t : Task) (n : ℕ) (s : State) (given j : ℕ) : Type 0 where
   pub inside : j < n
   pub changes : step t j s ≢ s
   -- so many cores on from the given one; the steps of those before change nothing
@@ -43,9 +43,9 @@ Done f t s = (k : ℕ) → k < cores f → DoneAt f t s k
 -- The file f on the trace t, a caller's state h, which is s with the lent memories, and a given core.
 pub record NextCore (f t : List ℕ) (h : Held) (s : State) (given : ℕ) : Type 0 where
   -- A core counts as moving exactly if its step changes something.
-  pub moves-exactly : (k : ℕ) → k < cores f → (moves f t h k ≡ true) ↔ (step (taskOf f t) k s ≢ s)
+  pub moves-exactly : (k : ℕ) → k < cores f → (canMoveAt f t h k ≡ true) ↔ (step (taskOf f t) k s ≢ s)
   -- A core that is named is the first.
-  pub next-is-first : (j : ℕ) → nextMoving f t h given ≡ Core j → First (taskOf f t) (cores f) s given j
+  pub next-is-first : (j : ℕ) → nextMoving f t h given ≡ Core j → FirstToMove (taskOf f t) (cores f) s given j
   -- "None" says that no step changes anything, and that every core is stopped or out of records: these three are the same.
   pub none-means-rest : (nextMoving f t h given ≡ Nothing) ↔ AtRest (taskOf f t) (cores f) s
   pub none-means-done : (nextMoving f t h given ≡ Nothing) ↔ Done f t s

@@ -15,15 +15,15 @@ use Rattle.records.specs.File.{cores}
 use Rattle.taskset.specs.Task.{listed}
 use Rattle.taskset.specs.Trace.{recordCount}
 use Rattle.states.specs.declared.State.{State}
-use Rattle.states.specs.Machine.{none}
+use Rattle.states.specs.Machine.{noRegisters}
 use Rattle.table.specs.declared.Moving.{Moving}
 use Rattle.table.specs.declared.Moving.the-variants.{Core, Nothing}
 
 -- ---- a core
 
 -- document 02, 2.4: a step of core k that would have the semaphore changes something if it is its turn, and also if it is not in line yet: joining is a change
-abbrev pub goesOn : Semaphore → ℕ → Bool
-goesOn m k = either (turn m k) (not (inLine k (m .line)))
+abbrev pub servedOrJoins : Semaphore → ℕ → Bool
+servedOrJoins m k = either (turn m k) (not (inLine k (m .line)))
 
 -- by the mode: between cycles where that is so and records are left, waiting to write where that is so, in every other mode until it is stopped
 abbrev pub canMoveIn : ℕ → Bool → ℕ → ℕ → Bool
@@ -32,11 +32,11 @@ canMoveIn m goes count cycles =
 
 -- core k with these registers and so many input records, at a semaphore
 unfoldable pub canMove : Semaphore → ℕ → ℕ → Registers → Bool
-canMove m k count r = canMoveIn (r .mode) (goesOn m k) count (r .cycles)
+canMove m k count r = canMoveIn (r .mode) (servedOrJoins m k) count (r .cycles)
 
 -- core k of a state
-unfoldable pub moves : List ℕ → List ℕ → State → ℕ → Bool
-moves f t s k = canMove (semaphoreOf (s .semaphore)) k (recordCount f t k) (getD (s .cores) k none)
+unfoldable pub canMoveAt : List ℕ → List ℕ → State → ℕ → Bool
+canMoveAt f t s k = canMove (semaphoreOf (s .semaphore)) k (recordCount f t k) (getD (s .cores) k noRegisters)
 
 -- ---- the table
 
@@ -51,4 +51,4 @@ firstMoving moving (k ∷ ks) = pick (moving k) (Core k) (firstMoving moving ks)
 
 -- the cores from the first after the given one to the given one itself
 unfoldable pub nextMoving : List ℕ → List ℕ → State → ℕ → Moving
-nextMoving f t s given = firstMoving (moves f t s) (listed (roundFrom (cores f) given) (cores f) 1)
+nextMoving f t s given = firstMoving (canMoveAt f t s) (listed (roundFrom (cores f) given) (cores f) 1)

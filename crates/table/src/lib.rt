@@ -2,10 +2,10 @@
 ghost use mathlib.Core.Path.{_≡_};
 ghost use Prim.Native.Nat.{_<_};
 ghost use Rattle.records.specs.File.{cores};
-ghost use Rattle.states.specs.Set.{Set};
+ghost use Rattle.states.specs.Set.{AcceptedSet};
 ghost use Rattle.states.specs.Tasks.{tasksOf};
 ghost use Rattle.semaphore.specs.Line.{semaphoreOf};
-ghost use Rattle.table.specs.Table.{goesOn, canMove, nextMoving};
+ghost use Rattle.table.specs.Table.{servedOrJoins, canMove, nextMoving};
 use protocol::Registers;
 use semaphore::Semaphore;
 use states::CoreTask;
@@ -19,7 +19,7 @@ pub enum Moving {
 
 // A step of core k that would have the semaphore changes something: it is its turn, or it is not in line yet.
 fn goes_on(m: Semaphore, k: u8) -> bool
-    ensures { λ ok. ⌜ ok ≡ goesOn (semaphoreOf m) k ⌝ }
+    ensures { λ ok. ⌜ ok ≡ servedOrJoins (semaphoreOf m) k ⌝ }
 {
     if semaphore::turn(m, k) {
         return true;
@@ -52,7 +52,7 @@ pub fn next_moving(
     s: State,
     given: u8,
 ) -> Moving
-    requires { ⌜ Set (now file) (now trace) × (tasks ≡ tasksOf (now file) (now trace)) × (n ≡ cores (now file)) × (given < n) ⌝ }
+    requires { ⌜ AcceptedSet (now file) (now trace) × (tasks ≡ tasksOf (now file) (now trace)) × (n ≡ cores (now file)) × (given < n) ⌝ }
     ensures { λ r. ⌜ r ≡ nextMoving (now (file .entry)) (now (trace .entry)) s given ⌝ }
 {
     let m = s.semaphore;

@@ -16,14 +16,14 @@ use Rattle.memory.proofs.Laws.{length-part, length-splice}
 use Rattle.memory.proofs.Cores.{length-flat}
 use Rattle.protocol.specs.State.{Core, absent, core}
 use Rattle.protocol.specs.Variables.{Variable, local, readsIt, writesIt, In, Pairwise, Accepted}
-use Rattle.protocol.specs.Laws.{Fresh}
+use Rattle.protocol.specs.Laws.{FreshStart}
 use Rattle.protocol.specs.Fresh.{freshCore, zeros}
 use Rattle.protocol.proofs.Instance.{fresh-is}
 use Rattle.code.specs.declared.Profile.the-variants.{Full}
 use Rattle.code.specs.Code.{judgeCode}
 use Rattle.code.proofs.Exact.{accepted-code}
 use Rattle.records.specs.File.{cores, dataSize, variables, recordPlace, variableAt}
-use Rattle.records.specs.Records.{named}
+use Rattle.records.specs.Records.{usedBy}
 use Rattle.records.specs.Rules.{CoreRules, VariableRules}
 use Rattle.verdict.proofs.Truth.{either-left}
 use Rattle.taskset.specs.Judge.{codePlace, codeOf, startPlace, judge}
@@ -154,7 +154,7 @@ record-in-file f z i h = omega (arith, records-inside f (keeps-rules f z .ends))
 -- ---- the fresh state and the variables, as crate `protocol` asks for them
 
 -- the fresh state is one that every list of steps may start from
-pub fresh-of : (f : List ℕ) → Fresh (freshOf f)
+pub fresh-of : (f : List ℕ) → FreshStart (freshOf f)
 fresh-of f = fresh-is (startsOf f) (startShared f)
 
 -- it has n cores, and core k has its start values
@@ -204,7 +204,7 @@ variables-accepted f z =
       fits-shared = λ v m. subst (λ (n : ℕ). v .place + v .width ≤ n) (sym (length-shared f)) (rules v m .in-shared);
       fits-local = λ v m k t.
           let r = rules v m in
-          let n : T (named k v) = either-left (readsIt k v) (writesIt k v) t in
+          let n : T (usedBy k v) = either-left (readsIt k v) (writesIt k v) t in
           subst (λ (l : ℕ). local k v + v .width ≤ l) (sym (fresh-data f k (r .known k n))) (r .in-data k n);
       clear-shared = pairwise _ (variableAt f) (variables f) 0 (λ a b p q s. w .no-overlap a b q (omega arith) .in-shared);
       clear-local = λ k.

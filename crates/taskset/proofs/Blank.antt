@@ -16,7 +16,7 @@ use Rattle.records.specs.File.{cores, inputSize}
 use Rattle.taskset.specs.Trace.{blank, recordSize, tracePlace, recordCount, samplePlace, traceRefusal}
 use Rattle.taskset.specs.Task.{listed, storedSample, blankSample, sampleAt, samplesOf}
 use Rattle.taskset.specs.Rules.{Records, none, one, Parts, end, core}
-use Rattle.taskset.specs.Blank.{writtenFrom, written, BlankTrace}
+use Rattle.taskset.specs.Blank.{writtenFrom, writtenTrace, BlankTrace}
 use Rattle.taskset.proofs.Traced.{trace-exactly}
 
 -- ---- lists of zeros
@@ -58,7 +58,7 @@ written-parts f (suc n) k = core 1 0 (zeros (recordSize f k)) record-of-zeros (w
 
 module _ (f : List ℕ) where
   w : List ℕ
-  w = written f
+  w = writtenTrace f
 
   module _ (k m : ℕ) (stands : drop (tracePlace f w k) w ≡ writtenFrom f (suc m) k) where
     counted : word w (tracePlace f w k) ≡ 1

@@ -20,14 +20,14 @@ use Rattle.records.specs.File.{cores, corePlace, dataSize, countPlace, variable
 use Rattle.records.specs.Records.{present, coreRefusal, variableRefusal, overlap, pairRefusal, overlapRefusal}
 use Rattle.records.specs.Rules.{CoreRulesFor, VariableRules, Apart}
 use Rattle.records.proofs.Exact.{core-rules, core-ok, variable-rules, variable-ok, apart, overlap-not}
-use Rattle.taskset.specs.Judge.{marked, isOld, isNew, isMark, headRefusal, variablesRefusal, codePlace, codeOf, codeRefusal, sectionRefusal, startSections, startPlace, pairPlace, startIn, leastIn, pairOk, startPairRefusal, pairsRefusal, startRefusal, fileEnd, startsRefusal, codesRefusal, judgeFor, judge}
+use Rattle.taskset.specs.Judge.{hasMark, isOld, isNew, isMark, headRefusal, variablesRefusal, codePlace, codeOf, codeRefusal, sectionRefusal, startSections, startPlace, pairPlace, startIn, leastIn, pairOk, startPairRefusal, pairsRefusal, startRefusal, fileEnd, startsRefusal, codesRefusal, judgeFor, judge}
 use Rattle.taskset.specs.Rules.{Mark, PairRules, WellFormedFor, WellFormed}
 
 -- ---- the mark
 
 module _ (m n o p : ℕ) where
-  pub marked-is : (f : List ℕ) → 4 ≤ length f → marked (m ∷ n ∷ o ∷ p ∷ []) f ≡ true → take 4 f ≡ m ∷ n ∷ o ∷ p ∷ []
-  unfolding marked
+  pub marked-is : (f : List ℕ) → 4 ≤ length f → hasMark (m ∷ n ∷ o ∷ p ∷ []) f ≡ true → take 4 f ≡ m ∷ n ∷ o ∷ p ∷ []
+  unfolding hasMark
   marked-is [] h z = absurd (let y : ⊥ = omega arith in y)
   marked-is (a ∷ []) h z = absurd (let y : ⊥ = omega arith in y)
   marked-is (a ∷ b ∷ []) h z = absurd (let y : ⊥ = omega arith in y)
@@ -38,8 +38,8 @@ module _ (m n o p : ℕ) where
       let w = both-true (eqb c o) _ (y .1) in
       rw (eqb-true a m (x .0), eqb-true b n (y .0), eqb-true c o (w .0), eqb-true d p (w .1))
 
-  pub is-marked : (f : List ℕ) → take 4 f ≡ m ∷ n ∷ o ∷ p ∷ [] → marked (m ∷ n ∷ o ∷ p ∷ []) f ≡ true
-  unfolding marked
+  pub is-marked : (f : List ℕ) → take 4 f ≡ m ∷ n ∷ o ∷ p ∷ [] → hasMark (m ∷ n ∷ o ∷ p ∷ []) f ≡ true
+  unfolding hasMark
   is-marked [] e = absurd (let y : _≡_ {A = ℕ} 0 1 = cc in let z : ⊥ = omega arith in z)
   is-marked (a ∷ []) e = absurd (let y : _≡_ {A = ℕ} 0 1 = cc in let z : ⊥ = omega arith in z)
   is-marked (a ∷ b ∷ []) e = absurd (let y : _≡_ {A = ℕ} 0 1 = cc in let z : ⊥ = omega arith in z)
@@ -64,7 +64,7 @@ is-mark f (inr e) = rw (is-marked 77 67 83 50 f e, either-true (isOld f))
 
 -- no file has both
 pub old-not-new : (f : List ℕ) → isOld f ≡ true → isNew f ≡ false
-unfolding marked
+unfolding hasMark
 old-not-new f e =
     let a = both-true (eqb (byte f 0) 77) _ e in
     let b = both-true (eqb (byte f 1) 67) _ (a .1) in

@@ -21,7 +21,7 @@ use Rattle.code.specs.Code.{judgeCodeFor}
 use Rattle.protocol.specs.Variables.{Variable, local}
 use Rattle.records.specs.File.{cores, corePlace, dataSize, inputSize, countPlace, variables, recordPlace, variableAt}
 use Rattle.records.specs.Records.{present, coreOk, coreRefusal, placeOk, partOk, partsOk, variableOk, variableRefusal, overlap, pairRefusal, overlapRefusal}
-use Rattle.taskset.specs.Judge.{oldMark, newMark, marked, isNew, isMark, headRefusal, variablesRefusal, codePlace, codeRefusal, sectionRefusal, startSections, startPlace, pairPlace, leastIn, pairOk, startPairRefusal, pairsRefusal, startRefusal, fileEnd, startsRefusal, codesRefusal, judgeFor, judge}
+use Rattle.taskset.specs.Judge.{oldMark, newMark, hasMark, isNew, isMark, headRefusal, variablesRefusal, codePlace, codeRefusal, sectionRefusal, startSections, startPlace, pairPlace, leastIn, pairOk, startPairRefusal, pairsRefusal, startRefusal, fileEnd, startsRefusal, codesRefusal, judgeFor, judge}
 use Rattle.taskset.specs.Transit.{InTransitFor, InTransit}
 use Rattle.taskset.proofs.Laws.{records-present}
 
@@ -113,8 +113,8 @@ module _ (o : Profile) (g b : List ℕ) where
 
   -- ---- the mark and the cores
 
-  marked-same : (m : List ℕ) → 4 ≤ length g → marked m (g ++ b) ≡ marked m g
-  unfolding marked
+  marked-same : (m : List ℕ) → 4 ≤ length g → hasMark m (g ++ b) ≡ hasMark m g
+  unfolding hasMark
   marked-same m h = rw (byte-same 0 (omega arith), byte-same 1 (omega arith), byte-same 2 (omega arith), byte-same 3 (omega arith))
 
   mark-same : 4 ≤ length g → isMark (g ++ b) ≡ isMark g

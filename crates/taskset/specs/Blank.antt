@@ -14,8 +14,8 @@ writtenFrom f zero k = []
 writtenFrom f (suc n) k = 1 ∷ 0 ∷ (replicate (recordSize f k) 0 ++ writtenFrom f n (suc k))
 
 -- the trace that writes them out
-abbrev pub written : List ℕ → List ℕ
-written f = writtenFrom f (cores f) 0
+abbrev pub writtenTrace : List ℕ → List ℕ
+writtenTrace f = writtenFrom f (cores f) 0
 
 pub record BlankTrace (f : List ℕ) : Type 0 where
   -- no longer met with 22
@@ -23,5 +23,5 @@ pub record BlankTrace (f : List ℕ) : Type 0 where
   -- one record for every core, with time 0 and all input bytes 0
   pub means : (k : ℕ) → samplesOf f [] k ≡ blankSample f k ∷ []
   -- the trace that writes them out is accepted too, and has the same records
-  pub written-sound : traceRefusal f (written f) ≡ 0
-  pub alike : (k : ℕ) → k < cores f → samplesOf f (written f) k ≡ samplesOf f [] k
+  pub written-sound : traceRefusal f (writtenTrace f) ≡ 0
+  pub alike : (k : ℕ) → k < cores f → samplesOf f (writtenTrace f) k ≡ samplesOf f [] k

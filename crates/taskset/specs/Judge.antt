@@ -24,15 +24,15 @@ abbrev pub newMark : List ℕ
 newMark = 77 ∷ 67 ∷ 83 ∷ 50 ∷ []
 
 -- the file begins with these four bytes
-unfoldable pub marked : List ℕ → List ℕ → Bool
-marked m f =
+unfoldable pub hasMark : List ℕ → List ℕ → Bool
+hasMark m f =
     both (eqb (byte f 0) (byte m 0)) (both (eqb (byte f 1) (byte m 1)) (both (eqb (byte f 2) (byte m 2)) (eqb (byte f 3) (byte m 3))))
 
 abbrev pub isOld : List ℕ → Bool
-isOld f = marked oldMark f
+isOld f = hasMark oldMark f
 
 abbrev pub isNew : List ℕ → Bool
-isNew f = marked newMark f
+isNew f = hasMark newMark f
 
 abbrev pub isMark : List ℕ → Bool
 isMark f = either (isOld f) (isNew f)

@@ -35,8 +35,8 @@ unfoldable pub samplesOf : List ℕ → List ℕ → ℕ → List Sample
 samplesOf f t k = listed (sampleAt f t k) (recordCount f t k) 0
 
 -- the task, with what one instruction does to a core
-abbrev pub taskOf : List ℕ → List ℕ → (ℕ → Core → Core) → Task
-taskOf f t instruction = record {
+abbrev pub taskWith : List ℕ → List ℕ → (ℕ → Core → Core) → Task
+taskWith f t instruction = record {
   samples = samplesOf f t;
   reads = readsOf (variablesOf f);
   writes = writesOf (variablesOf f);

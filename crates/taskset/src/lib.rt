@@ -4,7 +4,7 @@ ghost use mathlib.Core.Path.{_≡_};
 ghost use Prim.Native.Nat.{ℕ, _+_, _*_, _-_, _<_, _≤_};
 ghost use lib.ListN.{length};
 ghost use Rattle.records.specs.File.{cores, variables};
-ghost use Rattle.taskset.specs.Judge.{marked, isOld, isNew, isMark, headRefusal, variablesRefusal, codePlace, sectionRefusal, startSections, startPlace, pairsRefusal, startsRefusal, codesRefusal, judgeFor, judge};
+ghost use Rattle.taskset.specs.Judge.{hasMark, isOld, isNew, isMark, headRefusal, variablesRefusal, codePlace, sectionRefusal, startSections, startPlace, pairsRefusal, startsRefusal, codesRefusal, judgeFor, judge};
 ghost use Rattle.taskset.specs.Layout.{basePlace, noCore, coreLayout, layoutOf, noLayout, loadFor, loadOf};
 ghost use Rattle.memory.specs.Memory.{total};
 ghost use Rattle.taskset.specs.Task.{sizesOf};
@@ -20,7 +20,7 @@ pub const NEW_MARK: [u8; 4] = *b"MCS2";
 // Whether a file begins with this mark.
 fn has_mark(f: &[u8], mark: &[u8; 4]) -> bool
     requires { ⌜ 4 ≤ length (now f) ⌝ }
-    ensures { λ r. ⌜ r ≡ marked (now (mark .entry)) (now (f .entry)) ⌝ }
+    ensures { λ r. ⌜ r ≡ hasMark (now (mark .entry)) (now (f .entry)) ⌝ }
 {
     if f[0] != mark[0] {
         return false;

@@ -1,7 +1,7 @@
 // Runs every vector of the files in data/ through the typed commands and conversions: the published float vectors, comparisons of special floats,
 // whole numbers at their limits, conversions between every two number types, and packed decimal. For each file and command it prints how many vectors were compared and how many differed.
 ghost use Prim.Native.Nat.{_<_};
-ghost use Rattle.commands.specs.Attempts.{Given};
+ghost use Rattle.commands.specs.Attempts.{OperandsGiven};
 use commands::Operands;
 use commands::Performed;
 use conversions::Conversion;
@@ -143,7 +143,7 @@ enum Outcome {
 
 // The typed command with this code byte.
 fn perform(code: u8, d: &mut [u8], o: Operands) -> Performed
-    requires { ⌜ Given code o ⌝ }
+    requires { ⌜ OperandsGiven code o ⌝ }
 {
     match code {
         16 => commands::add_at(d, o),

@@ -55,8 +55,8 @@ unfitState = 23
 abbrev pub notAbove : ℕ
 notAbove = 25
 
-abbrev pub tooLong : ℕ
-tooLong = 26
+abbrev pub overCount : ℕ
+overCount = 26
 
 -- the span, the places for answers, the run (2.11)
 abbrev pub badSpan : ℕ

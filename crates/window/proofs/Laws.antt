@@ -27,7 +27,7 @@ use Rattle.window.specs.declared.Shown.{Shown}
 use Rattle.window.specs.declared.Shown.the-variants.{Code, Data}
 use Rattle.window.specs.declared.Place.{Place}
 use Rattle.window.specs.declared.Found.{Found}
-use Rattle.window.specs.Window.{shownOf, placeOf, placeIn, inside, windowRefusal, windowOf, windowFound, windowAt, windowCall}
+use Rattle.window.specs.Window.{shownOf, shownPlace, placeIn, inside, windowRefusal, windowOf, windowFound, windowAt, windowCall}
 
 -- ---- places
 

@@ -27,12 +27,12 @@ shownOf Code f d k = codeOf f k
 shownOf Data f d k = getD (split (sizesOf f) d) k []
 
 -- where it stands in the file, or in the data buffer, and how long it is
-abbrev pub placeOf : Shown → CoreLayout → Place
-placeOf Code c = record { base = c .code; size = c .length }
-placeOf Data c = record { base = c .base; size = c .size }
+abbrev pub shownPlace : Shown → CoreLayout → Place
+shownPlace Code c = record { base = c .code; size = c .length }
+shownPlace Data c = record { base = c .base; size = c .size }
 
 abbrev pub placeIn : List ℕ → Shown → ℕ → Place
-placeIn f shown k = placeOf shown (coreLayout f k)
+placeIn f shown k = shownPlace shown (coreLayout f k)
 
 -- ---- "34, no such core (here in place of 20), or a stretch that leaves the core's code or data; it follows the file's refusals and 21"
 

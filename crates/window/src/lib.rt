@@ -7,7 +7,7 @@ ghost use lib.ListN.{length, getD};
 ghost use Rattle.taskset.specs.Judge.{judge};
 ghost use Rattle.taskset.specs.Layout.{layoutOf, coreLayout};
 ghost use Rattle.window.specs.declared.Shown.the-variants.{Code, Data};
-ghost use Rattle.window.specs.Window.{placeOf, windowRefusal, windowFound, windowOf};
+ghost use Rattle.window.specs.Window.{shownPlace, windowRefusal, windowFound, windowOf};
 
 // Which of a core's two memories is shown.
 pub enum Shown {
@@ -35,7 +35,7 @@ const OUTSIDE: u8 = 34;
 
 fn place_of(shown: Shown, file: &[u8], layout: Layout, k: usize) -> Place
     requires { ⌜ (layout ≡ layoutOf (now file)) × (k < 4) ⌝ }
-    ensures { λ r. ⌜ r ≡ placeOf shown (coreLayout (now (file .entry)) k) ⌝ }
+    ensures { λ r. ⌜ r ≡ shownPlace shown (coreLayout (now (file .entry)) k) ⌝ }
 {
     let c = layout.core[k];
     match shown {

@@ -1,6 +1,6 @@
 -- `conversions::nearest_whole` meets its contract: a pattern with a shift above 1085 is 2 ^ 64 at least; any other is its digits, rounded. Assumes nothing.
 use denote.Floats.{passes}
-use Rattle.conversions.specs.Conversions.{nearestWhole, held, withSign}
+use Rattle.conversions.specs.Conversions.{nearestWhole, heldIn, withSign}
 use Rattle.conversions.specs.Digits.{digitsIn, shiftIn}
 use lib.Dec.{leb}
 use lib.Ieee.Nearest.{closest}
@@ -48,7 +48,7 @@ returns-3 c =
     let ej = c .before .before .before .before .shift-of .ensures in
     let h : shiftIn binary64 p ≤ 1085 = subst (λ (j : ℕ). j ≤ 1085) ej (c .before .before .before .if2 .left) in
     c .held-at .ensures
-    ∙ ap (λ (n : ℕ). held (s .args .signed) (s .args .w) (withSign (leb (2 ^ 63) p) n)) (c .before .nearest-scaled .ensures ∙ ap (λ (d : ℕ). closest (d * 2 ^ c .before .before .before .before .shift-of .result) (2 ^ 1074)) (c .before .before .digits-of .ensures) ∙ ap (λ (j : ℕ). closest (digitsIn binary64 p * 2 ^ j) (2 ^ 1074)) ej)
+    ∙ ap (λ (n : ℕ). heldIn (s .args .signed) (s .args .w) (withSign (leb (2 ^ 63) p) n)) (c .before .nearest-scaled .ensures ∙ ap (λ (d : ℕ). closest (d * 2 ^ c .before .before .before .before .shift-of .result) (2 ^ 1074)) (c .before .before .digits-of .ensures) ∙ ap (λ (j : ℕ). closest (digitsIn binary64 p * 2 ^ j) (2 ^ 1074)) ej)
     ∙ H.nearest-of (s .args .signed) (s .args .w) x (leb (2 ^ 63) p) (digitsIn binary64 p * 2 ^ shiftIn binary64 p) 1074 (H.by-pattern x (ofBits-toBits binary64 x (passes _ (s .good .1 .1 .0 .1))) h)
 
 pub nearest-whole-spec : {M : Type 1} → statement M

@@ -1,5 +1,5 @@
 -- `conversions::to_whole` meets its contract: each kind is a clause of the definition; a REAL is widened first, which keeps its value. Assumes nothing.
-use Rattle.conversions.specs.Conversions.{toWhole, held, withSign, nearestWhole}
+use Rattle.conversions.specs.Conversions.{toWhole, heldIn, withSign, nearestWhole}
 use mir.Val.{toZ, ofZ}
 use mir.Syntax.{w64}
 use lib.Signed.{ltZ}
@@ -25,9 +25,9 @@ returns-2 c =
     let z = c .before .before .before .v .given .0 .0 in
     let r = read64 z (c .before .before .known-told .given .0 .1) in
     c .held-at .ensures
-    ∙ ap (λ (n : ℕ). held (s .args .signed) (s .args .w) (withSign (ltZ (toZ w64 (ofZ w64 z)) (pos 0)) n)) (c .before .magnitude .ensures)
-    ∙ ap (λ (y : ℤ). held (s .args .signed) (s .args .w) (withSign (ltZ y (pos 0)) (natAbs y))) r
-    ∙ ap (held (s .args .signed) (s .args .w)) (H.sign-and-size z)
+    ∙ ap (λ (n : ℕ). heldIn (s .args .signed) (s .args .w) (withSign (ltZ (toZ w64 (ofZ w64 z)) (pos 0)) n)) (c .before .magnitude .ensures)
+    ∙ ap (λ (y : ℤ). heldIn (s .args .signed) (s .args .w) (withSign (ltZ y (pos 0)) (natAbs y))) r
+    ∙ ap (heldIn (s .args .signed) (s .args .w)) (H.sign-and-size z)
     ∙ sym (ap (toWhole (s .args .signed) (s .args .w)) (c .before .before .before .v .given .1))
 
 returns-3 : tie.Need-returns-3

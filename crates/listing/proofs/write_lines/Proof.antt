@@ -5,7 +5,7 @@ use Prim.Native.Nat.{ℕ, _+_, _-_, _*_, _≤_, _<_, min}
 use mathlib.Core.Path.{_≡_, refl, sym, ap, _∙_}
 use native.Mathlib.Omega.{arith}
 use lib.ListN.{length, take, drop, getD}
-use Rattle.states.specs.Machine.{none}
+use Rattle.states.specs.Machine.{noRegisters}
 use Rattle.listing.specs.Listing.{coreLine, coreLines}
 use Rattle.listing.proofs.Writing.{Writing, writing-start, writing-more, writing-end}
 use Rattle.listing.proofs.Lines.{first-line, last-line}
@@ -50,8 +50,8 @@ loop-again c =
       omega arith,
       search needs,
       omega arith,
-      writing-more (coreLine (c .before .before .before .before .before .before .loop .k) (getD (c .before .before .before .before .before .before .before .before .table-of .result) (c .before .before .before .before .before .before .loop .k) none)) (coreLines (c .before .before .before .before .before .before .loop .k + 1) (drop (c .before .before .before .before .before .before .loop .k + 1) (take (c .before .before .before .before .before .before .before .before .before .before .args .n) (c .before .before .before .before .before .before .before .before .table-of .result))))
-          (c .before .before .before .before .before .before .loop .inv .3) (first-line (c .before .before .before .before .before .before .before .before .table-of .result) (c .before .before .before .before .before .before .before .before .before .before .args .n) (c .before .before .before .before .before .before .loop .k) none h) (c .before .before .write-line .ensures .0) (c .before .before .write-line .ensures .1),
+      writing-more (coreLine (c .before .before .before .before .before .before .loop .k) (getD (c .before .before .before .before .before .before .before .before .table-of .result) (c .before .before .before .before .before .before .loop .k) noRegisters)) (coreLines (c .before .before .before .before .before .before .loop .k + 1) (drop (c .before .before .before .before .before .before .loop .k + 1) (take (c .before .before .before .before .before .before .before .before .before .before .args .n) (c .before .before .before .before .before .before .before .before .table-of .result))))
+          (c .before .before .before .before .before .before .loop .inv .3) (first-line (c .before .before .before .before .before .before .before .before .table-of .result) (c .before .before .before .before .before .before .before .before .before .before .args .n) (c .before .before .before .before .before .before .loop .k) noRegisters h) (c .before .before .write-line .ensures .0) (c .before .before .write-line .ensures .1),
     )
 
 same-length : tie.Need-same-length Inv-loop μ-loop

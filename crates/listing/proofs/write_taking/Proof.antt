@@ -4,7 +4,7 @@ use mathlib.Core.List.{[], _∷_}
 use Prim.Native.Nat.{ℕ, _%_}
 use native.Mathlib.Omega.{arith}
 use Rattle.memory.specs.Memory.{splice}
-use Rattle.listing.specs.Listing.{takingText, space, digit, kind}
+use Rattle.listing.specs.Listing.{takingText, space, digit, kindLetter}
 use Rattle.listing.proofs.Writing.{writing-start, writing-more, writing-last}
 use borrow.Author.Needs.{needs}
 use Rattle.listing.proofs.write_taking.Statement.{statement}
@@ -32,8 +32,8 @@ returns : tie.Need-returns
 unfolding takingText
 returns c =
     let w = writing-last
-    (writing-more (digit (c .before .before .before .before .before .before .before .before .before .before .before .before .before .before .args .byte % 16) ∷ []) (kind (c .before .before .before .before .before .before .before .before .before .before .before .before .before .before .args .byte) ∷ [])
-    (writing-more (space ∷ []) (digit (c .before .before .before .before .before .before .before .before .before .before .before .before .before .before .args .byte % 16) ∷ kind (c .before .before .before .before .before .before .before .before .before .before .before .before .before .before .args .byte) ∷ [])
+    (writing-more (digit (c .before .before .before .before .before .before .before .before .before .before .before .before .before .before .args .byte % 16) ∷ []) (kindLetter (c .before .before .before .before .before .before .before .before .before .before .before .before .before .before .args .byte) ∷ [])
+    (writing-more (space ∷ []) (digit (c .before .before .before .before .before .before .before .before .before .before .before .before .before .before .args .byte % 16) ∷ kindLetter (c .before .before .before .before .before .before .before .before .before .before .before .before .before .before .args .byte) ∷ [])
     (writing-start _ _ (takingText (c .before .before .before .before .before .before .before .before .before .before .before .before .before .before .args .byte))) refl (c .before .before .before .before .before .before .before .before .before .before .before .put .ensures .0) (c .before .before .before .before .before .before .before .before .before .before .before .put .ensures .1))
     refl (c .before .before .before .before .before .before .before .put2 .ensures .0) (c .before .before .before .before .before .before .before .put2 .ensures .1))
     (c .before .before .put3 .ensures .0 ∙ ap (λ (x : ℕ). splice (c .before .before .before .before .before .before .before .put2 .last .0) (c .before .before .before .before .before .before .before .put2 .result) (x ∷ [])) (c .before .before .before .kind-of .ensures))

@@ -2,7 +2,7 @@
 use mathlib.Core.Bool.{Bool, _&&_}
 use borrow.Author.Tests.{lt-ltb, le-ltb}
 use Rattle.packed.proofs.Decimal as D
-use Rattle.packed.specs.Packed.{allBelow}
+use Rattle.packed.specs.Packed.{digitsBelow}
 use native.Mathlib.Omega.{arith}
 use mathlib.Core.Path.{_≡_, sym, ap, _∙_}
 use Prim.Native.Nat.{ℕ, _+_, _-_, _/_, _%_, _<_, _≤_}
@@ -10,7 +10,7 @@ use Rattle.packed.proofs.all_digits.Statement.{statement}
 use Rattle.packed.proofs.all_digits.Tie as tie
 
 abbrev Inv-loop : tie.InvT-loop
-Inv-loop d p rest₀ i₀ rest i = (i ≤ d) × (allBelow 16 10 d p ≡ allBelow 16 10 (d - i) rest)
+Inv-loop d p rest₀ i₀ rest i = (i ≤ d) × (digitsBelow 16 10 d p ≡ digitsBelow 16 10 (d - i) rest)
 
 abbrev μ-loop : tie.MeasureT-loop
 μ-loop d p rest₀ i₀ rest i = d - i
@@ -18,14 +18,14 @@ abbrev μ-loop : tie.MeasureT-loop
 loop-holds : tie.Need-loop-holds Inv-loop μ-loop
 loop-holds c =
     let e : c .args .d ≡ c .args .d - 0 = omega arith in
-    (omega arith, ap (λ (k : ℕ). allBelow 16 10 k (c .args .p)) e)
+    (omega arith, ap (λ (k : ℕ). digitsBelow 16 10 k (c .args .p)) e)
 
 returns : tie.Need-returns Inv-loop μ-loop
 returns c =
     let l = c .before .before .loop in
     let a = c .before .before .before .args in
     let h : l .i < a .d = omega arith in
-    sym (l .inv .1 ∙ D.step-below 16 10 (a .d) (l .i) (l .rest) h ∙ ap (λ (b : Bool). b && allBelow 16 10 (a .d - (l .i + 1)) (l .rest / 16)) (le-ltb (l .rest % 16) 10 (c .if1 .taken)))
+    sym (l .inv .1 ∙ D.step-below 16 10 (a .d) (l .i) (l .rest) h ∙ ap (λ (b : Bool). b && digitsBelow 16 10 (a .d - (l .i + 1)) (l .rest / 16)) (le-ltb (l .rest % 16) 10 (c .if1 .taken)))
 
 add-i : tie.Need-add-i Inv-loop μ-loop
 add-i c = record { fits = omega arith }
@@ -39,7 +39,7 @@ loop-again c =
     let a = c .before .before .before .args in
     let h : l .i < a .d = omega arith in
     let g : l .rest % 16 < 10 = omega arith in
-    (omega arith, l .inv .1 ∙ D.step-below 16 10 (a .d) (l .i) (l .rest) h ∙ ap (λ (b : Bool). b && allBelow 16 10 (a .d - (l .i + 1)) (l .rest / 16)) (lt-ltb (l .rest % 16) 10 g))
+    (omega arith, l .inv .1 ∙ D.step-below 16 10 (a .d) (l .i) (l .rest) h ∙ ap (λ (b : Bool). b && digitsBelow 16 10 (a .d - (l .i + 1)) (l .rest / 16)) (lt-ltb (l .rest % 16) 10 g))
 
 returns-2 : tie.Need-returns-2 Inv-loop μ-loop
 returns-2 c =

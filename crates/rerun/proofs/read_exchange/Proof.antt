@@ -6,7 +6,7 @@ use native.Mathlib.Omega.{arith}
 use lib.ListN.{set}
 use Rattle.memory.specs.Memory.{split}
 use Rattle.taskset.specs.Task.{sizesOf}
-use Rattle.steps.specs.Moving.{Ready}
+use Rattle.steps.specs.Moving.{StepGiven}
 use Rattle.steps.proofs.Given.{stretch-inside, stretch-is, stretch-kept}
 use Rattle.rerun.specs.Rerunning.{broughtTo}
 use borrow.Author.Needs.{needs}
@@ -26,7 +26,7 @@ part-read-data-end : tie.Need-part-read-data-end
 part-read-data-end c = omega (arith, stretch-inside _ (c .before .before .before .before .before .pre .0) (c .before .before .before .before .before .pre .1))
 
 read-data-requires : tie.Need-read-data-requires
-read-data-requires c κs = (subst⁻¹ (Ready _ _ _ _ _) (stretch-is _ (c .before .before .before .before .before .before .pre .0) (c .before .before .before .before .before .before .pre .1) _ refl) (c .before .before .before .before .before .before .pre .0), c .before .before .before .before .before .before .pre .2, c .before .before .before .before .before .before .pre .3, c .before .before .before .before .before .before .pre .4, c .before .before .before .before .before .before .pre .5)
+read-data-requires c κs = (subst⁻¹ (StepGiven _ _ _ _ _) (stretch-is _ (c .before .before .before .before .before .before .pre .0) (c .before .before .before .before .before .before .pre .1) _ refl) (c .before .before .before .before .before .before .pre .0), c .before .before .before .before .before .before .pre .2, c .before .before .before .before .before .before .pre .3, c .before .before .before .before .before .before .pre .4, c .before .before .before .before .before .before .pre .5)
 
 same-length : tie.Need-same-length
 same-length c = search needs

@@ -45,7 +45,7 @@ use denote.Triple.Spec.{Meets, tripleOf}
 use denote.Triple.Table.{entered, cited}
 use denote.Triple.Walked.{says, Stays, stay-none-slice, stay-none, walkOf, goes-none-slice, goes-none, Walks, ends-at, walked, walk-meets}
 use denote.Exit.{yes}
-use Rattle.snapshot.specs.Snapshot.{noCore, placeAfter, recordMoves}
+use Rattle.snapshot.specs.Snapshot.{noRecord, placeAfter, recordMoves}
 use Rattle.rikzord.specs.Lent.{scanned}
 use Rattle.snapshot.specs.declared.Core.{Core}
 use Rattle.snapshot.specs.declared.Ring.{Ring}
@@ -183,7 +183,7 @@ module _ {M : Type 1} (𝓤 : URA M) (H : Heap 𝓤) (A : Atoms 𝓤) (W : Given
     Left l₀ l₁ l₂ l₃ l₄ l₅ l₆ l₇ l₈ l₉ = afterBlock 𝓤 H (afterSeq 𝓤 H (Wp 𝓤 H (𝓣 .C) (𝓣 .Λ) (E l₀ l₁ l₂ l₃ l₄ l₅ l₆ l₇ l₈ l₉) code-mir.t-4 (atReturn 𝓤 H (E l₀ l₁ l₂ l₃ l₄ l₅ l₆ l₇ l₈ l₉) Post)) (atReturn 𝓤 H (E l₀ l₁ l₂ l₃ l₄ l₅ l₆ l₇ l₈ l₉) Post))
 
     -- a turn with a record left
-    more : (l₀ l₁ l₂ l₃ l₄ l₅ l₆ l₇ l₈ l₉ : ℕ) (n : Core) (u : Val) (en : n ≡ noCore) (n-is : Is R n (u ∷ [])) (t : Turn ys r) → ltb (t .i) (r .cores) ≡ true → Sq W (I l₀ l₁ l₂ l₃ l₄ l₅ l₆ l₇ l₈ l₉ u t) (runs (𝓣 .C) (𝓣 .Λ) (E l₀ l₁ l₂ l₃ l₄ l₅ l₆ l₇ l₈ l₉) code-mir.turn-1 (anyQ (afterTurn 𝓤 H (Below 𝓤 H A sooner (I l₀ l₁ l₂ l₃ l₄ l₅ l₆ l₇ l₈ l₉ u) t) (Left l₀ l₁ l₂ l₃ l₄ l₅ l₆ l₇ l₈ l₉))))
+    more : (l₀ l₁ l₂ l₃ l₄ l₅ l₆ l₇ l₈ l₉ : ℕ) (n : Core) (u : Val) (en : n ≡ noRecord) (n-is : Is R n (u ∷ [])) (t : Turn ys r) → ltb (t .i) (r .cores) ≡ true → Sq W (I l₀ l₁ l₂ l₃ l₄ l₅ l₆ l₇ l₈ l₉ u t) (runs (𝓣 .C) (𝓣 .Λ) (E l₀ l₁ l₂ l₃ l₄ l₅ l₆ l₇ l₈ l₉) code-mir.turn-1 (anyQ (afterTurn 𝓤 H (Below 𝓤 H A sooner (I l₀ l₁ l₂ l₃ l₄ l₅ l₆ l₇ l₈ l₉ u) t) (Left l₀ l₁ l₂ l₃ l₄ l₅ l₆ l₇ l₈ l₉))))
     unfolding afterTurn
     more l₀ l₁ l₂ l₃ l₄ l₅ l₆ l₇ l₈ l₉ n u en n-is t e =
         assigns ! (bin ! (load ! (from ! (stop !)) (look ! 12 refl)) (load ! (from ! (fld ! refl (stop !))) (look-in ! 16 (sub ! 1 refl (whole !)))) tt) (from ! (stop !)) (init ! 6 refl (tt, tt)) $
@@ -214,7 +214,7 @@ module _ {M : Type 1} (𝓤 : URA M) (H : Heap 𝓤) (A : Atoms 𝓤) (W : Given
         again ! sooner (I l₀ l₁ l₂ l₃ l₄ l₅ l₆ l₇ l₈ l₉ u) t (turn-next ys r t k c z ek (from-none ys c n k en ec) ez (ltb-true _ _ e) (fails z passed)) (turn-less ys r t k c z ek (from-none ys c n k en ec) ez (ltb-true _ _ e) (fails z passed))))))))))))
 
     -- the turn that leaves the loop, and the rest of the body
-    ends : (l₀ l₁ l₂ l₃ l₄ l₅ l₆ l₇ l₈ l₉ : ℕ) (n : Core) (u : Val) (en : n ≡ noCore) (n-is : Is R n (u ∷ [])) (t : Turn ys r) → ltb (t .i) (r .cores) ≡ false → Sq W (I l₀ l₁ l₂ l₃ l₄ l₅ l₆ l₇ l₈ l₉ u t) (runs (𝓣 .C) (𝓣 .Λ) (E l₀ l₁ l₂ l₃ l₄ l₅ l₆ l₇ l₈ l₉) code-mir.turn-1 (anyQ (afterTurn 𝓤 H (Below 𝓤 H A sooner (I l₀ l₁ l₂ l₃ l₄ l₅ l₆ l₇ l₈ l₉ u) t) (Left l₀ l₁ l₂ l₃ l₄ l₅ l₆ l₇ l₈ l₉))))
+    ends : (l₀ l₁ l₂ l₃ l₄ l₅ l₆ l₇ l₈ l₉ : ℕ) (n : Core) (u : Val) (en : n ≡ noRecord) (n-is : Is R n (u ∷ [])) (t : Turn ys r) → ltb (t .i) (r .cores) ≡ false → Sq W (I l₀ l₁ l₂ l₃ l₄ l₅ l₆ l₇ l₈ l₉ u t) (runs (𝓣 .C) (𝓣 .Λ) (E l₀ l₁ l₂ l₃ l₄ l₅ l₆ l₇ l₈ l₉) code-mir.turn-1 (anyQ (afterTurn 𝓤 H (Below 𝓤 H A sooner (I l₀ l₁ l₂ l₃ l₄ l₅ l₆ l₇ l₈ l₉ u) t) (Left l₀ l₁ l₂ l₃ l₄ l₅ l₆ l₇ l₈ l₉))))
     unfolding afterTurn
     ends l₀ l₁ l₂ l₃ l₄ l₅ l₆ l₇ l₈ l₉ n u en n-is t e =
         assigns ! (bin ! (load ! (from ! (stop !)) (look ! 12 refl)) (load ! (from ! (fld ! refl (stop !))) (look-in ! 16 (sub ! 1 refl (whole !)))) tt) (from ! (stop !)) (init ! 6 refl (tt, tt)) $
@@ -225,10 +225,10 @@ module _ {M : Type 1} (𝓤 : URA M) (H : Heap 𝓤) (A : Atoms 𝓤) (W : Given
         move ! (20 ∷ 21 ∷ []) $ free1 ! $ move ! (18 ∷ 19 ∷ []) $ free1 ! $ move ! (16 ∷ 17 ∷ []) $ free1 ! $ move ! (14 ∷ 15 ∷ []) $ free1 ! $ move ! (12 ∷ 13 ∷ []) $ free1 ! $ move ! (10 ∷ 11 ∷ []) $ free1 ! $ move ! (8 ∷ 9 ∷ []) $ free1 ! $ move ! (6 ∷ 7 ∷ []) $ free1 ! $ move ! (4 ∷ 5 ∷ []) $ free1 ! $ move ! (2 ∷ 3 ∷ []) $ free1 ! $ free0 ! $
         keep ! (0 ∷ 1 ∷ []) $ by ! (exits 255 (turn-last ys r t (ltb-false _ _ e)) (lit< tt))
 
-    turns : (l₀ l₁ l₂ l₃ l₄ l₅ l₆ l₇ l₈ l₉ : ℕ) (n : Core) (u : Val) (en : n ≡ noCore) (n-is : Is R n (u ∷ [])) (t : Turn ys r) → Sq W (I l₀ l₁ l₂ l₃ l₄ l₅ l₆ l₇ l₈ l₉ u t) (runs (𝓣 .C) (𝓣 .Λ) (E l₀ l₁ l₂ l₃ l₄ l₅ l₆ l₇ l₈ l₉) code-mir.turn-1 (anyQ (afterTurn 𝓤 H (Below 𝓤 H A sooner (I l₀ l₁ l₂ l₃ l₄ l₅ l₆ l₇ l₈ l₉ u) t) (Left l₀ l₁ l₂ l₃ l₄ l₅ l₆ l₇ l₈ l₉))))
+    turns : (l₀ l₁ l₂ l₃ l₄ l₅ l₆ l₇ l₈ l₉ : ℕ) (n : Core) (u : Val) (en : n ≡ noRecord) (n-is : Is R n (u ∷ [])) (t : Turn ys r) → Sq W (I l₀ l₁ l₂ l₃ l₄ l₅ l₆ l₇ l₈ l₉ u t) (runs (𝓣 .C) (𝓣 .Λ) (E l₀ l₁ l₂ l₃ l₄ l₅ l₆ l₇ l₈ l₉) code-mir.turn-1 (anyQ (afterTurn 𝓤 H (Below 𝓤 H A sooner (I l₀ l₁ l₂ l₃ l₄ l₅ l₆ l₇ l₈ l₉ u) t) (Left l₀ l₁ l₂ l₃ l₄ l₅ l₆ l₇ l₈ l₉))))
     turns l₀ l₁ l₂ l₃ l₄ l₅ l₆ l₇ l₈ l₉ n u en n-is t = by-test (ltb (t .i) (r .cores)) (more l₀ l₁ l₂ l₃ l₄ l₅ l₆ l₇ l₈ l₉ n u en n-is t) (ends l₀ l₁ l₂ l₃ l₄ l₅ l₆ l₇ l₈ l₉ n u en n-is t)
 
-    looped : (l₀ l₁ l₂ l₃ l₄ l₅ l₆ l₇ l₈ l₉ : ℕ) (n : Core) (u : Val) → n ≡ noCore → Is R n (u ∷ []) → ent 𝓤 (⋆ 𝓤 H A (I l₀ l₁ l₂ l₃ l₄ l₅ l₆ l₇ l₈ l₉ u (turn-first ys r))) (Wp 𝓤 H (𝓣 .C) (𝓣 .Λ) (E l₀ l₁ l₂ l₃ l₄ l₅ l₆ l₇ l₈ l₉) code-mir.t-3 (atReturn 𝓤 H (E l₀ l₁ l₂ l₃ l₄ l₅ l₆ l₇ l₈ l₉) Post))
+    looped : (l₀ l₁ l₂ l₃ l₄ l₅ l₆ l₇ l₈ l₉ : ℕ) (n : Core) (u : Val) → n ≡ noRecord → Is R n (u ∷ []) → ent 𝓤 (⋆ 𝓤 H A (I l₀ l₁ l₂ l₃ l₄ l₅ l₆ l₇ l₈ l₉ u (turn-first ys r))) (Wp 𝓤 H (𝓣 .C) (𝓣 .Λ) (E l₀ l₁ l₂ l₃ l₄ l₅ l₆ l₇ l₈ l₉) code-mir.t-3 (atReturn 𝓤 H (E l₀ l₁ l₂ l₃ l₄ l₅ l₆ l₇ l₈ l₉) Post))
     looped l₀ l₁ l₂ l₃ l₄ l₅ l₆ l₇ l₈ l₉ n u en n-is =
         qed W (I l₀ l₁ l₂ l₃ l₄ l₅ l₆ l₇ l₈ l₉ u (turn-first ys r)) ∵ exec ! (𝓣 .C) (𝓣 .Λ) (E l₀ l₁ l₂ l₃ l₄ l₅ l₆ l₇ l₈ l₉) code-mir.t-3 (atRet (E l₀ l₁ l₂ l₃ l₄ l₅ l₆ l₇ l₈ l₉) Post) $
         first ! $ blocks ! $ loops ! 𝓣 sooner sooner-ends (I l₀ l₁ l₂ l₃ l₄ l₅ l₆ l₇ l₈ l₉ u) (turns l₀ l₁ l₂ l₃ l₄ l₅ l₆ l₇ l₈ l₉ n u en n-is) (turn-first ys r)

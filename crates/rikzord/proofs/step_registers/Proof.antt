@@ -44,7 +44,7 @@ use denote.Exit.{yes}
 use Rattle.protocol.specs.declared.Registers.{Registers}
 use Rattle.states.specs.declared.State.{State}
 use Rattle.runner.specs.declared.Ran.{Ran}
-use Rattle.runner.specs.Runs.{left}
+use Rattle.runner.specs.Runs.{leftAs}
 use Rattle.snapshot.specs.declared.Stepped.{Stepped}
 use Rattle.snapshot.specs.Snapshot.{registersAfter, stepRegisters}
 use Rattle.protocol.proofs.Registers as T
@@ -135,7 +135,7 @@ module _ {M : Type 1} (𝓤 : URA M) (H : Heap 𝓤) (A : Atoms 𝓤) (W : Given
 
   -- what `step_with` says of its answer y and of the last lists
   abbrev Says : Stepped → List ℕ → List ℕ → Type 0
-  Says y buffer′ shared′ = (left (y .ran) buffer′ shared′ [] ≡ stepRegisters file trace s registers buffer shared core) × (y .registers ≡ registersAfter (y .ran .state) core registers)
+  Says y buffer′ shared′ = (leftAs (y .ran) buffer′ shared′ [] ≡ stepRegisters file trace s registers buffer shared core) × (y .registers ≡ registersAfter (y .ran .state) core registers)
 
   exits : (y : Stepped) (buffer′ shared′ : List ℕ) → Says y buffer′ shared′ → length buffer′ ≡ length buffer → length shared′ ≡ length shared → Is N.the-row (y .ran) (mach-ran (y .ran) ∷ [])
       → ent 𝓤 (⋆ 𝓤 H A ((‵ (flft κ₀ q₀) ⊛ ‵ (flft κ₁ q₁) ⊛ ‵ (flft κ₂ q₂) ⊛ ‵ (flft κ₃ q₃) ⊛ ‵ (flft κ₄ q₄) ⊛ ‵ ftrue) ∷ ‵ file-own ∷ ‵ trace-own ∷ ‵ (fobs γ-registers (R .coded .code (y .registers))) ∷ ‵ (fbor κ₂ (Body (mem R) b-registers o-registers γ-registers)) ∷ ‵ (finally u8 γ-buffer buffer′) ∷ ‵ (finally u8 γ-shared shared′) ∷ [])) (Post (mach-ran (y .ran)))

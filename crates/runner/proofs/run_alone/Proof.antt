@@ -4,7 +4,7 @@ use Prim.Native.Nat.{_-_, _<_, _≤_}
 use native.Mathlib.Omega.{arith}
 use borrow.Author.Needs.{needs}
 use lib.ListN.{length}
-use Rattle.runner.specs.Executing.{Executing, Executes}
+use Rattle.runner.specs.Executing.{ExecutionGiven, Executes}
 use Rattle.runner.proofs.Executing.{steps-alone, executes-none, executes-on, executing-on, executing-count, executing-length, executes-alone, standing-alone, leftOf, left-less}
 use Rattle.runner.proofs.run_alone.Statement.{statement}
 use Rattle.runner.proofs.run_alone.Tie as tie

@@ -9,14 +9,14 @@ use borrow.Author.Needs.{needs}
 use Rattle.verdict.proofs.Verdict.{absurd-bool}
 use Rattle.protocol.specs.declared.Registers.{Registers}
 use Rattle.protocol.specs.Registers.{cycleEnded, faulted}
-use Rattle.runner.specs.Running.{stepsOn, executingAt, Carries}
+use Rattle.runner.specs.Running.{stepsOn, executingAt, CarriesRun}
 use Rattle.runner.proofs.Carrying.{step-in, carry-none, carries-as, instructs-as, ended-takes, returned-takes, advanced-at, called-at, returned-at, ready-now, buffer-now, length-now, core-few, faulted-mode, ended-mode, takes-outcome, carry-next, carry-fault, carry-ended, carry-call, carry-return}
 use Rattle.runner.proofs.run_core.Statement.{statement}
 use Rattle.runner.proofs.run_core.Tie as tie
 
 abbrev Inv-loop : tie.InvT-loop
 Inv-loop file trace c order from k before places₀ offsets₀ buffer₀ counter₀ offset₀ depth₀ count₀ step₀ on₀ places offsets buffer counter offset depth count step on =
-    (from ≤ step) × (on ≡ false → from < step) × (on ≡ true → stepsOn order step k ≡ true) × Carries file trace order k from before places₀ offsets₀ buffer₀ step (executingAt before counter offset depth count) places offsets buffer × (on ≡ false → stepsOn order step k ≡ false) × (count + from ≡ before .count + step)
+    (from ≤ step) × (on ≡ false → from < step) × (on ≡ true → stepsOn order step k ≡ true) × CarriesRun file trace order k from before places₀ offsets₀ buffer₀ step (executingAt before counter offset depth count) places offsets buffer × (on ≡ false → stepsOn order step k ≡ false) × (count + from ≡ before .count + step)
 
 abbrev μ-loop : tie.MeasureT-loop
 μ-loop file trace c order from k before places₀ offsets₀ buffer₀ counter₀ offset₀ depth₀ count₀ step₀ on₀ places offsets buffer counter offset depth count step on = length order - step

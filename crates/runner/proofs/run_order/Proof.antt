@@ -11,9 +11,9 @@ use lib.ListN.{length, getD}
 use Rattle.verdict.proofs.Verdict.{absurd-bool}
 use Rattle.records.specs.File.{cores as coreCount}
 use Rattle.protocol.specs.Step.{reading, writing, encoded}
-use Rattle.states.specs.Machine.{none, stateOf}
+use Rattle.states.specs.Machine.{noRegisters, stateOf}
 use Rattle.steps.specs.Effects.{Idle, Joined, ByteRead, ReadReleased, WriteAcquired, ByteWritten, WriteReleased, exchanged}
-use Rattle.runner.specs.Running.{Looping}
+use Rattle.runner.specs.Running.{RunningAt}
 use Rattle.runner.proofs.Running.{below-at}
 use Rattle.runner.proofs.Loop.{looping-start, moving, takes-of, read-on, write-on, shared-length, joins-out, reads-in, writes-in, joining, line-once}
 use Rattle.runner.proofs.Carrying.{steps-on, stands, Idles, idle}
@@ -33,7 +33,7 @@ abbrev μ-loop2 : tie.MeasureT-loop2
 
 abbrev Inv-loop : tie.InvT-loop
 Inv-loop file trace first end order s buffer₀ shared₀ list₀ tasks cores₀ places₀ offsets₀ line₀ cursor₀ taken₀ n i₀ buffer shared list cores places offsets line cursor taken i =
-    Looping file trace order list₀ (stateOf file s buffer₀ shared₀) (s .cores) (s .places) (s .offsets) i cores places offsets (semaphoreOf (line .semaphore)) taken buffer shared list cursor × Lined line
+    RunningAt file trace order list₀ (stateOf file s buffer₀ shared₀) (s .cores) (s .places) (s .offsets) i cores places offsets (semaphoreOf (line .semaphore)) taken buffer shared list cursor × Lined line
 
 abbrev μ-loop : tie.MeasureT-loop
 μ-loop file trace first end order s buffer₀ shared₀ list₀ tasks cores₀ places₀ offsets₀ line₀ cursor₀ taken₀ n i₀ buffer shared list cores places offsets line cursor taken i = n - i
@@ -205,7 +205,7 @@ enum-told-2 : tie.Need-enum-told-2 Inv-loop2 μ-loop2 Inv-loop μ-loop
 enum-told-2 c = search needs
 
 joined-requires : tie.Need-joined-requires Inv-loop2 μ-loop2 Inv-loop μ-loop
-joined-requires c κs = (c .before .before .before .before .before .before .before .before .before .before .before .before .before .before .before .before .before .before .before .before .before .loop .inv .1, c .before .before .before .before .before .before .before .before .before .before .before .before .before .before .before .before .before .before .before .core-at .ensures .2, joining (c .before .before .before .before .before .before .before .before .before .before .before .before .before .before .before .before .before .before .before .before .before .loop .inv .0) (c .before .before .before .before .before .before .before .before .before .before .before .before .before .before .before .before .before .before .before .before .before .before .before .before .before .before .before .before .before .before .before .before .pre .accepted) (c .before .before .before .before .before .before .before .before .before .before .before .before .before .before .before .before .before .before .before .core-at .ensures .1) (sym (c .before .before .before .before .before .before .before .before .before .before .before .before .before .before .before .before .before .waits .ensures) ∙ c .before .before .before .before .before .before .before .before .before .before .before .before .before .before .before .before .if2 .left) (sym (c .before .before .before .before .before .before .before .before .before .before .before .turn .ensures) ∙ joins-out (c .before .before .before .before .before .before .before .before .before .before .before .before .before .before .before .before .before .before .before .before .before .before .before .before .before .before .before .before .before .before .before .before .args .file .now) (c .before .before .before .before .before .before .before .before .before .before .before .before .before .before .before .before .before .before .before .core-at .result) (getD (c .before .before .before .before .before .before .before .before .before .before .before .before .before .before .before .before .before .before .before .before .before .loop .cores) (c .before .before .before .before .before .before .before .before .before .before .before .before .before .before .before .before .before .before .before .core-at .result) none) (c .before .before .before .before .before .before .before .before .before .before .before .turn .result) (c .enum-told2 .given .1) (c .before .before .before .before .before .before .exchange-of .ensures .1)) .0, joining (c .before .before .before .before .before .before .before .before .before .before .before .before .before .before .before .before .before .before .before .before .before .loop .inv .0) (c .before .before .before .before .before .before .before .before .before .before .before .before .before .before .before .before .before .before .before .before .before .before .before .before .before .before .before .before .before .before .before .before .pre .accepted) (c .before .before .before .before .before .before .before .before .before .before .before .before .before .before .before .before .before .before .before .core-at .ensures .1) (sym (c .before .before .before .before .before .before .before .before .before .before .before .before .before .before .before .before .before .waits .ensures) ∙ c .before .before .before .before .before .before .before .before .before .before .before .before .before .before .before .before .if2 .left) (sym (c .before .before .before .before .before .before .before .before .before .before .before .turn .ensures) ∙ joins-out (c .before .before .before .before .before .before .before .before .before .before .before .before .before .before .before .before .before .before .before .before .before .before .before .before .before .before .before .before .before .before .before .before .args .file .now) (c .before .before .before .before .before .before .before .before .before .before .before .before .before .before .before .before .before .before .before .core-at .result) (getD (c .before .before .before .before .before .before .before .before .before .before .before .before .before .before .before .before .before .before .before .before .before .loop .cores) (c .before .before .before .before .before .before .before .before .before .before .before .before .before .before .before .before .before .before .before .core-at .result) none) (c .before .before .before .before .before .before .before .before .before .before .before .turn .result) (c .enum-told2 .given .1) (c .before .before .before .before .before .before .exchange-of .ensures .1)) .1)
+joined-requires c κs = (c .before .before .before .before .before .before .before .before .before .before .before .before .before .before .before .before .before .before .before .before .before .loop .inv .1, c .before .before .before .before .before .before .before .before .before .before .before .before .before .before .before .before .before .before .before .core-at .ensures .2, joining (c .before .before .before .before .before .before .before .before .before .before .before .before .before .before .before .before .before .before .before .before .before .loop .inv .0) (c .before .before .before .before .before .before .before .before .before .before .before .before .before .before .before .before .before .before .before .before .before .before .before .before .before .before .before .before .before .before .before .before .pre .accepted) (c .before .before .before .before .before .before .before .before .before .before .before .before .before .before .before .before .before .before .before .core-at .ensures .1) (sym (c .before .before .before .before .before .before .before .before .before .before .before .before .before .before .before .before .before .waits .ensures) ∙ c .before .before .before .before .before .before .before .before .before .before .before .before .before .before .before .before .if2 .left) (sym (c .before .before .before .before .before .before .before .before .before .before .before .turn .ensures) ∙ joins-out (c .before .before .before .before .before .before .before .before .before .before .before .before .before .before .before .before .before .before .before .before .before .before .before .before .before .before .before .before .before .before .before .before .args .file .now) (c .before .before .before .before .before .before .before .before .before .before .before .before .before .before .before .before .before .before .before .core-at .result) (getD (c .before .before .before .before .before .before .before .before .before .before .before .before .before .before .before .before .before .before .before .before .before .loop .cores) (c .before .before .before .before .before .before .before .before .before .before .before .before .before .before .before .before .before .before .before .core-at .result) noRegisters) (c .before .before .before .before .before .before .before .before .before .before .before .turn .result) (c .enum-told2 .given .1) (c .before .before .before .before .before .before .exchange-of .ensures .1)) .0, joining (c .before .before .before .before .before .before .before .before .before .before .before .before .before .before .before .before .before .before .before .before .before .loop .inv .0) (c .before .before .before .before .before .before .before .before .before .before .before .before .before .before .before .before .before .before .before .before .before .before .before .before .before .before .before .before .before .before .before .before .pre .accepted) (c .before .before .before .before .before .before .before .before .before .before .before .before .before .before .before .before .before .before .before .core-at .ensures .1) (sym (c .before .before .before .before .before .before .before .before .before .before .before .before .before .before .before .before .before .waits .ensures) ∙ c .before .before .before .before .before .before .before .before .before .before .before .before .before .before .before .before .if2 .left) (sym (c .before .before .before .before .before .before .before .before .before .before .before .turn .ensures) ∙ joins-out (c .before .before .before .before .before .before .before .before .before .before .before .before .before .before .before .before .before .before .before .before .before .before .before .before .before .before .before .before .before .before .before .before .args .file .now) (c .before .before .before .before .before .before .before .before .before .before .before .before .before .before .before .before .before .before .before .core-at .result) (getD (c .before .before .before .before .before .before .before .before .before .before .before .before .before .before .before .before .before .before .before .before .before .loop .cores) (c .before .before .before .before .before .before .before .before .before .before .before .before .before .before .before .before .before .before .before .core-at .result) noRegisters) (c .before .before .before .before .before .before .before .before .before .before .before .turn .result) (c .enum-told2 .given .1) (c .before .before .before .before .before .before .exchange-of .ensures .1)) .1)
 
 enum-known-z : tie.Need-enum-known-z Inv-loop2 μ-loop2 Inv-loop μ-loop
 enum-known-z c = search needs
@@ -227,7 +227,7 @@ array-set-from-cores-3 : tie.Need-array-set-from-cores-3 Inv-loop2 μ-loop2 Inv-
 array-set-from-cores-3 c = search (needs, c .before .before .before .before .before .before .before .before .before .before .before .before .before .before .before .before .before .before .before .before .before .before .core-at .ensures .2)
 
 acquired-requires : tie.Need-acquired-requires Inv-loop2 μ-loop2 Inv-loop μ-loop
-acquired-requires c κs = (c .before .before .before .before .before .before .before .before .before .before .before .before .before .before .before .before .before .before .before .before .before .before .before .before .loop .inv .1, c .before .before .before .before .before .before .before .before .before .before .before .before .before .before .before .before .before .before .before .before .before .before .core-at .ensures .2, sym (c .before .before .before .before .before .before .before .before .before .before .before .before .before .before .turn .ensures) ∙ reads-in (c .before .before .before .before .before .before .before .before .before .before .before .before .before .before .before .before .before .before .before .before .before .before .before .before .before .before .before .before .before .before .before .before .before .before .before .args .file .now) (c .before .before .before .before .before .before .before .before .before .before .before .before .before .before .before .before .before .before .before .before .before .before .core-at .result) (getD (c .before .before .before .before .before .before .before .before .before .before .before .before .before .before .before .before .before .before .before .before .before .before .before .before .loop .cores) (c .before .before .before .before .before .before .before .before .before .before .before .before .before .before .before .before .before .before .before .before .before .before .core-at .result) none) (c .before .before .before .before .before .before .before .before .before .before .before .before .before .before .turn .result) (c .before .before .before .z .given .1) (c .before .before .before .before .before .before .before .before .before .exchange-of .ensures .1), line-once (c .before .before .before .before .before .before .before .before .before .before .before .before .before .before .before .before .before .before .before .before .before .before .before .before .loop .inv .0))
+acquired-requires c κs = (c .before .before .before .before .before .before .before .before .before .before .before .before .before .before .before .before .before .before .before .before .before .before .before .before .loop .inv .1, c .before .before .before .before .before .before .before .before .before .before .before .before .before .before .before .before .before .before .before .before .before .before .core-at .ensures .2, sym (c .before .before .before .before .before .before .before .before .before .before .before .before .before .before .turn .ensures) ∙ reads-in (c .before .before .before .before .before .before .before .before .before .before .before .before .before .before .before .before .before .before .before .before .before .before .before .before .before .before .before .before .before .before .before .before .before .before .before .args .file .now) (c .before .before .before .before .before .before .before .before .before .before .before .before .before .before .before .before .before .before .before .before .before .before .core-at .result) (getD (c .before .before .before .before .before .before .before .before .before .before .before .before .before .before .before .before .before .before .before .before .before .before .before .before .loop .cores) (c .before .before .before .before .before .before .before .before .before .before .before .before .before .before .before .before .before .before .before .before .before .before .core-at .result) noRegisters) (c .before .before .before .before .before .before .before .before .before .before .before .before .before .before .turn .result) (c .before .before .before .z .given .1) (c .before .before .before .before .before .before .before .before .before .exchange-of .ensures .1), line-once (c .before .before .before .before .before .before .before .before .before .before .before .before .before .before .before .before .before .before .before .before .before .before .before .before .loop .inv .0))
 
 add-start : tie.Need-add-start Inv-loop2 μ-loop2 Inv-loop μ-loop
 add-start c = record { fits = omega (arith, c .before .before .before .before .before .before .before .before .before .before .before .before .before .before .before .before .before .before .before .before .before .before .before .core-at .ensures .2) }
@@ -304,7 +304,7 @@ array-set-from-cores-6 : tie.Need-array-set-from-cores-6 Inv-loop2 μ-loop2 Inv-
 array-set-from-cores-6 c = search (needs, c .before .before .before .before .before .before .before .before .before .before .before .before .before .before .before .before .before .before .before .before .before .core-at .ensures .2)
 
 acquired-requires-2 : tie.Need-acquired-requires-2 Inv-loop2 μ-loop2 Inv-loop μ-loop
-acquired-requires-2 c κs = (c .before .before .before .before .before .before .before .before .before .before .before .before .before .before .before .before .before .before .before .before .before .before .before .loop .inv .1, c .before .before .before .before .before .before .before .before .before .before .before .before .before .before .before .before .before .before .before .before .before .core-at .ensures .2, sym (c .before .before .before .before .before .before .before .before .before .before .before .before .before .turn .ensures) ∙ writes-in (c .before .before .before .before .before .before .before .before .before .before .before .before .before .before .before .before .before .before .before .before .before .before .before .before .before .before .before .before .before .before .before .before .before .before .args .file .now) (c .before .before .before .before .before .before .before .before .before .before .before .before .before .before .before .before .before .before .before .before .before .core-at .result) (getD (c .before .before .before .before .before .before .before .before .before .before .before .before .before .before .before .before .before .before .before .before .before .before .before .loop .cores) (c .before .before .before .before .before .before .before .before .before .before .before .before .before .before .before .before .before .before .before .before .before .core-at .result) none) (c .before .before .before .before .before .before .before .before .before .before .before .before .before .turn .result) (c .before .before .enum-told4 .given .1) (c .before .before .before .before .before .before .before .before .exchange-of .ensures .1), line-once (c .before .before .before .before .before .before .before .before .before .before .before .before .before .before .before .before .before .before .before .before .before .before .before .loop .inv .0))
+acquired-requires-2 c κs = (c .before .before .before .before .before .before .before .before .before .before .before .before .before .before .before .before .before .before .before .before .before .before .before .loop .inv .1, c .before .before .before .before .before .before .before .before .before .before .before .before .before .before .before .before .before .before .before .before .before .core-at .ensures .2, sym (c .before .before .before .before .before .before .before .before .before .before .before .before .before .turn .ensures) ∙ writes-in (c .before .before .before .before .before .before .before .before .before .before .before .before .before .before .before .before .before .before .before .before .before .before .before .before .before .before .before .before .before .before .before .before .before .before .args .file .now) (c .before .before .before .before .before .before .before .before .before .before .before .before .before .before .before .before .before .before .before .before .before .core-at .result) (getD (c .before .before .before .before .before .before .before .before .before .before .before .before .before .before .before .before .before .before .before .before .before .before .before .loop .cores) (c .before .before .before .before .before .before .before .before .before .before .before .before .before .before .before .before .before .before .before .before .before .core-at .result) noRegisters) (c .before .before .before .before .before .before .before .before .before .before .before .before .before .turn .result) (c .before .before .enum-told4 .given .1) (c .before .before .before .before .before .before .before .before .exchange-of .ensures .1), line-once (c .before .before .before .before .before .before .before .before .before .before .before .before .before .before .before .before .before .before .before .before .before .before .before .loop .inv .0))
 
 start-requires-2 : tie.Need-start-requires-2 Inv-loop2 μ-loop2 Inv-loop μ-loop
 start-requires-2 c κs = (c .before .before .before .before .before .before .before .before .before .before .before .before .before .before .before .before .before .before .before .before .before .before .before .before .before .before .before .before .before .before .before .before .before .before .before .pre .accepted .laid, c .before .before .before .before .before .before .before .before .before .before .before .before .before .before .before .before .before .before .before .before .before .before .before .before .before .before .before .before .before .before .before .before .before .before .before .pre .from, c .before .before .before .before .before .before .before .before .before .before .before .before .before .before .before .before .before .before .before .before .before .before .before .before .before .before .before .before .before .before .before .before .before .before .before .pre .upto, omega (arith, c .before .before .before .before .before .before .before .before .before .before .before .before .before .before .before .before .before .before .before .before .before .before .core-at .ensures .2))
@@ -373,17 +373,17 @@ loop-again-4 c =
     ⊎-elim
     (λ w. rests-arm (c .before .before .before .before .before .before .before .before .before .before .before .before .before .before .before .before .before .before .before .before .loop .inv .0) (c .before .before .before .before .before .before .before .before .before .before .before .before .before .before .before .before .before .before .before .before .loop .inv .1) (c .before .before .before .before .before .before .before .before .before .before .before .before .before .before .before .before .before .before .before .before .before .before .before .before .before .before .before .before .before .before .before .pre .accepted) (c .before .before .before .before .before .before .before .before .before .before .before .before .before .before .before .before .before .before .before .loop-test .taken) (c .before .before .before .before .before .before .before .before .before .before .before .before .before .before .before .before .before .before .core-at .ensures .0) (c .before .before .before .before .before .before .before .before .before .before .before .before .before .before .before .before .before .before .core-at .ensures .1) (c .before .before .before .before .before .exchange-of .ensures .0 (semaphoreOf (c .before .before .before .before .before .before .before .before .before .before .before .before .before .before .before .before .before .before .before .before .loop .line .semaphore)) (sym (c .before .before .before .before .before .before .before .before .before .before .turn .ensures))) (search (needs, c .before .before .before .before .buffer3 .given)) (ap exchanged (w .1 .given .1)) (w .2) (w .3) (w .4) (w .5) (w .6))
     (⊎-elim
-    (λ w. joins-arm (c .before .before .before .before .before .before .before .before .before .before .before .before .before .before .before .before .before .before .before .before .loop .inv .0) (c .before .before .before .before .before .before .before .before .before .before .before .before .before .before .before .before .before .before .before .before .loop .inv .1) (c .before .before .before .before .before .before .before .before .before .before .before .before .before .before .before .before .before .before .before .before .before .before .before .before .before .before .before .before .before .before .before .pre .accepted) (c .before .before .before .before .before .before .before .before .before .before .before .before .before .before .before .before .before .before .before .loop-test .taken) (c .before .before .before .before .before .before .before .before .before .before .before .before .before .before .before .before .before .before .core-at .ensures .0) (c .before .before .before .before .before .before .before .before .before .before .before .before .before .before .before .before .before .before .core-at .ensures .1) (c .before .before .before .before .before .exchange-of .ensures .0 (semaphoreOf (c .before .before .before .before .before .before .before .before .before .before .before .before .before .before .before .before .before .before .before .before .loop .line .semaphore)) (sym (c .before .before .before .before .before .before .before .before .before .before .turn .ensures))) (search (needs, c .before .before .before .before .buffer3 .given)) (ap exchanged (w .1 .given .1)) (joining (c .before .before .before .before .before .before .before .before .before .before .before .before .before .before .before .before .before .before .before .before .loop .inv .0) (c .before .before .before .before .before .before .before .before .before .before .before .before .before .before .before .before .before .before .before .before .before .before .before .before .before .before .before .before .before .before .before .pre .accepted) (c .before .before .before .before .before .before .before .before .before .before .before .before .before .before .before .before .before .before .core-at .ensures .1) (sym (c .before .before .before .before .before .before .before .before .before .before .before .before .before .before .before .before .waits .ensures) ∙ c .before .before .before .before .before .before .before .before .before .before .before .before .before .before .before .if2 .left) (sym (c .before .before .before .before .before .before .before .before .before .before .turn .ensures) ∙ joins-out (c .before .before .before .before .before .before .before .before .before .before .before .before .before .before .before .before .before .before .before .before .before .before .before .before .before .before .before .before .before .before .before .args .file .now) (c .before .before .before .before .before .before .before .before .before .before .before .before .before .before .before .before .before .before .core-at .result) (getD (c .before .before .before .before .before .before .before .before .before .before .before .before .before .before .before .before .before .before .before .before .loop .cores) (c .before .before .before .before .before .before .before .before .before .before .before .before .before .before .before .before .before .before .core-at .result) none) (c .before .before .before .before .before .before .before .before .before .before .turn .result) (w .1 .given .1) (c .before .before .before .before .before .exchange-of .ensures .1))) (w .3) (w .4) (w .5 ∙ w .2 .ensures) (w .6) (w .7))
+    (λ w. joins-arm (c .before .before .before .before .before .before .before .before .before .before .before .before .before .before .before .before .before .before .before .before .loop .inv .0) (c .before .before .before .before .before .before .before .before .before .before .before .before .before .before .before .before .before .before .before .before .loop .inv .1) (c .before .before .before .before .before .before .before .before .before .before .before .before .before .before .before .before .before .before .before .before .before .before .before .before .before .before .before .before .before .before .before .pre .accepted) (c .before .before .before .before .before .before .before .before .before .before .before .before .before .before .before .before .before .before .before .loop-test .taken) (c .before .before .before .before .before .before .before .before .before .before .before .before .before .before .before .before .before .before .core-at .ensures .0) (c .before .before .before .before .before .before .before .before .before .before .before .before .before .before .before .before .before .before .core-at .ensures .1) (c .before .before .before .before .before .exchange-of .ensures .0 (semaphoreOf (c .before .before .before .before .before .before .before .before .before .before .before .before .before .before .before .before .before .before .before .before .loop .line .semaphore)) (sym (c .before .before .before .before .before .before .before .before .before .before .turn .ensures))) (search (needs, c .before .before .before .before .buffer3 .given)) (ap exchanged (w .1 .given .1)) (joining (c .before .before .before .before .before .before .before .before .before .before .before .before .before .before .before .before .before .before .before .before .loop .inv .0) (c .before .before .before .before .before .before .before .before .before .before .before .before .before .before .before .before .before .before .before .before .before .before .before .before .before .before .before .before .before .before .before .pre .accepted) (c .before .before .before .before .before .before .before .before .before .before .before .before .before .before .before .before .before .before .core-at .ensures .1) (sym (c .before .before .before .before .before .before .before .before .before .before .before .before .before .before .before .before .waits .ensures) ∙ c .before .before .before .before .before .before .before .before .before .before .before .before .before .before .before .if2 .left) (sym (c .before .before .before .before .before .before .before .before .before .before .turn .ensures) ∙ joins-out (c .before .before .before .before .before .before .before .before .before .before .before .before .before .before .before .before .before .before .before .before .before .before .before .before .before .before .before .before .before .before .before .args .file .now) (c .before .before .before .before .before .before .before .before .before .before .before .before .before .before .before .before .before .before .core-at .result) (getD (c .before .before .before .before .before .before .before .before .before .before .before .before .before .before .before .before .before .before .before .before .loop .cores) (c .before .before .before .before .before .before .before .before .before .before .before .before .before .before .before .before .before .before .core-at .result) noRegisters) (c .before .before .before .before .before .before .before .before .before .before .turn .result) (w .1 .given .1) (c .before .before .before .before .before .exchange-of .ensures .1))) (w .3) (w .4) (w .5 ∙ w .2 .ensures) (w .6) (w .7))
     (⊎-elim
     (λ w. reading-arm (c .before .before .before .before .before .before .before .before .before .before .before .before .before .before .before .before .before .before .before .before .loop .inv .0) (c .before .before .before .before .before .before .before .before .before .before .before .before .before .before .before .before .before .before .before .before .loop .inv .1) (c .before .before .before .before .before .before .before .before .before .before .before .before .before .before .before .before .before .before .before .before .before .before .before .before .before .before .before .before .before .before .before .pre .accepted) (c .before .before .before .before .before .before .before .before .before .before .before .before .before .before .before .before .before .before .before .loop-test .taken) (c .before .before .before .before .before .before .before .before .before .before .before .before .before .before .before .before .before .before .core-at .ensures .0) (c .before .before .before .before .before .before .before .before .before .before .before .before .before .before .before .before .before .before .core-at .ensures .1) (c .before .before .before .before .before .exchange-of .ensures .0 (semaphoreOf (c .before .before .before .before .before .before .before .before .before .before .before .before .before .before .before .before .before .before .before .before .loop .line .semaphore)) (sym (c .before .before .before .before .before .before .before .before .before .before .turn .ensures))) (search (needs, c .before .before .before .before .buffer3 .given)) (ap exchanged (w .1 .given .1)) (w .4 .ensures) (w .7) (w .8) (w .9 ∙ w .5 .ensures) (w .6 .ensures) (w .10) (w .11))
     (⊎-elim
-    (λ w. byte-read-arm (c .before .before .before .before .before .before .before .before .before .before .before .before .before .before .before .before .before .before .before .before .loop .inv .0) (c .before .before .before .before .before .before .before .before .before .before .before .before .before .before .before .before .before .before .before .before .loop .inv .1) (c .before .before .before .before .before .before .before .before .before .before .before .before .before .before .before .before .before .before .before .before .before .before .before .before .before .before .before .before .before .before .before .pre .accepted) (c .before .before .before .before .before .before .before .before .before .before .before .before .before .before .before .before .before .before .before .loop-test .taken) (c .before .before .before .before .before .before .before .before .before .before .before .before .before .before .before .before .before .before .core-at .ensures .0) (c .before .before .before .before .before .before .before .before .before .before .before .before .before .before .before .before .before .before .core-at .ensures .1) (c .before .before .before .before .before .exchange-of .ensures .0 (semaphoreOf (c .before .before .before .before .before .before .before .before .before .before .before .before .before .before .before .before .before .before .before .before .loop .line .semaphore)) (sym (c .before .before .before .before .before .before .before .before .before .before .turn .ensures))) (search (needs, c .before .before .before .before .buffer3 .given)) (ap exchanged (w .1 .given .1)) (read-on (c .before .before .before .before .before .before .before .before .before .before .before .before .before .before .before .before .before .before .before .before .before .before .before .before .before .before .before .before .before .before .before .args .file .now) (c .before .before .before .before .before .before .before .before .before .before .before .before .before .before .before .before .before .before .core-at .result) (getD (c .before .before .before .before .before .before .before .before .before .before .before .before .before .before .before .before .before .before .before .before .loop .cores) (c .before .before .before .before .before .before .before .before .before .before .before .before .before .before .before .before .before .before .core-at .result) none) (c .before .before .before .before .before .before .before .before .before .before .turn .result) (w .1 .given .1) (c .before .before .before .before .before .exchange-of .ensures .1)) (w .4 .ensures) (w .5) (w .6) (w .7) (w .8) (w .9))
+    (λ w. byte-read-arm (c .before .before .before .before .before .before .before .before .before .before .before .before .before .before .before .before .before .before .before .before .loop .inv .0) (c .before .before .before .before .before .before .before .before .before .before .before .before .before .before .before .before .before .before .before .before .loop .inv .1) (c .before .before .before .before .before .before .before .before .before .before .before .before .before .before .before .before .before .before .before .before .before .before .before .before .before .before .before .before .before .before .before .pre .accepted) (c .before .before .before .before .before .before .before .before .before .before .before .before .before .before .before .before .before .before .before .loop-test .taken) (c .before .before .before .before .before .before .before .before .before .before .before .before .before .before .before .before .before .before .core-at .ensures .0) (c .before .before .before .before .before .before .before .before .before .before .before .before .before .before .before .before .before .before .core-at .ensures .1) (c .before .before .before .before .before .exchange-of .ensures .0 (semaphoreOf (c .before .before .before .before .before .before .before .before .before .before .before .before .before .before .before .before .before .before .before .before .loop .line .semaphore)) (sym (c .before .before .before .before .before .before .before .before .before .before .turn .ensures))) (search (needs, c .before .before .before .before .buffer3 .given)) (ap exchanged (w .1 .given .1)) (read-on (c .before .before .before .before .before .before .before .before .before .before .before .before .before .before .before .before .before .before .before .before .before .before .before .before .before .before .before .before .before .before .before .args .file .now) (c .before .before .before .before .before .before .before .before .before .before .before .before .before .before .before .before .before .before .core-at .result) (getD (c .before .before .before .before .before .before .before .before .before .before .before .before .before .before .before .before .before .before .before .before .loop .cores) (c .before .before .before .before .before .before .before .before .before .before .before .before .before .before .before .before .before .before .core-at .result) noRegisters) (c .before .before .before .before .before .before .before .before .before .before .turn .result) (w .1 .given .1) (c .before .before .before .before .before .exchange-of .ensures .1)) (w .4 .ensures) (w .5) (w .6) (w .7) (w .8) (w .9))
     (⊎-elim
     (λ w. read-arm (c .before .before .before .before .before .before .before .before .before .before .before .before .before .before .before .before .before .before .before .before .loop .inv .0) (c .before .before .before .before .before .before .before .before .before .before .before .before .before .before .before .before .before .before .before .before .loop .inv .1) (c .before .before .before .before .before .before .before .before .before .before .before .before .before .before .before .before .before .before .before .before .before .before .before .before .before .before .before .before .before .before .before .pre .accepted) (c .before .before .before .before .before .before .before .before .before .before .before .before .before .before .before .before .before .before .before .loop-test .taken) (c .before .before .before .before .before .before .before .before .before .before .before .before .before .before .before .before .before .before .core-at .ensures .0) (c .before .before .before .before .before .before .before .before .before .before .before .before .before .before .before .before .before .before .core-at .ensures .1) (c .before .before .before .before .before .exchange-of .ensures .0 (semaphoreOf (c .before .before .before .before .before .before .before .before .before .before .before .before .before .before .before .before .before .before .before .before .loop .line .semaphore)) (sym (c .before .before .before .before .before .before .before .before .before .before .turn .ensures))) (search (needs, c .before .before .before .before .buffer3 .given)) (ap exchanged (w .1 .given .1)) (w .3 .ensures) (w .5) (w .6) (w .7 ∙ w .4 .ensures) (w .9))
     (⊎-elim
     (λ w. writing-arm (c .before .before .before .before .before .before .before .before .before .before .before .before .before .before .before .before .before .before .before .before .loop .inv .0) (c .before .before .before .before .before .before .before .before .before .before .before .before .before .before .before .before .before .before .before .before .loop .inv .1) (c .before .before .before .before .before .before .before .before .before .before .before .before .before .before .before .before .before .before .before .before .before .before .before .before .before .before .before .before .before .before .before .pre .accepted) (c .before .before .before .before .before .before .before .before .before .before .before .before .before .before .before .before .before .before .before .loop-test .taken) (c .before .before .before .before .before .before .before .before .before .before .before .before .before .before .before .before .before .before .core-at .ensures .0) (c .before .before .before .before .before .before .before .before .before .before .before .before .before .before .before .before .before .before .core-at .ensures .1) (c .before .before .before .before .before .exchange-of .ensures .0 (semaphoreOf (c .before .before .before .before .before .before .before .before .before .before .before .before .before .before .before .before .before .before .before .before .loop .line .semaphore)) (sym (c .before .before .before .before .before .before .before .before .before .before .turn .ensures))) (search (needs, c .before .before .before .before .buffer3 .given)) (ap exchanged (w .1 .given .1)) (w .3 .ensures) (w .6) (w .7) (w .8 ∙ w .4 .ensures) (w .5 .ensures) (w .9) (w .10))
     (⊎-elim
-    (λ w. byte-written-arm (c .before .before .before .before .before .before .before .before .before .before .before .before .before .before .before .before .before .before .before .before .loop .inv .0) (c .before .before .before .before .before .before .before .before .before .before .before .before .before .before .before .before .before .before .before .before .loop .inv .1) (c .before .before .before .before .before .before .before .before .before .before .before .before .before .before .before .before .before .before .before .before .before .before .before .before .before .before .before .before .before .before .before .pre .accepted) (c .before .before .before .before .before .before .before .before .before .before .before .before .before .before .before .before .before .before .before .loop-test .taken) (c .before .before .before .before .before .before .before .before .before .before .before .before .before .before .before .before .before .before .core-at .ensures .0) (c .before .before .before .before .before .before .before .before .before .before .before .before .before .before .before .before .before .before .core-at .ensures .1) (c .before .before .before .before .before .exchange-of .ensures .0 (semaphoreOf (c .before .before .before .before .before .before .before .before .before .before .before .before .before .before .before .before .before .before .before .before .loop .line .semaphore)) (sym (c .before .before .before .before .before .before .before .before .before .before .turn .ensures))) (search (needs, c .before .before .before .before .buffer3 .given)) (ap exchanged (w .1 .given .1)) (write-on (c .before .before .before .before .before .before .before .before .before .before .before .before .before .before .before .before .before .before .before .before .before .before .before .before .before .before .before .before .before .before .before .args .file .now) (c .before .before .before .before .before .before .before .before .before .before .before .before .before .before .before .before .before .before .core-at .result) (getD (c .before .before .before .before .before .before .before .before .before .before .before .before .before .before .before .before .before .before .before .before .loop .cores) (c .before .before .before .before .before .before .before .before .before .before .before .before .before .before .before .before .before .before .core-at .result) none) (c .before .before .before .before .before .before .before .before .before .before .turn .result) (w .1 .given .1) (c .before .before .before .before .before .exchange-of .ensures .1)) (w .4 .ensures) (w .5) (w .6) (w .7) (w .8) (w .9))
+    (λ w. byte-written-arm (c .before .before .before .before .before .before .before .before .before .before .before .before .before .before .before .before .before .before .before .before .loop .inv .0) (c .before .before .before .before .before .before .before .before .before .before .before .before .before .before .before .before .before .before .before .before .loop .inv .1) (c .before .before .before .before .before .before .before .before .before .before .before .before .before .before .before .before .before .before .before .before .before .before .before .before .before .before .before .before .before .before .before .pre .accepted) (c .before .before .before .before .before .before .before .before .before .before .before .before .before .before .before .before .before .before .before .loop-test .taken) (c .before .before .before .before .before .before .before .before .before .before .before .before .before .before .before .before .before .before .core-at .ensures .0) (c .before .before .before .before .before .before .before .before .before .before .before .before .before .before .before .before .before .before .core-at .ensures .1) (c .before .before .before .before .before .exchange-of .ensures .0 (semaphoreOf (c .before .before .before .before .before .before .before .before .before .before .before .before .before .before .before .before .before .before .before .before .loop .line .semaphore)) (sym (c .before .before .before .before .before .before .before .before .before .before .turn .ensures))) (search (needs, c .before .before .before .before .buffer3 .given)) (ap exchanged (w .1 .given .1)) (write-on (c .before .before .before .before .before .before .before .before .before .before .before .before .before .before .before .before .before .before .before .before .before .before .before .before .before .before .before .before .before .before .before .args .file .now) (c .before .before .before .before .before .before .before .before .before .before .before .before .before .before .before .before .before .before .core-at .result) (getD (c .before .before .before .before .before .before .before .before .before .before .before .before .before .before .before .before .before .before .before .before .loop .cores) (c .before .before .before .before .before .before .before .before .before .before .before .before .before .before .before .before .before .before .core-at .result) noRegisters) (c .before .before .before .before .before .before .before .before .before .before .turn .result) (w .1 .given .1) (c .before .before .before .before .before .exchange-of .ensures .1)) (w .4 .ensures) (w .5) (w .6) (w .7) (w .8) (w .9))
     (λ w. written-arm (c .before .before .before .before .before .before .before .before .before .before .before .before .before .before .before .before .before .before .before .before .loop .inv .0) (c .before .before .before .before .before .before .before .before .before .before .before .before .before .before .before .before .before .before .before .before .loop .inv .1) (c .before .before .before .before .before .before .before .before .before .before .before .before .before .before .before .before .before .before .before .before .before .before .before .before .before .before .before .before .before .before .before .pre .accepted) (c .before .before .before .before .before .before .before .before .before .before .before .before .before .before .before .before .before .before .before .loop-test .taken) (c .before .before .before .before .before .before .before .before .before .before .before .before .before .before .before .before .before .before .core-at .ensures .0) (c .before .before .before .before .before .before .before .before .before .before .before .before .before .before .before .before .before .before .core-at .ensures .1) (c .before .before .before .before .before .exchange-of .ensures .0 (semaphoreOf (c .before .before .before .before .before .before .before .before .before .before .before .before .before .before .before .before .before .before .before .before .loop .line .semaphore)) (sym (c .before .before .before .before .before .before .before .before .before .before .turn .ensures))) (search (needs, c .before .before .before .before .buffer3 .given)) (ap exchanged (w .1 .given .1)) (w .3 .ensures) (w .5) (w .6) (w .7 ∙ w .4 .ensures) (w .9))))))))
     (c .match .came)
 

@@ -14,8 +14,8 @@ use Rattle.taskset.specs.Judge.{codeOf}
 use Rattle.taskset.proofs.Accepted.{core-facts}
 use Rattle.states.specs.declared.CoreTask.{CoreTask}
 use Rattle.states.specs.declared.State.{State}
-use Rattle.states.specs.Machine.{none}
-use Rattle.states.specs.Set.{Set}
+use Rattle.states.specs.Machine.{noRegisters}
+use Rattle.states.specs.Set.{AcceptedSet}
 use Rattle.states.specs.Tasks.{coreTask}
 use Rattle.states.specs.Places.{AcceptedCode}
 use Rattle.states.specs.Fit.{entry, freedFit, executionFit, exchangesFit, coreFit, fitAt}
@@ -42,11 +42,11 @@ module _ (f t : List ℕ) (k : ℕ) (task : CoreTask) (e : task ≡ coreTask f t
       let n : task .code + task .length - task .code ≡ task .length = omega arith in
       rw (n, e)
 
-  inside : Set f t → k < cores f → task .code + task .length ≤ length f
+  inside : AcceptedSet f t → k < cores f → task .code + task .length ≤ length f
   unfolding coreTask
   inside ok h = rw e (ok .code-inside k h)
 
-  judged : Set f t → k < cores f → AcceptedCode (lent f task)
+  judged : AcceptedSet f t → k < cores f → AcceptedCode (lent f task)
   judged ok h =
       let facts = core-facts f (ok .file) k h in
       record {
@@ -57,16 +57,16 @@ module _ (f t : List ℕ) (k : ℕ) (task : CoreTask) (e : task ≡ coreTask f t
 
   -- the rules, with what the task has of file and trace
   abbrev freed : State → Bool
-  freed s = freedFit (getD (s .cores) k none) (entry (s .places) k) (entry (s .offsets) k)
+  freed s = freedFit (getD (s .cores) k noRegisters) (entry (s .places) k) (entry (s .offsets) k)
 
   abbrev executes : State → Bool
-  executes s = executionFit (lent f task) (task .size) (task .limit) (getD (s .cores) k none) (entry (s .places) k) (entry (s .offsets) k)
+  executes s = executionFit (lent f task) (task .size) (task .limit) (getD (s .cores) k noRegisters) (entry (s .places) k) (entry (s .offsets) k)
 
   abbrev exchanges : State → Bool
-  exchanges s = exchangesFit (task .reads) (task .writes) (task .count) (s .semaphore .holder) k (getD (s .cores) k none)
+  exchanges s = exchangesFit (task .reads) (task .writes) (task .count) (s .semaphore .holder) k (getD (s .cores) k noRegisters)
 
   abbrev flagged : State → Bool
-  flagged s = ltb (getD (s .cores) k none .flags) flagBound
+  flagged s = ltb (getD (s .cores) k noRegisters .flags) flagBound
 
   by-rules : (s : State) → both (executes s) (both (exchanges s) (both (freed s) (flagged s))) ≡ fitAt f t s k
   unfolding fitAt coreFit coreTask

@@ -7,14 +7,14 @@ use Rattle.records.specs.File.{variables, recordPlace}
 use Rattle.taskset.specs.declared.Layout.{Layout}
 use Rattle.taskset.specs.Layout.{layoutOf}
 use Rattle.exchange.specs.Laid.{Laid}
-use Rattle.states.specs.Set.{Set}
+use Rattle.states.specs.Set.{AcceptedSet}
 use Rattle.states.proofs.Tasks.{count-at, task-is}
 use borrow.Author.Needs.{needs}
 use Rattle.states.proofs.core_task.Statement.{statement}
 use Rattle.states.proofs.core_task.Tie as tie
 
 -- the variables' records, as the layout has them
-asked : {f t : List ℕ} {l : Layout} {bit : ℕ} → Set f t → l ≡ layoutOf f → bit < 8
+asked : {f t : List ℕ} {l : Layout} {bit : ℕ} → AcceptedSet f t → l ≡ layoutOf f → bit < 8
     → Laid f × (l .first ≡ recordPlace f 0) × (l .first + 12 * l .variables ≡ recordPlace f (variables f)) × (bit < 8)
 asked {f} ok e h =
     let a = ap (λ (m : Layout). m .first) e in

@@ -1,7 +1,7 @@
 -- The stretch that is lent is the data of core k, and the others stay. Assumes nothing.
 use mathlib.Core.Path.{refl, subst⁻¹}
 use native.Mathlib.Omega.{arith}
-use Rattle.steps.specs.Moving.{Ready}
+use Rattle.steps.specs.Moving.{StepGiven}
 use Rattle.steps.proofs.Given.{stretch-inside, stretch-is, steps-in}
 use borrow.Author.Needs.{needs}
 use Rattle.steps.proofs.exchange_of.Statement.{statement}
@@ -20,7 +20,7 @@ part-exchange-in-end : tie.Need-part-exchange-in-end
 part-exchange-in-end c = omega (arith, stretch-inside _ (c .before .before .before .before .before .pre .0 .ready) (c .before .before .before .before .before .pre .0 .buffer))
 
 exchange-in-requires : tie.Need-exchange-in-requires
-exchange-in-requires c κs = (subst⁻¹ (Ready _ _ _ _ _) (stretch-is _ (c .before .before .before .before .before .before .before .pre .0 .ready) (c .before .before .before .before .before .before .before .pre .0 .buffer) _ refl) (c .before .before .before .before .before .before .before .pre .0 .ready), c .before .before .before .before .before .before .before .pre .1, c .before .before .before .before .before .before .before .pre .0 .shared, c .before .before .before .before .before .before .before .pre .0 .aimed, c .before .before .before .before .before .before .before .pre .0 .upto)
+exchange-in-requires c κs = (subst⁻¹ (StepGiven _ _ _ _ _) (stretch-is _ (c .before .before .before .before .before .before .before .pre .0 .ready) (c .before .before .before .before .before .before .before .pre .0 .buffer) _ refl) (c .before .before .before .before .before .before .before .pre .0 .ready), c .before .before .before .before .before .before .before .pre .1, c .before .before .before .before .before .before .before .pre .0 .shared, c .before .before .before .before .before .before .before .pre .0 .aimed, c .before .before .before .before .before .before .before .pre .0 .upto)
 
 same-length : tie.Need-same-length
 same-length c = search needs

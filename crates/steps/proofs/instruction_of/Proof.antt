@@ -1,7 +1,7 @@
 -- The stretch that is lent is the data of core k, and the others stay. Assumes nothing.
 use mathlib.Core.Path.{refl, subst⁻¹}
 use native.Mathlib.Omega.{arith}
-use Rattle.steps.specs.Moving.{Ready}
+use Rattle.steps.specs.Moving.{StepGiven}
 use Rattle.steps.proofs.Given.{stretch-inside, stretch-is, steps-in}
 use borrow.Author.Needs.{needs}
 use Rattle.steps.proofs.instruction_of.Statement.{statement}
@@ -20,7 +20,7 @@ part-execute-end : tie.Need-part-execute-end
 part-execute-end c = omega (arith, stretch-inside _ (c .before .before .before .before .pre .0) (c .before .before .before .before .pre .1))
 
 execute-requires : tie.Need-execute-requires
-execute-requires c κs = (subst⁻¹ (Ready _ _ _ _ _) (stretch-is _ (c .before .before .before .before .before .pre .0) (c .before .before .before .before .before .pre .1) _ refl) (c .before .before .before .before .before .pre .0), c .before .before .before .before .before .pre .2)
+execute-requires c κs = (subst⁻¹ (StepGiven _ _ _ _ _) (stretch-is _ (c .before .before .before .before .before .pre .0) (c .before .before .before .before .before .pre .1) _ refl) (c .before .before .before .before .before .pre .0), c .before .before .before .before .before .pre .2)
 
 same-length : tie.Need-same-length
 same-length c = search needs

@@ -5,7 +5,7 @@ use borrow.Author.Tests.{lt-ltb, le-ltb}
 use Rattle.verdict.specs.Verdict.{pick}
 use Rattle.verdict.proofs.Truth.{both-swap}
 use Rattle.semaphore.specs.Line.{semaphoreOf}
-use Rattle.table.specs.Table.{goesOn, canMove}
+use Rattle.table.specs.Table.{servedOrJoins, canMove}
 use Rattle.table.proofs.Moves.{other-modes}
 use borrow.Author.Needs.{needs}
 use Rattle.table.proofs.can_move.Statement.{statement}
@@ -16,14 +16,14 @@ cast-if2 c = search needs
 
 returns : tie.Need-returns
 unfolding canMove pick
-returns c = rw (c .before .before .if1 .taken, le-ltb _ _ (c .if2 .taken)) (both-swap false (goesOn (semaphoreOf (c .before .before .before .before .args .m)) (c .before .before .before .before .args .k)))
+returns c = rw (c .before .before .if1 .taken, le-ltb _ _ (c .if2 .taken)) (both-swap false (servedOrJoins (semaphoreOf (c .before .before .before .before .args .m)) (c .before .before .before .before .args .k)))
 
 goes-on-requires : tie.Need-goes-on-requires
 goes-on-requires c κs = search needs
 
 returns-2 : tie.Need-returns-2
 unfolding canMove pick
-returns-2 c = rw (c .before .before .before .if1 .taken, lt-ltb _ _ (c .before .if2 .left)) (c .goes-on .ensures ∙ both-swap true (goesOn (semaphoreOf (c .before .before .before .before .before .args .m)) (c .before .before .before .before .before .args .k)))
+returns-2 c = rw (c .before .before .before .if1 .taken, lt-ltb _ _ (c .before .if2 .left)) (c .goes-on .ensures ∙ both-swap true (servedOrJoins (semaphoreOf (c .before .before .before .before .before .args .m)) (c .before .before .before .before .before .args .k)))
 
 goes-on-requires-2 : tie.Need-goes-on-requires-2
 goes-on-requires-2 c κs = search needs
@@ -34,7 +34,7 @@ returns-3 c = rw (c .before .if3 .taken) (c .goes-on2 .ensures)
 
 returns-4 : tie.Need-returns-4
 unfolding canMove
-returns-4 c = other-modes (c .before .before .before .before .before .args .r .mode) (goesOn (semaphoreOf (c .before .before .before .before .before .args .m)) (c .before .before .before .before .before .args .k)) (c .before .before .before .before .before .args .count) (c .before .before .before .before .before .args .r .cycles) (c .before .before .before .if1 .left) (c .before .if3 .left)
+returns-4 c = other-modes (c .before .before .before .before .before .args .r .mode) (servedOrJoins (semaphoreOf (c .before .before .before .before .before .args .m)) (c .before .before .before .before .before .args .k)) (c .before .before .before .before .before .args .count) (c .before .before .before .before .before .args .r .cycles) (c .before .before .before .if1 .left) (c .before .if3 .left)
 
 pub can-move-spec : {M : Type 1} → statement M
 can-move-spec =
