@@ -25,7 +25,7 @@ use Rattle.protocol.proofs.Fair.{few-below}
 use Rattle.semaphore.specs.declared.Semaphore.{Semaphore as HeldSemaphore}
 use Rattle.semaphore.specs.Line.{semaphoreOf, semaphoreBack}
 use Rattle.semaphore.proofs.Laws.{of-back}
-use Rattle.states.specs.declared.State.{State as Held}
+use Rattle.states.specs.declared.Held.{Held}
 use Rattle.states.specs.Machine.{noRegisters, stackIn, coreIn, stateIn, stateOf, registersBack, entryBack, heldAfter, dataOf, Sized}
 use Rattle.states.specs.Fit.{Fit}
 use Rattle.states.proofs.Tables.{listed-same}

@@ -15,7 +15,7 @@ use Rattle.verdict.proofs.Verdict.{pick-true, pick-false, by-pick, next-none, n
 use Rattle.memory.specs.Memory.{total, split, flat, part, splice}
 use Rattle.memory.proofs.Cores.{split-flat-of}
 use Rattle.protocol.specs.declared.Registers.{Registers}
-use Rattle.protocol.specs.State.{Core, Semaphore, State as Whole, core, absent, cleared}
+use Rattle.protocol.specs.State.{Core, Semaphore, State, core, absent, cleared}
 use Rattle.protocol.specs.Step.{step, run, takingOf, takings, encoded}
 use Rattle.protocol.proofs.Steps.{run-append, takings-append}
 use Rattle.protocol.specs.Fresh.{freshCore}
@@ -26,7 +26,7 @@ use Rattle.taskset.specs.Task.{sizesOf}
 use Rattle.taskset.specs.Starts.{startData, startShared, startsOf, startBuffer}
 use Rattle.taskset.specs.Fresh.{freshOf}
 use Rattle.taskset.proofs.Accepted.{listed-at, start-sizes, length-buffer, length-shared, fresh-cores, fresh-core}
-use Rattle.states.specs.declared.State.{State}
+use Rattle.states.specs.declared.Held.{Held}
 use Rattle.states.specs.Task.{taskOf}
 use Rattle.states.specs.Set.{AcceptedSet}
 use Rattle.semaphore.specs.Line.{semaphoreOf}
@@ -63,7 +63,7 @@ pub record Counted (f t : List ℕ) (x y : Left) (ks : List ℕ) : Type 0 where
   pub taken : y .answer .taken ≡ length (takings (taskOf f t) ks (wholeOf f x))
   pub lendable : Lendable f t y
 
-pub run-fit : (f t : List ℕ) → AcceptedSet f t → (ks : List ℕ) (s : Whole) → Fit f t s → Fit f t (run (taskOf f t) ks s)
+pub run-fit : (f t : List ℕ) → AcceptedSet f t → (ks : List ℕ) (s : State) → Fit f t s → Fit f t (run (taskOf f t) ks s)
 run-fit f t ok [] s fit = fit
 run-fit f t ok (k ∷ ks) s fit = run-fit f t ok ks (step (taskOf f t) k s) (fit-kept f t ok (executes f t ok) k s fit)
 
@@ -83,7 +83,7 @@ module _ (m : List ℕ) where
 
 module _ (f t : List ℕ) (ok : AcceptedSet f t) (x : Left) (w : Lendable f t x) where
   -- the caller's state with a fit state s for its cores
-  left-back : (s : Whole) → Fit f t s → (y : Left) → y .answer .state ≡ heldAfter (cores f) (x .answer .state) s → y .memory ≡ dataOf s → y .shared ≡ s .plant .shared
+  left-back : (s : State) → Fit f t s → (y : Left) → y .answer .state ≡ heldAfter (cores f) (x .answer .state) s → y .memory ≡ dataOf s → y .shared ≡ s .plant .shared
       → (wholeOf f y ≡ s) × Lendable f t y
   unfolding heldAfter
   left-back s fit y a b c =
@@ -91,13 +91,13 @@ module _ (f t : List ℕ) (ok : AcceptedSet f t) (x : Left) (w : Lendable f t x)
       let sized = sized-back f t (ok .few) (x .answer .state) s fit in (
         back,
         record {
-          count = ap (λ (h : State). h .count) a ∙ w .count;
-          line = let n : y .answer .state .semaphore .waiting ≡ length (s .semaphore .line) = ap (λ (h : State). h .semaphore .waiting) a in omega (arith, n, line-few f t (ok .few) (x .answer .state) s fit);
+          count = ap (λ (h : Held). h .count) a ∙ w .count;
+          line = let n : y .answer .state .semaphore .waiting ≡ length (s .semaphore .line) = ap (λ (h : Held). h .semaphore .waiting) a in omega (arith, n, line-few f t (ok .few) (x .answer .state) s fit);
           sized = record {
             memory = ap length b ∙ sized .memory;
             shared = ap length c ∙ sized .shared;
-            places = ap (λ (h : State). length (h .places)) a ∙ sized .places;
-            offsets = ap (λ (h : State). length (h .offsets)) a ∙ sized .offsets;
+            places = ap (λ (h : Held). length (h .places)) a ∙ sized .places;
+            offsets = ap (λ (h : Held). length (h .offsets)) a ∙ sized .offsets;
           };
           fit = subst (Fit f t) (sym back) fit;
         },
@@ -228,7 +228,7 @@ calls-counted f t ok (c ∷ cs) x w =
     let first = countsAs f t c x in
     let rest = stepsOf f t cs (leaves f t c x) in (
       more .0 ∙ ap (run (taskOf f t) rest) (y .whole) ∙ sym (run-append (taskOf f t) first rest (wholeOf f x)),
-      ap₂ _+_ (y .taken) (more .1 ∙ ap (λ (s : Whole). length (takings (taskOf f t) rest s)) (y .whole))
+      ap₂ _+_ (y .taken) (more .1 ∙ ap (λ (s : State). length (takings (taskOf f t) rest s)) (y .whole))
           ∙ sym (length-append (takings (taskOf f t) first (wholeOf f x)) (takings (taskOf f t) rest (run (taskOf f t) first (wholeOf f x))))
           ∙ ap length (sym (takings-append (taskOf f t) first rest (wholeOf f x))),
       more .2,
@@ -237,14 +237,14 @@ calls-counted f t ok (c ∷ cs) x w =
 -- ---- a run
 
 -- where every number is below n, each call leaves the caller's state h with the steps' state for its cores
-pub record Follows (f t : List ℕ) (h : State) (s : Whole) (x : Left) : Type 0 where
+pub record Follows (f t : List ℕ) (h : Held) (s : State) (x : Left) : Type 0 where
   pub lendable : Lendable f t x
   pub state : x .answer .state ≡ heldAfter (cores f) h s
   pub memory : x .memory ≡ dataOf s
   pub shared : x .shared ≡ s .plant .shared
   pub whole : wholeOf f x ≡ s
 
-follows-step : (f t : List ℕ) → AcceptedSet f t → (h : State) (s : Whole) (x : Left) → Follows f t h s x → (k : ℕ) → k < cores f
+follows-step : (f t : List ℕ) → AcceptedSet f t → (h : Held) (s : State) (x : Left) → Follows f t h s x → (k : ℕ) → k < cores f
     → Follows f t h (step (taskOf f t) k s) (leaves f t (stepping entire entire k) x)
 unfolding pick
 follows-step f t ok h s x w k l =
@@ -258,14 +258,14 @@ follows-step f t ok h s x w k l =
           ∙ ap₂ (heldAfter (cores f)) (w .state) next
           ∙ held-twice (cores f) h s (step (taskOf f t) k s);
       memory = ap (λ (z : Left). z .memory) e ∙ ap dataOf next;
-      shared = ap (λ (z : Left). z .shared) e ∙ ap (λ (z : Whole). z .plant .shared) next;
+      shared = ap (λ (z : Left). z .shared) e ∙ ap (λ (z : State). z .plant .shared) next;
       whole =
           y .whole
           ∙ ap (λ (r : ℕ). run (taskOf f t) (pick (eqb r 0) (k ∷ []) []) (wholeOf f x)) (ap (λ (z : Left). z .answer .refusal) e)
           ∙ next;
     }
 
-follows-steps : (f t : List ℕ) → AcceptedSet f t → (h : State) (s : Whole) (x : Left) → Follows f t h s x → (ks : List ℕ) → allBelow (cores f) ks ≡ true
+follows-steps : (f t : List ℕ) → AcceptedSet f t → (h : Held) (s : State) (x : Left) → Follows f t h s x → (ks : List ℕ) → allBelow (cores f) ks ≡ true
     → Follows f t h (run (taskOf f t) ks s) (stepCalls f t ks x)
 follows-steps f t ok h s x w [] e = w
 follows-steps f t ok h s x w (k ∷ ks) e =
@@ -306,7 +306,7 @@ fresh-state f few =
 
 -- That f and t are bytes and that a state's arrays have their lengths is known of the types
 module _ (f t : List ℕ) (bytes : (i : ℕ) → getD f i 0 < 256) (trace-bytes : (i : ℕ) → getD t i 0 < 256) where
-  pub run-is-steps : (h : State) → length (h .cores) ≡ 4 → length (h .places) ≡ 64 → length (h .offsets) ≡ 64 → (d sh order list : List ℕ)
+  pub run-is-steps : (h : Held) → length (h .cores) ≡ 4 → length (h .places) ≡ 64 → length (h .offsets) ≡ 64 → (d sh order list : List ℕ)
       → runRefusal f t h d sh order list ≡ 0 → RunIsSteps f t h d sh order list
   unfolding runCall runRefusal ranCall stateIn
   run-is-steps h four places offsets d sh order list e =
@@ -374,6 +374,6 @@ module _ (f t : List ℕ) (bytes : (i : ℕ) → getD f i 0 < 256) (trace-bytes 
         let ks = stepsOf f t cs (freshCall f d sh) in
         record {
           steps = y .0 ∙ ap (run (taskOf f t) ks) fresh-left;
-          taken = y .1 ∙ ap (λ (s : Whole). length (takings (taskOf f t) ks s)) fresh-left;
+          taken = y .1 ∙ ap (λ (s : State). length (takings (taskOf f t) ks s)) fresh-left;
           interleaved = interleaved-machine f t (fresh-lent .0) ks;
         }

@@ -9,10 +9,10 @@ use lib.Dec.{eqb}
 use lib.ListN.{length, take, drop}
 use Rattle.verdict.specs.Verdict.{pick}
 use Rattle.memory.specs.Memory.{splice}
-use Rattle.protocol.specs.State.{State as Whole}
+use Rattle.protocol.specs.State.{State}
 use Rattle.protocol.specs.Step.{run, takings, encoded}
 use Rattle.taskset.specs.Fresh.{freshOf}
-use Rattle.states.specs.declared.State.{State}
+use Rattle.states.specs.declared.Held.{Held}
 use Rattle.states.specs.Task.{taskOf}
 use Rattle.semaphore.specs.Line.{semaphoreOf, semaphoreBack}
 use Rattle.states.specs.Machine.{stateOf}
@@ -61,7 +61,7 @@ abbrev pub stepCalls : List ℕ → List ℕ → List ℕ → Left → Left
 stepCalls f t ks x = calls f t (map (stepping entire entire) ks) x
 
 -- the state, with the lent memories, that a call left
-abbrev pub wholeOf : List ℕ → Left → Whole
+abbrev pub wholeOf : List ℕ → Left → State
 wholeOf f x = stateOf f (x .answer .state) (x .memory) (x .shared)
 
 -- ---- the steps that calls count as: "A refused call changes nothing and is no taking; a run counts as its steps."
@@ -91,11 +91,11 @@ pub record Unchanged (x y : Left) : Type 0 where
   pub shared : y .shared ≡ x .shared
 
 -- a caller's state with zeros past the line, as an accepted call leaves it; a run of no steps is one
-abbrev pub tidied : State → State
+abbrev pub tidied : Held → Held
 tidied h = record { count = h .count; semaphore = semaphoreBack (semaphoreOf (h .semaphore)); cores = h .cores; places = h .places; offsets = h .offsets }
 
 -- A run equals its step calls one after another, and its order list is the takings
-pub record RunIsSteps (f t : List ℕ) (h : State) (d sh order list : List ℕ) : Type 0 where
+pub record RunIsSteps (f t : List ℕ) (h : Held) (d sh order list : List ℕ) : Type 0 where
   pub state : runCall f t h d sh order list .answer .state ≡ stepCalls f t order (leftAs (answerOf 0 (tidied h)) d sh []) .answer .state
   pub memory : runCall f t h d sh order list .memory ≡ stepCalls f t order (leftAs (answerOf 0 (tidied h)) d sh []) .memory
   pub shared : runCall f t h d sh order list .shared ≡ stepCalls f t order (leftAs (answerOf 0 (tidied h)) d sh []) .shared

@@ -13,7 +13,7 @@ use Rattle.verdict.specs.Verdict.{either, next, unless}
 use Rattle.verdict.proofs.Verdict.{absurd-bool, pick-true, pick-false, by-pick, yes, skip, stop, next-zero}
 use Rattle.memory.specs.Memory.{part, splice, total}
 use Rattle.memory.proofs.Laws.{part-splice-same}
-use Rattle.protocol.specs.State.{State as Whole, Task, core, mode}
+use Rattle.protocol.specs.State.{State, Task, core, mode}
 use Rattle.protocol.specs.Step.{step, run, Taking, taken, takingOf, takings, encoded, orderList}
 use Rattle.records.specs.File.{cores}
 use Rattle.taskset.specs.Judge.{judge}
@@ -23,12 +23,12 @@ use Rattle.taskset.specs.Fresh.{freshOf}
 use Rattle.taskset.proofs.Accepted.{length-buffer, length-shared}
 use Rattle.taskset.specs.Trace.{traceRefusal}
 use Rattle.taskset.proofs.Exact.{keeps-rules}
-use Rattle.states.specs.declared.State.{State}
+use Rattle.states.specs.declared.Held.{Held}
 use Rattle.states.specs.Machine.{stateOf, heldAfter}
 use Rattle.states.specs.Preparing.{heldRefusal}
 use Rattle.states.specs.Task.{taskOf}
 use Rattle.states.proofs.Accepted.{accepted-set}
-use Rattle.runner.specs.declared.Ran.{Ran}
+use Rattle.runner.specs.declared.RunAnswer.{RunAnswer}
 use Rattle.runner.specs.Runs.{Left, leftAs, ranCall}
 use Rattle.machine.specs.Calls.{bufferSize, lentFits, callRefusal, answerOf, tableOf, freshRefusal, freshCall, runRefusal, runCall}
 use Rattle.machine.proofs.Calls.{fresh-none}
@@ -46,7 +46,7 @@ one-taking m m′ k =
     by-pick (λ (l : List Taking). length l ≤ 1) _ _ _ (λ e. omega arith)
     (λ e. by-pick (λ (l : List Taking). length l ≤ 1) _ _ _ (λ z. omega arith) (λ z. omega arith))
 
-few-takings : (t : Task) (ks : List ℕ) (s : Whole) → length (takings t ks s) ≤ length ks
+few-takings : (t : Task) (ks : List ℕ) (s : State) → length (takings t ks s) ≤ length ks
 unfolding takingOf
 few-takings t [] s = omega arith
 few-takings t (k ∷ ks) s =
@@ -54,12 +54,12 @@ few-takings t (k ∷ ks) s =
     let rest = few-takings t ks (step t k s) in
     omega (arith, length-append (takingOf t k s) (takings t ks (step t k s)))
 
-few-listed : (t : Task) (ks : List ℕ) (s : Whole) → length (orderList t ks s) ≤ length ks
+few-listed : (t : Task) (ks : List ℕ) (s : State) → length (orderList t ks s) ≤ length ks
 few-listed t ks s = omega (arith, length-map (takings t ks s) encoded, few-takings t ks s)
 
 -- ---- the fresh call, lent memory of the right sizes
 
-module _ (f t order d sh list : List ℕ) (lent : length d ≡ bufferSize f) (lent-shared : length sh ≡ 1024) (x : Ran) (d′ sh′ : List ℕ) (began : leftAs x d′ sh′ [] ≡ freshCall f d sh) where
+module _ (f t order d sh list : List ℕ) (lent : length d ≡ bufferSize f) (lent-shared : length sh ≡ 1024) (x : RunAnswer) (d′ sh′ : List ℕ) (began : leftAs x d′ sh′ [] ≡ freshCall f d sh) where
   abbrev number : ℕ
   number = freshRefusal f (length d) (length sh)
 
@@ -123,7 +123,7 @@ module _ (f t order d sh list : List ℕ) (lent : length d ≡ bufferSize f) (le
           (sym (skip (yes _ 21 (rw (lent-fits, le-leb (length order) (length list) room) refl)) refl)
           ∙ held (traceRefusal f t) _ _ (λ z. fresh-not-refused f t (accepted-set f t bytes trace-bytes accepted z)))
 
-      module _ (y : Ran) (e k l : List ℕ) (ran : leftAs y e k l ≡ runCall f t (x .state) d′ sh′ order list) where
+      module _ (y : RunAnswer) (e k l : List ℕ) (ran : leftAs y e k l ≡ runCall f t (x .state) d′ sh′ order list) where
         run-answered : y .refusal ≡ refusalOf f t order
         unfolding runCall ranCall
         run-answered =
@@ -150,13 +150,13 @@ module _ (f t order d sh list : List ℕ) (lent : length d ≡ bufferSize f) (le
 
           state-is : y .state ≡ stateAfter f t order
           unfolding ranCall stateAfter
-          state-is = ap (λ (z : Left). z .answer .state) all-ran ∙ ap (λ (s : Whole). heldAfter (cores f) (tableOf (cores f) 4) (run (taskOf f t) order s)) started
+          state-is = ap (λ (z : Left). z .answer .state) all-ran ∙ ap (λ (s : State). heldAfter (cores f) (tableOf (cores f) 4) (run (taskOf f t) order s)) started
 
           count-is : y .state .count ≡ cores f
           unfolding stateAfter heldAfter tableOf
-          count-is = ap (λ (s : State). s .count) state-is
+          count-is = ap (λ (s : Held). s .count) state-is
 
-          front : (s : Whole) → take (length (orderList (taskOf f t) order s)) (splice list 0 (orderList (taskOf f t) order s)) ≡ orderList (taskOf f t) order s
+          front : (s : State) → take (length (orderList (taskOf f t) order s)) (splice list 0 (orderList (taskOf f t) order s)) ≡ orderList (taskOf f t) order s
           unfolding part
           front s = part-splice-same list 0 (orderList (taskOf f t) order s) (omega (arith, few-listed (taskOf f t) order s))
 
@@ -170,7 +170,7 @@ module _ (f t order d sh list : List ℕ) (lent : length d ≡ bufferSize f) (le
           pub run-listed : listing (y .state .count) (y .state) (take (y .taken) l) ≡ runText f t order
           unfolding runText
           run-listed =
-              ap₂ (λ (n : ℕ) (s : State). listing n s (take (y .taken) l)) count-is state-is
+              ap₂ (λ (n : ℕ) (s : Held). listing n s (take (y .taken) l)) count-is state-is
               ∙ ap (listing (cores f) (stateAfter f t order)) takings-are
               ∙ sym (pick-true _ _ _ (eq-eqb _ _ none-refused))
 

@@ -13,7 +13,7 @@ use Rattle.records.specs.File.{cores}
 use Rattle.taskset.specs.Judge.{judge}
 use Rattle.taskset.specs.Fresh.{freshOf}
 use Rattle.taskset.specs.Trace.{traceRefusal}
-use Rattle.states.specs.declared.State.{State}
+use Rattle.states.specs.declared.Held.{Held}
 use Rattle.states.specs.Machine.{heldAfter}
 use Rattle.states.specs.Task.{taskOf}
 use Rattle.runner.specs.Runs.{allBelow}
@@ -34,7 +34,7 @@ refusalOf f t order = next (judge f) (next (traceRefusal f t) (unless (allBelow 
 -- ---- the run from the fresh state
 
 -- the state after the steps of the order
-unfoldable pub stateAfter : List ℕ → List ℕ → List ℕ → State
+unfoldable pub stateAfter : List ℕ → List ℕ → List ℕ → Held
 stateAfter f t order = heldAfter (cores f) (tableOf (cores f) 4) (run (taskOf f t) order (freshOf f))
 
 -- the order list's bytes

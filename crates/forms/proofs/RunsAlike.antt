@@ -24,7 +24,7 @@ use Rattle.taskset.specs.Starts.{withPairs, startData, withWritten, startShared
 use Rattle.taskset.proofs.Exact.{old-not-new}
 use Rattle.taskset.proofs.Starts.{old-data}
 use Rattle.semaphore.specs.Line.{semaphoreOf}
-use Rattle.states.specs.declared.State.{State}
+use Rattle.states.specs.declared.Held.{Held}
 use Rattle.states.specs.Task.{taskOf}
 use Rattle.states.specs.Machine.{noRegisters, stackIn, stateIn, stateOf, heldAfter, dataOf}
 use Rattle.states.specs.Fit.{entry, executionFit, exchangesFit, freedFit, coreFit, fitAt, mayWait, lineFitIn, lineFit, stateFit, stateRefusal}
@@ -68,7 +68,7 @@ module _ (f g t : List ℕ) (s : SameTask f g) (judged : judge f ≡ judge g) wh
   unfolding sizesOf
   sizes = λ i. listed (λ k. s .data-size k i) (s .number i) 0
 
-  states : (h : State) (d sh : List ℕ) → stateOf f h d sh ≡ stateOf g h d sh
+  states : (h : Held) (d sh : List ℕ) → stateOf f h d sh ≡ stateOf g h d sh
   unfolding stateIn
   states h d sh = λ i. record {
     plant = record {
@@ -78,18 +78,18 @@ module _ (f g t : List ℕ) (s : SameTask f g) (judged : judge f ≡ judge g) wh
     semaphore = semaphoreOf (h .semaphore);
   }
 
-  fit : (h : State) (k : ℕ) → fitAt f t h k ≡ fitAt g t h k
+  fit : (h : Held) (k : ℕ) → fitAt f t h k ≡ fitAt g t h k
   unfolding fitAt coreFit
   fit h k = λ i.
       both (executionFit (s .code k i) (s .data-size k i) (s .limits k i) (getD (h .cores) k noRegisters) (entry (h .places) k) (entry (h .offsets) k))
       (both (exchangesFit (length (readsOf (s .all-variables i) k)) (length (writesOf (s .all-variables i) k)) (counts k i) (h .semaphore .holder) k (getD (h .cores) k noRegisters))
       (both (freedFit (getD (h .cores) k noRegisters) (entry (h .places) k) (entry (h .offsets) k)) (ltb (getD (h .cores) k noRegisters .flags) flagBound)))
 
-  line : (h : State) (ks : List ℕ) → lineFitIn f t h ks ≡ lineFitIn g t h ks
+  line : (h : Held) (ks : List ℕ) → lineFitIn f t h ks ≡ lineFitIn g t h ks
   line h [] = refl
   line h (k ∷ ks) = λ i. both (not (inLine k ks)) (both (ltb k (s .number i)) (both (mayWait (counts k i) (getD (h .cores) k noRegisters)) (line h ks i)))
 
-  state-refusal : (h : State) → stateRefusal f t h ≡ stateRefusal g t h
+  state-refusal : (h : Held) → stateRefusal f t h ≡ stateRefusal g t h
   unfolding stateRefusal stateFit lineFit
   state-refusal h = λ i.
       unless
@@ -102,7 +102,7 @@ module _ (f g t : List ℕ) (s : SameTask f g) (judged : judge f ≡ judge g) wh
   unfolding traceRefusal
   trace-refusal = ap (λ (p : ℕ). unless (either (blank t) (eqb p (length t))) 22) (trace-place (cores f) ∙ ap (tracePlace g t) (s .number))
 
-  held-refusal : (h : State) → heldRefusal f t h ≡ heldRefusal g t h
+  held-refusal : (h : Held) → heldRefusal f t h ≡ heldRefusal g t h
   unfolding heldRefusal
   held-refusal h = ap₂ next trace-refusal (state-refusal h)
 
@@ -110,13 +110,13 @@ module _ (f g t : List ℕ) (s : SameTask f g) (judged : judge f ≡ judge g) wh
   unfolding lentFits
   fits buffer shared = ap (λ (l : List ℕ). both (eqb buffer (total l)) (eqb shared 1024)) sizes
 
-  call-refusal : (h : State) (buffer shared : ℕ) (room named named′ : Bool) → named ≡ named′ → callRefusal f t h buffer shared room named ≡ callRefusal g t h buffer shared room named′
+  call-refusal : (h : Held) (buffer shared : ℕ) (room named named′ : Bool) → named ≡ named′ → callRefusal f t h buffer shared room named ≡ callRefusal g t h buffer shared room named′
   unfolding callRefusal
   call-refusal h buffer shared room named named′ e = λ i. next (judged i) (next (unless (both (fits buffer shared i) room) 21) (next (held-refusal h i) (unless (e i) 20)))
 
   -- ---- the calls
 
-  step-same : (h : State) (d sh : List ℕ) (k : ℕ) → stepCall f t h d sh k ≡ stepCall g t h d sh k
+  step-same : (h : Held) (d sh : List ℕ) (k : ℕ) → stepCall f t h d sh k ≡ stepCall g t h d sh k
   unfolding stepCall stepRefusal
   step-same h d sh k = λ i.
       pick (eqb (refused i) 0)
@@ -130,7 +130,7 @@ module _ (f g t : List ℕ) (s : SameTask f g) (judged : judge f ≡ judge g) wh
       refused : callRefusal f t h (length d) (length sh) true (ltb k (cores f)) ≡ callRefusal g t h (length d) (length sh) true (ltb k (cores g))
       refused = call-refusal h (length d) (length sh) true (ltb k (cores f)) (ltb k (cores g)) (ap (ltb k) (s .number))
 
-  run-same : (h : State) (d sh order list : List ℕ) → runCall f t h d sh order list ≡ runCall g t h d sh order list
+  run-same : (h : Held) (d sh order list : List ℕ) → runCall f t h d sh order list ≡ runCall g t h d sh order list
   unfolding runCall runRefusal ranCall
   run-same h d sh order list = λ i.
       pick (eqb (refused i) 0)

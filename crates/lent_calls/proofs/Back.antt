@@ -10,7 +10,7 @@ use lib.ListN.{length, replicate}
 use Rattle.memory.specs.Memory.{splice, part}
 use Rattle.memory.proofs.Laws.{length-splice, part-splice-below, part-splice-same}
 use Rattle.semaphore.specs.declared.Semaphore.{Semaphore}
-use Rattle.snapshot.specs.declared.Core.{Core}
+use Rattle.snapshot.specs.declared.CoreRecord.{CoreRecord}
 use Rattle.snapshot.specs.Snapshot.{registersIn, recordWith, entries, heldPlaces, heldOffsets, held, coreOf}
 use Rattle.rikzord.specs.Lent.{recordAt, loaded}
 
@@ -58,15 +58,15 @@ module _ (a b c d : List ℕ) (la : length a ≡ 16) (lb : length b ≡ 16) (lc 
 -- ---- the records
 
 -- both lists of a record have sixteen entries
-pub record Sixteen (c : Core) : Type 0 where
+pub record Sixteen (c : CoreRecord) : Type 0 where
   pub places : length (c .places) ≡ 16
   pub offsets : length (c .offsets) ≡ 16
 
 -- a record with zeros in its spare bytes
-abbrev pub unspared : Core → Core
+abbrev pub unspared : CoreRecord → CoreRecord
 unspared c = recordWith (registersIn c) (c .places) (c .offsets)
 
-module _ (ys : List Core) (p : Semaphore) (sized : (k : ℕ) → Sixteen (recordAt ys k)) where
+module _ (ys : List CoreRecord) (p : Semaphore) (sized : (k : ℕ) → Sixteen (recordAt ys k)) where
   pub comes-back : (k : ℕ) → k < 4 → coreOf (held (loaded ys) p) k ≡ unspared (recordAt ys k)
   unfolding coreOf held heldPlaces heldOffsets
   comes-back zero h = rw (entries-0 _ _ _ _ (sized 0 .places) (sized 1 .places) (sized 2 .places) (sized 3 .places), entries-0 _ _ _ _ (sized 0 .offsets) (sized 1 .offsets) (sized 2 .offsets) (sized 3 .offsets)) refl

@@ -16,7 +16,7 @@ use Rattle.verdict.proofs.Verdict.{pick-true, pick-false, by-pick, next-none, n
 use Rattle.memory.specs.Memory.{splice, part, total, split}
 use Rattle.memory.proofs.Laws.{length-splice, length-part}
 use Rattle.protocol.specs.declared.Registers.{Registers}
-use Rattle.protocol.specs.State.{Core as Place, State as Whole}
+use Rattle.protocol.specs.State.{Core, State}
 use Rattle.protocol.specs.Step.{run, takings, encoded}
 use Rattle.protocol.proofs.Steps.{run-append}
 use Rattle.records.specs.File.{cores}
@@ -29,7 +29,7 @@ use Rattle.taskset.proofs.Accepted.{length-buffer, length-shared}
 use Rattle.taskset.proofs.Accepted.{length-listed}
 use Rattle.semaphore.specs.declared.Semaphore.{Semaphore}
 use Rattle.semaphore.specs.Line.{semaphoreOf}
-use Rattle.states.specs.declared.State.{State}
+use Rattle.states.specs.declared.Held.{Held}
 use Rattle.states.specs.Task.{taskOf}
 use Rattle.states.specs.Set.{AcceptedSet}
 use Rattle.states.specs.Machine.{noRegisters, coreIn, stateIn, stateOf, heldAfter, dataOf}
@@ -48,7 +48,7 @@ use Rattle.calls.proofs.Interleaving.{interleaved-machine}
 use Rattle.calls.proofs.Fair.{fair-machine}
 use Rattle.machine.proofs.Calls.{granted}
 use Rattle.calls.proofs.Calling.{Lendable, Counted, step-counted, run-counted, call-counted, fresh-state, calls-interleaved}
-use Rattle.snapshot.specs.declared.Core.{Core}
+use Rattle.snapshot.specs.declared.CoreRecord.{CoreRecord}
 use Rattle.snapshot.specs.declared.After.{After}
 use Rattle.snapshot.specs.Snapshot.{registersIn, noRecord, counted, entries, heldPlaces, heldOffsets, held, coreOf, recordAfter, acceptedOf, TableLeft, onTable, stepTable, runTable, takenTable, freshTable, withRegisters, registersAfter, stepRegisters}
 use Rattle.rikzord.specs.Lent.{recordAt, loaded, storedRecords, Lent, lent, writtenBack, stepLent, runLent, takenLent, freshLent}
@@ -67,12 +67,12 @@ counted-few : (n : ℕ) → n ≤ 4 → counted n ≡ n
 counted-few n h = pick-true _ _ _ (lt-ltb n 255 (omega (arith, h)))
 
 -- the core of a record, with its data
-abbrev placeOf : Core → List ℕ → Place
+abbrev placeOf : CoreRecord → List ℕ → Core
 placeOf c m = record { registers = registersIn c; stack = record { places = c .places; offsets = c .offsets }; memory = m }
 
 -- the table zs has a record for each core, which is the state's
-module _ (f : List ℕ) (few : cores f ≤ 4) (s : State) (places : length (s .places) ≡ 64) (offsets : length (s .offsets) ≡ 64)
-    (zs : List Core) (rows : length zs ≡ cores f) (same : (k : ℕ) → k < cores f → recordAt zs k ≡ coreOf s k) where
+module _ (f : List ℕ) (few : cores f ≤ 4) (s : Held) (places : length (s .places) ≡ 64) (offsets : length (s .offsets) ≡ 64)
+    (zs : List CoreRecord) (rows : length zs ≡ cores f) (same : (k : ℕ) → k < cores f → recordAt zs k ≡ coreOf s k) where
   sixteen : (k : ℕ) → Sixteen (recordAt zs k)
   unfolding coreOf
   sixteen k = go (ltb k (cores f)) refl
@@ -92,12 +92,12 @@ module _ (f : List ℕ) (few : cores f ≤ 4) (s : State) (places : length (s .p
       → coreIn f (held (loaded zs) p .cores) (held (loaded zs) p .places) (held (loaded zs) p .offsets) d k ≡ coreIn f (s .cores) (s .places) (s .offsets) d k
   unfolding coreOf
   core-same p d k l =
-      ap (λ (c : Core). placeOf c (getD (split (sizesOf f) d) k [])) (comes-back zs p sixteen k (omega (arith, few, l)) ∙ ap unspared (same k l))
+      ap (λ (c : CoreRecord). placeOf c (getD (split (sizesOf f) d) k [])) (comes-back zs p sixteen k (omega (arith, few, l)) ∙ ap unspared (same k l))
 
   pub state-same : (d sh : List ℕ) → stateOf f (held (loaded zs) (s .semaphore)) d sh ≡ stateOf f s d sh
   unfolding stateIn held
   state-same d sh =
-      ap (λ (l : List Place). record { plant = record { cores = l; shared = sh }; semaphore = semaphoreOf (s .semaphore) }) (listed-same _ _ (cores f) (core-same (s .semaphore) d))
+      ap (λ (l : List Core). record { plant = record { cores = l; shared = sh }; semaphore = semaphoreOf (s .semaphore) }) (listed-same _ _ (cores f) (core-same (s .semaphore) d))
 
   pub lendable-same : (t d sh list list′ : List ℕ) (r r′ : ℕ) → Lendable f t (leftAs (answerOf r s) d sh list) → Lendable f t (leftAs (answerOf r′ (held (loaded zs) (s .semaphore))) d sh list′)
   unfolding held heldPlaces heldOffsets
@@ -114,14 +114,14 @@ module _ (f : List ℕ) (few : cores f ≤ 4) (s : State) (places : length (s .p
   }
 
 -- the table after each of four stores
-module _ (ys : List Core) (x : After) where
-  abbrev once : List Core
+module _ (ys : List CoreRecord) (x : After) where
+  abbrev once : List CoreRecord
   once = set ys 0 (x .a)
 
-  abbrev twice : List Core
+  abbrev twice : List CoreRecord
   twice = set once 1 (x .b)
 
-  abbrev thrice : List Core
+  abbrev thrice : List CoreRecord
   thrice = set twice 2 (x .c)
 
   once-length : length once ≡ length ys
@@ -137,7 +137,7 @@ module _ (ys : List Core) (x : After) where
   stored-length = length-set thrice 3 (x .d) ∙ thrice-length
 
 -- a table after a call that is not refused has the state's record for each core
-module _ (s : State) (ys : List Core) (n : ℕ) (few : n ≤ 4) (count : s .count ≡ n) (rows : n ≤ length ys) where
+module _ (s : Held) (ys : List CoreRecord) (n : ℕ) (few : n ≤ 4) (count : s .count ≡ n) (rows : n ≤ length ys) where
   abbrev after : After
   after = acceptedOf (loaded ys) s
 
@@ -185,10 +185,10 @@ replaced-same entire m = refl
 replaced-same (front n) m = take-append-drop n m
 
 module _ (f t : List ℕ) (ok : AcceptedSet f t) (x : Lent) (w : Ready f t x) (rows : ℕ) (a b : Lending) where
-  abbrev lentRows : List Core
+  abbrev lentRows : List CoreRecord
   lentRows = take rows (x .table)
 
-  abbrev state : State
+  abbrev state : Held
   state = held (loaded lentRows) (x .semaphore)
 
   -- what the call by value left, y, as the call on the table leaves it
@@ -213,7 +213,7 @@ module _ (f t : List ℕ) (ok : AcceptedSet f t) (x : Lent) (w : Ready f t x) (r
       let zs = storedRecords lentRows (acceptedOf (loaded lentRows) s) in
       let q : leftBy y ≡ restoredLent rows a b x (lent 0 zs (s .semaphore) (y .memory) (y .shared) (y .order)) =
       ap (λ (l : TableLeft). restoredLent rows a b x (writtenBack lentRows l)) (on-accepted (loaded lentRows) (x .semaphore) (y .answer) (y .memory) (y .shared) (y .order) z)
-      ∙ ap (λ (l : List Core). restoredLent rows a b x (lent 0 l (s .semaphore) (y .memory) (y .shared) (y .order))) (pick-true _ _ _ refl) in
+      ∙ ap (λ (l : List CoreRecord). restoredLent rows a b x (lent 0 l (s .semaphore) (y .memory) (y .shared) (y .order))) (pick-true _ _ _ refl) in
       let full : length zs ≡ cores f = stored-length lentRows (acceptedOf (loaded lentRows) s) ∙ n in
       let front-rows : take (cores f) (zs ++ drop rows (x .table)) ≡ zs = take-at zs _ (cores f) full in
       let memory = replaced a (x .memory) (y .memory) in
@@ -225,10 +225,10 @@ module _ (f t : List ℕ) (ok : AcceptedSet f t) (x : Lent) (w : Ready f t x) (r
       subst (λ (v : Lent). CountedLent f t x v (pick (eqb (v .refusal) 0) ks [])) (sym q)
       (subst (CountedLent f t x (restoredLent rows a b x (lent 0 zs (s .semaphore) (y .memory) (y .shared) (y .order)))) (sym (pick-true _ _ _ refl))
       record {
-        whole = ap (λ (l : List Core). stateOf f (held (loaded l) (s .semaphore)) memory shared) front-rows ∙ same ∙ c .whole;
+        whole = ap (λ (l : List CoreRecord). stateOf f (held (loaded l) (s .semaphore)) memory shared) front-rows ∙ same ∙ c .whole;
         ready = record {
           rows = omega (arith, length-append zs (drop rows (x .table)), full);
-          lendable = subst (λ (l : List Core). Lendable f t (leftAs (answerOf 0 (held (loaded l) (s .semaphore))) memory shared [])) (sym front-rows) lends;
+          lendable = subst (λ (l : List CoreRecord). Lendable f t (leftAs (answerOf 0 (held (loaded l) (s .semaphore))) memory shared [])) (sym front-rows) lends;
         };
       })
 
@@ -265,14 +265,14 @@ module _ (f t : List ℕ) (ok : AcceptedSet f t) (x : Lent) (w : Ready f t x) (r
   sh = lentOf b (x .shared)
 
   -- the call by value of the state that the table's first n records hold is the call of the state that its lent part holds, where that has n records
-  same-call : (call : State → Left) (ks : List ℕ) → call state .answer .refusal ≡ 0 → length lentRows ≡ cores f
+  same-call : (call : Held → Left) (ks : List ℕ) → call state .answer .refusal ≡ 0 → length lentRows ≡ cores f
       → Counted f t (byValue f x) (restored a b (byValue f x) (call (byValue f x .answer .state))) (pick (eqb (call (byValue f x .answer .state) .answer .refusal) 0) ks [])
       → CountedLent f t x (leftBy (call state)) (pick (eqb (leftBy (call state) .refusal) 0) ks [])
   same-call call ks z n c =
-      let q : byValue f x .answer .state ≡ state = ap (λ (l : List Core). held (loaded l) (x .semaphore)) (sym (rows-all n)) in
+      let q : byValue f x .answer .state ≡ state = ap (λ (l : List CoreRecord). held (loaded l) (x .semaphore)) (sym (rows-all n)) in
       accepted-call ks (call state) z n
       (subst (Counted f t (byValue f x) (restored a b (byValue f x) (call state))) (pick-true _ _ _ (eq-eqb _ 0 z))
-      (subst (λ (s : State). Counted f t (byValue f x) (restored a b (byValue f x) (call s)) (pick (eqb (call s .answer .refusal) 0) ks [])) q c))
+      (subst (λ (s : Held). Counted f t (byValue f x) (restored a b (byValue f x) (call s)) (pick (eqb (call s .answer .refusal) 0) ks [])) q c))
 
   pub step-lent-counted : (k : ℕ) → CountedLent f t x (leavesLent f t (over rows (stepping a b k)) x) (countsLent f t (over rows (stepping a b k)) x)
   unfolding stepLent stepTable stepCall stepRefusal
@@ -280,7 +280,7 @@ module _ (f t : List ℕ) (ok : AcceptedSet f t) (x : Lent) (w : Ready f t x) (r
     where
       go : (q : Bool) → eqb (stepRefusal f t state d sh k) 0 ≡ q → CountedLent f t x (leavesLent f t (over rows (stepping a b k)) x) (countsLent f t (over rows (stepping a b k)) x)
       go true e =
-          same-call (λ (s : State). stepCall f t s d sh k) (k ∷ []) (ap (λ (y : Left). y .answer .refusal) (pick-true _ _ _ e)) (rows-known d sh _ _ (eqb-true _ _ e))
+          same-call (λ (s : Held). stepCall f t s d sh k) (k ∷ []) (ap (λ (y : Left). y .answer .refusal) (pick-true _ _ _ e)) (rows-known d sh _ _ (eqb-true _ _ e))
           (step-counted f t ok (byValue f x) (w .lendable) a b k)
       go false e = refused-call (k ∷ []) [] (stepRefusal f t state d sh k) (stepCall f t state d sh k) (eqb-false _ _ e) (pick-false _ _ _ e)
 
@@ -290,7 +290,7 @@ module _ (f t : List ℕ) (ok : AcceptedSet f t) (x : Lent) (w : Ready f t x) (r
     where
       go : (q : Bool) → eqb (runRefusal f t state d sh order list) 0 ≡ q → CountedLent f t x (leavesLent f t (over rows (running a b order list)) x) (countsLent f t (over rows (running a b order list)) x)
       go true e =
-          same-call (λ (s : State). runCall f t s d sh order list) order (ap (λ (y : Left). y .answer .refusal) (pick-true _ _ _ e)) (rows-known d sh _ _ (eqb-true _ _ e))
+          same-call (λ (s : Held). runCall f t s d sh order list) order (ap (λ (y : Left). y .answer .refusal) (pick-true _ _ _ e)) (rows-known d sh _ _ (eqb-true _ _ e))
           (run-counted f t ok (byValue f x) (w .lendable) a b order list)
       go false e = refused-call order list (runRefusal f t state d sh order list) (runCall f t state d sh order list) (eqb-false _ _ e) (pick-false _ _ _ e)
 
@@ -314,7 +314,7 @@ lent-calls-counted f t ok (c ∷ cs) x w =
 -- ---- the fresh state
 
 -- a call for the fresh state that is not refused has a table of at least n records
-module _ (f : List ℕ) (ys : List Core) (p : Semaphore) (d sh : List ℕ) (e : freshLent f ys p d sh .refusal ≡ 0) where
+module _ (f : List ℕ) (ys : List CoreRecord) (p : Semaphore) (d sh : List ℕ) (e : freshLent f ys p d sh .refusal ≡ 0) where
   fresh-long : leb (cores f) (counted (length ys)) ≡ true
   fresh-long = go (leb (cores f) (counted (length ys))) refl
     where
@@ -329,7 +329,7 @@ module _ (f : List ℕ) (ys : List Core) (p : Semaphore) (d sh : List ℕ) (e : 
       go true l = eqb-true _ _ l
       go false l = sym (ap (λ (x : Lent). x .refusal) (fresh-refused f ys p d sh fresh-long (eqb-false _ _ l))) ∙ e
 
-  abbrev made : List Core
+  abbrev made : List CoreRecord
   made = storedRecords ys (acceptedOf (loaded ys) (tableOf (cores f) 4))
 
   -- what it left
@@ -338,7 +338,7 @@ module _ (f : List ℕ) (ys : List Core) (p : Semaphore) (d sh : List ℕ) (e : 
   fresh-left =
       ap (λ (l : Left). writtenBack ys (onTable (loaded ys) p l)) (pick-true _ _ _ fresh-long ∙ pick-true _ _ _ (eq-eqb _ 0 fresh-granted))
       ∙ ap (writtenBack ys) (on-accepted (loaded ys) p (answerOf 0 (tableOf (cores f) 4)) (startBuffer f) (startShared f) [] refl)
-      ∙ ap (λ (l : List Core). lent 0 l (tableOf (cores f) 4 .semaphore) (startBuffer f) (startShared f) []) (pick-true _ _ _ refl)
+      ∙ ap (λ (l : List CoreRecord). lent 0 l (tableOf (cores f) 4 .semaphore) (startBuffer f) (startShared f) []) (pick-true _ _ _ refl)
 
   -- what the call by value leaves
   value-left : freshCall f d sh ≡ leftAs (answerOf 0 (tableOf (cores f) 4)) (startBuffer f) (startShared f) []
@@ -398,7 +398,7 @@ module _ (f : List ℕ) (ys : List Core) (p : Semaphore) (d sh : List ℕ) (e : 
 
 -- ---- demand 3 of every list of lent calls; that f and t are bytes is known of the types
 
-pub lent-interleaved : (f t : List ℕ) → ((i : ℕ) → getD f i 0 < 256) → ((i : ℕ) → getD t i 0 < 256) → (ys : List Core) (p : Semaphore) (d sh : List ℕ)
+pub lent-interleaved : (f t : List ℕ) → ((i : ℕ) → getD f i 0 < 256) → ((i : ℕ) → getD t i 0 < 256) → (ys : List CoreRecord) (p : Semaphore) (d sh : List ℕ)
     → freshLent f ys p d sh .refusal ≡ 0 → traceRefusal f t ≡ 0 → (cs : List LentCall) → LentInterleaved f t ys p d sh cs
 unfolding freshRefusal
 lent-interleaved f t bytes trace-bytes ys p d sh e sound cs =
@@ -411,7 +411,7 @@ lent-interleaved f t bytes trace-bytes ys p d sh e sound cs =
       interleaved = interleaved-machine f t accepted ks;
     }
 
-pub lent-fair : (f t : List ℕ) → ((i : ℕ) → getD f i 0 < 256) → ((i : ℕ) → getD t i 0 < 256) → (ys : List Core) (p : Semaphore) (d sh : List ℕ)
+pub lent-fair : (f t : List ℕ) → ((i : ℕ) → getD f i 0 < 256) → ((i : ℕ) → getD t i 0 < 256) → (ys : List CoreRecord) (p : Semaphore) (d sh : List ℕ)
     → freshLent f ys p d sh .refusal ≡ 0 → traceRefusal f t ≡ 0 → (cs : List LentCall) → LentFair f t ys p d sh cs
 lent-fair f t bytes trace-bytes ys p d sh e sound cs = record {
   steps = lent-interleaved f t bytes trace-bytes ys p d sh e sound cs .steps;
@@ -420,7 +420,7 @@ lent-fair f t bytes trace-bytes ys p d sh e sound cs = record {
 
 -- ---- steps with lent registers
 
-with-own : (s : State) (k : ℕ) → length (s .cores) ≡ 4 → withRegisters s k (registersAfter s k noRegisters) ≡ s
+with-own : (s : Held) (k : ℕ) → length (s .cores) ≡ 4 → withRegisters s k (registersAfter s k noRegisters) ≡ s
 unfolding withRegisters
 with-own s k four = go (ltb k 4) refl
   where
@@ -436,7 +436,7 @@ pub registers-leave : (f t : List ℕ) (a b : Lending) (k : ℕ) (x : Left) → 
 unfolding stepRegisters
 registers-leave f t a b k x four =
     let same : leavesRegisters f t a b k x ≡ leaves f t (stepping a b k) x =
-    ap (λ (s : State). restored a b x (stepCall f t s (lentOf a (x .memory)) (lentOf b (x .shared)) k)) (with-own (x .answer .state) k four) in
+    ap (λ (s : Held). restored a b x (stepCall f t s (lentOf a (x .memory)) (lentOf b (x .shared)) k)) (with-own (x .answer .state) k four) in
     record {
       leaves-same = same;
       registers-same =
@@ -484,16 +484,16 @@ module _ (f t : List ℕ) (ok : AcceptedSet f t) (x : Left) (w : Lendable f t x)
       ∙ ap (λ (n : ℕ). next (unless (both (lentFits f buffer shared) room) 21) (next n (unless named 20))) sound
 
 -- the number of what a call by value left
-step-number : (f t : List ℕ) (h : State) (d sh : List ℕ) (k : ℕ) → stepCall f t h d sh k .answer .refusal ≡ stepRefusal f t h d sh k
+step-number : (f t : List ℕ) (h : Held) (d sh : List ℕ) (k : ℕ) → stepCall f t h d sh k .answer .refusal ≡ stepRefusal f t h d sh k
 unfolding stepCall
 step-number f t h d sh k = by-pick (λ (l : Left). l .answer .refusal ≡ stepRefusal f t h d sh k) (eqb (stepRefusal f t h d sh k) 0) _ _ (λ e. sym (eqb-true _ _ e)) (λ e. refl)
 
-pub run-number : (f t : List ℕ) (h : State) (d sh order list : List ℕ) → runCall f t h d sh order list .answer .refusal ≡ runRefusal f t h d sh order list
+pub run-number : (f t : List ℕ) (h : Held) (d sh order list : List ℕ) → runCall f t h d sh order list .answer .refusal ≡ runRefusal f t h d sh order list
 unfolding runCall ranCall
 run-number f t h d sh order list = by-pick (λ (l : Left). l .answer .refusal ≡ runRefusal f t h d sh order list) (eqb (runRefusal f t h d sh order list) 0) _ _ (λ e. sym (eqb-true _ _ e)) (λ e. refl)
 
 -- the number of what a call left on a table
-pub table-number : (ys : List Core) (p : Semaphore) (l : Left) → writtenBack ys (onTable (loaded ys) p l) .refusal ≡ l .answer .refusal
+pub table-number : (ys : List CoreRecord) (p : Semaphore) (l : Left) → writtenBack ys (onTable (loaded ys) p l) .refusal ≡ l .answer .refusal
 table-number ys p l = by-pick (λ (x : After). x .refusal ≡ l .answer .refusal) (eqb (l .answer .refusal) 0) _ _ (λ e. sym (eqb-true _ _ e)) (λ e. refl)
 
 -- two that can be lent on have the same memories where they hold the same state
@@ -509,7 +509,7 @@ same-of f t x w y v e =
           ∙ data-back f (s .cores) (s .places) (s .offsets) (semaphoreOf (s .semaphore)) (y .memory) (y .shared) (v .sized .memory);
       shared =
           sym (shared-in f (h .cores) (h .places) (h .offsets) (semaphoreOf (h .semaphore)) (x .memory) (x .shared))
-          ∙ ap (λ (z : Whole). z .plant .shared) e
+          ∙ ap (λ (z : State). z .plant .shared) e
           ∙ shared-in f (s .cores) (s .places) (s .offsets) (semaphoreOf (s .semaphore)) (y .memory) (y .shared);
     }
 
@@ -541,7 +541,7 @@ module _ (f t : List ℕ) (ok : AcceptedSet f t) (x : Lent) (w : Ready f t x) (y
       let n = call-counted f t ok y v c in
       same-of f t (leavesLent f t (over (cores f) c) x) (m .ready) (leaves f t c y) (n .lendable)
       (m .whole
-      ∙ ap₂ (λ (r : ℕ) (z : Whole). run (taskOf f t) (pick (eqb r 0) (stepsIn c) []) z) (one-number c) (same .whole)
+      ∙ ap₂ (λ (r : ℕ) (z : State). run (taskOf f t) (pick (eqb r 0) (stepsIn c) []) z) (one-number c) (same .whole)
       ∙ sym (n .whole))
 
 pub same-calls : (f t : List ℕ) → AcceptedSet f t → (cs : List Call) (x : Lent) → Ready f t x → (y : Left) → Lendable f t y → HoldsSame f x y → SameCalls f t cs x y
@@ -550,7 +550,7 @@ same-calls f t ok (c ∷ cs) x w y v same =
     one-call same (one-number f t ok x w y v same c)
     (same-calls f t ok cs (leavesLent f t (over (cores f) c) x) (lent-counted f t ok x w (over (cores f) c) .ready) (leaves f t c y) (call-counted f t ok y v c .lendable) (one-same f t ok x w y v same c))
 
-pub lent-by-value : (f t : List ℕ) → ((i : ℕ) → getD f i 0 < 256) → ((i : ℕ) → getD t i 0 < 256) → (ys : List Core) (p : Semaphore) (d sh : List ℕ)
+pub lent-by-value : (f t : List ℕ) → ((i : ℕ) → getD f i 0 < 256) → ((i : ℕ) → getD t i 0 < 256) → (ys : List CoreRecord) (p : Semaphore) (d sh : List ℕ)
     → freshLent f ys p d sh .refusal ≡ 0 → traceRefusal f t ≡ 0 → (cs : List Call) → SameCalls f t cs (freshLent f ys p d sh) (freshCall f d sh)
 unfolding freshRefusal
 lent-by-value f t bytes trace-bytes ys p d sh e sound cs =
@@ -565,7 +565,7 @@ lent-by-value f t bytes trace-bytes ys p d sh e sound cs =
 -- ---- the takings of a run over a lent table
 
 -- what a run by value that is not refused wrote
-ran-is : (f t : List ℕ) (h : State) (d sh order list : List ℕ) → runRefusal f t h d sh order list ≡ 0
+ran-is : (f t : List ℕ) (h : Held) (d sh order list : List ℕ) → runRefusal f t h d sh order list ≡ 0
     → (runCall f t h d sh order list .order ≡ splice list 0 (map encoded (takings (taskOf f t) order (stateOf f h d sh))))
     × (runCall f t h d sh order list .answer .taken ≡ length (takings (taskOf f t) order (stateOf f h d sh)))
 unfolding runCall ranCall
@@ -573,7 +573,7 @@ ran-is f t h d sh order list z =
     let q : runCall f t h d sh order list ≡ ranCall f t h d sh order list = pick-true _ _ _ (eq-eqb _ 0 z) in
     (ap (λ (l : Left). l .order) q, ap (λ (l : Left). l .answer .taken) q ∙ length-map (takings (taskOf f t) order (stateOf f h d sh)) encoded)
 
-pub run-listed : (f t : List ℕ) (ys : List Core) (p : Semaphore) (d sh order list : List ℕ) (taken : ℕ) → runLent f t ys p d sh order list .refusal ≡ 0 → RunLentListed f t ys p d sh order list taken
+pub run-listed : (f t : List ℕ) (ys : List CoreRecord) (p : Semaphore) (d sh order list : List ℕ) (taken : ℕ) → runLent f t ys p d sh order list .refusal ≡ 0 → RunLentListed f t ys p d sh order list taken
 unfolding runLent runTable takenLent takenTable
 run-listed f t ys p d sh order list taken e =
     let h = held (loaded ys) p in

@@ -9,13 +9,13 @@ use Rattle.taskset.proofs.Narrowed.{small-is-full}
 use Rattle.semaphore.specs.declared.Semaphore.{Semaphore}
 use Rattle.runner.specs.Runs.{Left}
 use Rattle.calls.proofs.Profiles.{small-fresh}
-use Rattle.snapshot.specs.declared.Core.{Core}
+use Rattle.snapshot.specs.declared.CoreRecord.{CoreRecord}
 use Rattle.snapshot.specs.Snapshot.{madeOn, freshTableFor, freshTable}
 use Rattle.rikzord.specs.Lent.{loaded, writtenBack, freshLent, freshLentFor}
 use Rattle.lent_calls.specs.Calling.{LentCall, lentCalls, lentStepsOf}
 use Rattle.lent_calls.specs.Profiles.{SmallLent}
 
-module _ (f : List ℕ) (z : judgeFor Small f ≡ 0) (ys : List Core) (p : Semaphore) (d sh : List ℕ) where
+module _ (f : List ℕ) (z : judgeFor Small f ≡ 0) (ys : List CoreRecord) (p : Semaphore) (d sh : List ℕ) where
   pub small-fresh-lent : freshLentFor Small f ys p d sh ≡ freshLent f ys p d sh
   unfolding freshLentFor freshLent freshTableFor freshTable
   small-fresh-lent =

@@ -16,12 +16,12 @@ use Rattle.records.specs.File.{cores}
 use Rattle.taskset.specs.Trace.{traceRefusal}
 use Rattle.taskset.specs.Fresh.{freshOf}
 use Rattle.semaphore.specs.declared.Semaphore.{Semaphore}
-use Rattle.states.specs.declared.State.{State}
+use Rattle.states.specs.declared.Held.{Held}
 use Rattle.states.specs.Task.{taskOf}
 use Rattle.states.specs.Set.{AcceptedSet}
 use Rattle.states.specs.Machine.{stateOf, heldAfter, dataOf}
 use Rattle.states.proofs.Accepted.{accepted-set}
-use Rattle.runner.specs.declared.Ran.{Ran}
+use Rattle.runner.specs.declared.RunAnswer.{RunAnswer}
 use Rattle.runner.specs.Runs.{Left}
 use Rattle.machine.specs.Calls.{lentFits, tableOf, freshRefusal, runRefusal, runCall}
 use Rattle.machine.proofs.Calls.{granted as call-granted}
@@ -30,7 +30,7 @@ use Rattle.calls.proofs.Calling.{lent-all, memory-all, shared-all}
 use Rattle.calls.proofs.Back.{sized-back}
 use Rattle.rerun.specs.Calls.{reran, rerunLeft, rerunCall}
 use Rattle.rerun.proofs.Claims.{call-rerun, granted, known, fit-reran, few-listed, front-of, list-append}
-use Rattle.snapshot.specs.declared.Core.{Core}
+use Rattle.snapshot.specs.declared.CoreRecord.{CoreRecord}
 use Rattle.snapshot.specs.Snapshot.{noRecord, counted, held, coreOf, acceptedOf, onTable, runTable, rerunTable}
 use Rattle.snapshot.proofs.Laws.{on-accepted}
 use Rattle.rikzord.specs.Lent.{recordAt, loaded, storedRecords, Lent, lent, writtenBack, runLent, freshLent, rerunLent}
@@ -42,10 +42,10 @@ use Rattle.lent_calls.proofs.Calling.{byValue, Ready, state-same, store
 -- ---- what a call wrote
 
 module _ (f t : List ℕ) (ok : AcceptedSet f t) (x : Lent) (w : Ready f t x) (rows : ℕ) (a b : Lending) (order list : List ℕ) where
-  abbrev zs : List Core
+  abbrev zs : List CoreRecord
   zs = take rows (x .table)
 
-  abbrev h : State
+  abbrev h : Held
   h = held (loaded zs) (x .semaphore)
 
   abbrev d : List ℕ
@@ -100,7 +100,7 @@ calls-wrote f t ok (c ∷ cs) x w =
 
 -- ---- the rerun on a table of at least n records
 
-module _ (f t list : List ℕ) (ok : AcceptedSet f t) (ys : List Core) (p : Semaphore) (d sh : List ℕ) (long : cores f ≤ length ys) (fits : lentFits f (length d) (length sh) ≡ true)
+module _ (f t list : List ℕ) (ok : AcceptedSet f t) (ys : List CoreRecord) (p : Semaphore) (d sh : List ℕ) (long : cores f ≤ length ys) (fits : lentFits f (length d) (length sh) ≡ true)
     (z : rerunCall f t list d sh .answer .refusal ≡ 0) where
   long-counted : leb (cores f) (counted (length ys)) ≡ true
   long-counted = go (ltb (length ys) 255) refl
@@ -109,13 +109,13 @@ module _ (f t list : List ℕ) (ok : AcceptedSet f t) (ys : List Core) (p : Sema
       go true l = le-leb (cores f) (counted (length ys)) (omega (arith, long, pick-true (ltb (length ys) 255) (length ys) 255 l))
       go false l = le-leb (cores f) (counted (length ys)) (omega (arith, ok .few, pick-false (ltb (length ys) 255) (length ys) 255 l))
 
-  abbrev s : State
+  abbrev s : Held
   s = heldAfter (cores f) (tableOf (cores f) 4) (reran f t list)
 
-  abbrev done : Ran
+  abbrev done : RunAnswer
   done = record { refusal = 0; taken = length list; state = s }
 
-  abbrev made : List Core
+  abbrev made : List CoreRecord
   made = storedRecords ys (acceptedOf (loaded ys) s)
 
   rerun-left : rerunLent f t list ys p d sh ≡ lent 0 made (s .semaphore) (dataOf (reran f t list)) (reran f t list .plant .shared) []
@@ -123,7 +123,7 @@ module _ (f t list : List ℕ) (ok : AcceptedSet f t) (ys : List Core) (p : Sema
   rerun-left =
       ap (λ (l : Left). writtenBack ys (onTable (loaded ys) p l)) (pick-true _ _ _ long-counted ∙ granted f t list d sh ok fits (known f t list d sh ok fits z))
       ∙ ap (writtenBack ys) (on-accepted (loaded ys) p done (dataOf (reran f t list)) (reran f t list .plant .shared) [] refl)
-      ∙ ap (λ (l : List Core). lent 0 l (s .semaphore) (dataOf (reran f t list)) (reran f t list .plant .shared) []) (pick-true _ _ _ refl)
+      ∙ ap (λ (l : List CoreRecord). lent 0 l (s .semaphore) (dataOf (reran f t list)) (reran f t list .plant .shared) []) (pick-true _ _ _ refl)
 
   full : length (take (cores f) made) ≡ cores f
   full = omega (arith, length-take (cores f) made, stored-length ys (acceptedOf (loaded ys) s), long)
@@ -142,8 +142,8 @@ module _ (f t list : List ℕ) (ok : AcceptedSet f t) (ys : List Core) (p : Sema
 
 -- ---- the claim; that f and t are bytes is known of the types
 
-pub lent-rerun : (f t : List ℕ) → ((i : ℕ) → getD f i 0 < 256) → ((i : ℕ) → getD t i 0 < 256) → (ys : List Core) (p : Semaphore) (d sh : List ℕ)
-    → freshLent f ys p d sh .refusal ≡ 0 → traceRefusal f t ≡ 0 → (cs : List LentCall) (ys′ : List Core) (p′ : Semaphore) (d′ sh′ : List ℕ) → cores f ≤ length ys′
+pub lent-rerun : (f t : List ℕ) → ((i : ℕ) → getD f i 0 < 256) → ((i : ℕ) → getD t i 0 < 256) → (ys : List CoreRecord) (p : Semaphore) (d sh : List ℕ)
+    → freshLent f ys p d sh .refusal ≡ 0 → traceRefusal f t ≡ 0 → (cs : List LentCall) (ys′ : List CoreRecord) (p′ : Semaphore) (d′ sh′ : List ℕ) → cores f ≤ length ys′
     → lentFits f (length d′) (length sh′) ≡ true → LentRerun f t ys p d sh cs ys′ p′ d′ sh′
 unfolding freshRefusal
 lent-rerun f t bytes trace-bytes ys p d sh e sound cs ys′ p′ d′ sh′ long fits =

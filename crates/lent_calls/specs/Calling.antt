@@ -12,7 +12,7 @@ use lib.ListN.{length, take, drop}
 use Rattle.verdict.specs.Verdict.{pick}
 use Rattle.memory.specs.Memory.{splice}
 use Rattle.protocol.specs.declared.Registers.{Registers}
-use Rattle.protocol.specs.State.{State as Whole}
+use Rattle.protocol.specs.State.{State}
 use Rattle.protocol.specs.Step.{run, takings, encoded}
 use Rattle.records.specs.File.{cores}
 use Rattle.taskset.specs.Fresh.{freshOf}
@@ -24,7 +24,7 @@ use Rattle.calls.specs.Calling.{Lending, lentOf, replaced, Call, stepping, runn
 use Rattle.machine.specs.Calls.{freshCall}
 use Rattle.calls.specs.Interleaving.{MachineInterleaved}
 use Rattle.calls.specs.Fair.{MachineFair}
-use Rattle.snapshot.specs.declared.Core.{Core}
+use Rattle.snapshot.specs.declared.CoreRecord.{CoreRecord}
 use Rattle.snapshot.specs.Snapshot.{held, registersAfter, stepRegisters}
 use Rattle.rikzord.specs.Lent.{loaded, Lent, lent, stepLent, runLent, takenLent, freshLent}
 
@@ -53,7 +53,7 @@ lentCalls f t [] x = x
 lentCalls f t (c ∷ cs) x = lentCalls f t cs (leavesLent f t c x)
 
 -- the state that the table's first n records hold, with the semaphore and the lent memories
-abbrev pub wholeLent : List ℕ → Lent → Whole
+abbrev pub wholeLent : List ℕ → Lent → State
 wholeLent f x = stateOf f (held (loaded (take (cores f) (x .table))) (x .semaphore)) (x .memory) (x .shared)
 
 -- ---- the steps that calls count as: "A refused call changes nothing and is no taking; a run counts as its steps."
@@ -70,14 +70,14 @@ lentStepsOf f t (c ∷ cs) x = countsLent f t c x ++ lentStepsOf f t cs (leavesL
 
 -- ---- the claim: the calls cs, from what `rikzord_fresh` left that was lent the table ys, the semaphore p and the memories d and sh
 
-pub record LentInterleaved (f t : List ℕ) (ys : List Core) (p : Semaphore) (d sh : List ℕ) (cs : List LentCall) : Type 0 where
+pub record LentInterleaved (f t : List ℕ) (ys : List CoreRecord) (p : Semaphore) (d sh : List ℕ) (cs : List LentCall) : Type 0 where
   -- what they leave in the table and the memories is what the steps that they count as make of the fresh state
   pub steps : wholeLent f (lentCalls f t cs (freshLent f ys p d sh)) ≡ run (taskOf f t) (lentStepsOf f t cs (freshLent f ys p d sh)) (freshOf f)
   -- and of those steps demand 3 holds, both parts
   pub interleaved : MachineInterleaved f t (lentStepsOf f t cs (freshLent f ys p d sh))
 
 -- The same calls, and the fair line (document 02, 2.4): the steps that they count as are fair
-pub record LentFair (f t : List ℕ) (ys : List Core) (p : Semaphore) (d sh : List ℕ) (cs : List LentCall) : Type 0 where
+pub record LentFair (f t : List ℕ) (ys : List CoreRecord) (p : Semaphore) (d sh : List ℕ) (cs : List LentCall) : Type 0 where
   pub steps : wholeLent f (lentCalls f t cs (freshLent f ys p d sh)) ≡ run (taskOf f t) (lentStepsOf f t cs (freshLent f ys p d sh)) (freshOf f)
   pub fair : MachineFair f t (lentStepsOf f t cs (freshLent f ys p d sh))
 
@@ -134,6 +134,6 @@ pub data SameCalls (f t : List ℕ) : List Call → Lent → Left → Type 0 whe
 -- ---- the takings of a run over a lent table
 
 -- A run that is not refused writes its takings to the front of the order list, and how many there are
-pub record RunLentListed (f t : List ℕ) (ys : List Core) (p : Semaphore) (d sh order list : List ℕ) (taken : ℕ) : Type 0 where
+pub record RunLentListed (f t : List ℕ) (ys : List CoreRecord) (p : Semaphore) (d sh order list : List ℕ) (taken : ℕ) : Type 0 where
   pub listed : runLent f t ys p d sh order list .order ≡ splice list 0 (map encoded (takings (taskOf f t) order (stateOf f (held (loaded ys) p) d sh)))
   pub counted : takenLent f t ys p d sh order list taken ≡ length (takings (taskOf f t) order (stateOf f (held (loaded ys) p) d sh))

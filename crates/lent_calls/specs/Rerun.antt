@@ -10,7 +10,7 @@ use Rattle.taskset.specs.Fresh.{freshOf}
 use Rattle.semaphore.specs.declared.Semaphore.{Semaphore}
 use Rattle.states.specs.Task.{taskOf}
 use Rattle.calls.specs.Calling.{lentOf, stepping, running}
-use Rattle.snapshot.specs.declared.Core.{Core}
+use Rattle.snapshot.specs.declared.CoreRecord.{CoreRecord}
 use Rattle.rikzord.specs.Lent.{Lent, takenLent, freshLent, rerunLent}
 use Rattle.lent_calls.specs.Calling.{LentCall, over, leavesLent, lentCalls, wholeLent, countsLent, lentStepsOf}
 
@@ -31,7 +31,7 @@ writtenLentOf f t (c ∷ cs) x = writtenLentBy f t c x ++ writtenLentOf f t cs (
 
 -- The calls cs, from what `rikzord_fresh` left that was lent the table ys, the semaphore p and the memories d and sh: the rerun, lent ys′, p′, d′ and sh′, takes what
 -- they wrote
-pub record LentRerun (f t : List ℕ) (ys : List Core) (p : Semaphore) (d sh : List ℕ) (cs : List LentCall) (ys′ : List Core) (p′ : Semaphore) (d′ sh′ : List ℕ) : Type 0 where
+pub record LentRerun (f t : List ℕ) (ys : List CoreRecord) (p : Semaphore) (d sh : List ℕ) (cs : List LentCall) (ys′ : List CoreRecord) (p′ : Semaphore) (d′ sh′ : List ℕ) : Type 0 where
   pub wrote : writtenLentOf f t cs (freshLent f ys p d sh) ≡ orderList (taskOf f t) (lentStepsOf f t cs (freshLent f ys p d sh)) (freshOf f)
   pub taken : rerunLent f t (writtenLentOf f t cs (freshLent f ys p d sh)) ys′ p′ d′ sh′ .refusal ≡ 0
   -- and, where they left each core between cycles, stopped or waiting to write, ends alike

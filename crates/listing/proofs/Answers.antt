@@ -10,7 +10,7 @@ use Rattle.verdict.specs.Verdict.{pick}
 use lib.ListN.{length, take, length-append, length-take}
 use Rattle.verdict.proofs.Verdict.{pick-true, pick-false}
 use Rattle.memory.specs.Memory.{splice, flat}
-use Rattle.states.specs.declared.State.{State}
+use Rattle.states.specs.declared.Held.{Held}
 use Rattle.listing.specs.declared.Written.the-variants.{Text, Refused}
 use Rattle.listing.specs.Listing.{lineFeed, header, coreLines, takingText, orderWord, orderLine, head, listing}
 use Rattle.listing.specs.Writers.{TextLeft, textLeft, textCall}
@@ -38,7 +38,7 @@ text-fits text out {n} {now} e = go (ltb (length out) (length text)) refl e
 
 -- ---- a listing's length
 
-pub listing-head : (n : ℕ) (s : State) (takings : List ℕ) → listing n s takings ≡ head n s ++ (flat (map takingText takings) ++ (lineFeed ∷ []))
+pub listing-head : (n : ℕ) (s : Held) (takings : List ℕ) → listing n s takings ≡ head n s ++ (flat (map takingText takings) ++ (lineFeed ∷ []))
 unfolding listing head orderLine
 listing-head n s takings = simp append-assoc
 
@@ -47,7 +47,7 @@ unfolding flat takingText
 length-takings [] = refl
 length-takings (b ∷ bs) = omega (arith, length-takings bs)
 
-pub length-listing : (n : ℕ) (s : State) (list : List ℕ) (taken : ℕ) → length (listing n s (take taken list)) ≡ length (head n s) + 3 * min taken (length list) + 1
+pub length-listing : (n : ℕ) (s : Held) (list : List ℕ) (taken : ℕ) → length (listing n s (take taken list)) ≡ length (head n s) + 3 * min taken (length list) + 1
 length-listing n s list taken =
     let l = take taken list in
     ap length (listing-head n s l)

@@ -5,14 +5,14 @@ use Prim.Native.Nat.{ℕ}
 use Rattle.verdict.specs.Verdict.{pick}
 use Rattle.memory.specs.Memory.{flat}
 use Rattle.protocol.specs.declared.Registers.{Registers}
-use Rattle.states.specs.declared.State.{State}
+use Rattle.states.specs.declared.Held.{Held}
 use Rattle.listing.specs.Listing.{digits, decimal, column, header, coreLine, coreLines, kindLetter, takingText, orderWord, orderLine, listing}
 
 -- core 0 after its first cycle
 abbrev after : Registers
 after = record { mode = 0; counter = 0; offset = 0; depth = 0; count = 1; exchange = 0; cycles = 1; flags = 0; time = 0 }
 
-abbrev ended : State
+abbrev ended : Held
 ended = record { count = 1; semaphore = record { holder = 0; waiting = 0; line = [] }; cores = after ∷ after ∷ after ∷ after ∷ []; places = []; offsets = [] }
 
 -- "0 0 1 0 1" and "order 0r 0w" after the header

@@ -8,7 +8,7 @@ use lib.Dec.{ltb}
 use Rattle.verdict.specs.Verdict.{pick}
 use Rattle.memory.specs.Memory.{flat}
 use Rattle.protocol.specs.declared.Registers.{Registers}
-use Rattle.states.specs.declared.State.{State}
+use Rattle.states.specs.declared.Held.{Held}
 
 abbrev pub lineFeed : ℕ
 lineFeed = 10
@@ -79,11 +79,11 @@ orderLine takings = orderWord ++ (flat (map takingText takings) ++ (lineFeed ∷
 -- ---- the three texts
 
 -- what comes before the takings
-unfoldable pub head : ℕ → State → List ℕ
+unfoldable pub head : ℕ → Held → List ℕ
 head n s = header ++ (coreLines 0 (take n (s .cores)) ++ orderWord)
 
 -- the listing of n cores and of the takings
-unfoldable pub listing : ℕ → State → List ℕ → List ℕ
+unfoldable pub listing : ℕ → Held → List ℕ → List ℕ
 listing n s takings = header ++ (coreLines 0 (take n (s .cores)) ++ orderLine takings)
 
 -- "refused", a space and the number

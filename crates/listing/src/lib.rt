@@ -10,7 +10,7 @@ ghost use Rattle.memory.specs.Memory.{splice, flat};
 ghost use Rattle.listing.specs.Listing.{decimal, column, coreLine, coreLines, kindLetter, takingText, head, listing, refusedText, longText};
 ghost use Rattle.listing.specs.Writers.{textLeft, textCall};
 use protocol::Registers;
-use states::State;
+use states::Held;
 
 const LINE_FEED: u8 = b'\n';
 
@@ -95,14 +95,14 @@ fn least(a: usize, b: usize) -> usize
 }
 
 // That the table has four records is known of a result.
-fn table_of(s: State) -> [Registers; 4]
+fn table_of(s: Held) -> [Registers; 4]
     ensures { λ r. ⌜ (r ≡ s .cores) × (length r ≡ 4) ⌝ }
 {
     s.cores
 }
 
 // The lines of the first n cores.
-fn write_lines(out: &mut [u8], at: usize, s: State, n: usize) -> usize
+fn write_lines(out: &mut [u8], at: usize, s: Held, n: usize) -> usize
     requires { ⌜ at + 120 < 18446744073709551615 ⌝ }
     ensures { λ r. ⌜ (now (out .exit) ≡ splice (now (out .entry)) at (coreLines 0 (take n (s .cores)))) × (r ≡ at + length (coreLines 0 (take n (s .cores)))) × (r ≤ at + 120) ⌝ }
 {
@@ -161,7 +161,7 @@ pub enum Written {
 }
 
 // What comes before the takings.
-fn write_head(out: &mut [u8], s: State, n: usize) -> usize
+fn write_head(out: &mut [u8], s: Held, n: usize) -> usize
     ensures { λ r. ⌜ (now (out .exit) ≡ splice (now (out .entry)) 0 (head n s)) × (r ≡ length (head n s)) × (r ≤ 154) ⌝ }
 {
     let lines = write_text(out, 0, b"core mode cycles flags count\n");
@@ -170,7 +170,7 @@ fn write_head(out: &mut [u8], s: State, n: usize) -> usize
 }
 
 // The listing of n cores in the state s and of the first `taken` takings of the order list.
-pub fn write_listing(s: State, n: usize, list: &[u8], taken: usize, out: &mut [u8]) -> Written
+pub fn write_listing(s: Held, n: usize, list: &[u8], taken: usize, out: &mut [u8]) -> Written
     ensures { λ r. ⌜ textLeft r (now (out .exit)) ≡ textCall (listing n s (take taken (now (list .entry)))) (now (out .entry)) ⌝ }
 {
     let mut nothing = [0u8; 0];

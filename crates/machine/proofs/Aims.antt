@@ -15,14 +15,14 @@ use Rattle.exchange.specs.Laid.{exchangeBytes}
 use Rattle.exchange.proofs.Cursors.{length-reads, length-writes}
 use Rattle.records.specs.File.{cores}
 use Rattle.semaphore.specs.Line.{semaphoreOf}
-use Rattle.states.specs.declared.State.{State}
+use Rattle.states.specs.declared.Held.{Held}
 use Rattle.states.specs.Set.{AcceptedSet}
 use Rattle.states.specs.Machine.{noRegisters, coreIn, stateOf}
 use Rattle.states.specs.Fit.{FitCore, Fit}
 use Rattle.steps.specs.Moving.{CursorAimed}
 use Rattle.runner.proofs.Running.{core-in, semaphore-in}
 
-module _ (f t : List ℕ) (s : State) (d sh : List ℕ) (ok : AcceptedSet f t) (fit : Fit f t (stateOf f s d sh)) (k : ℕ) (e : s .semaphore .holder ≡ suc k) where
+module _ (f t : List ℕ) (s : Held) (d sh : List ℕ) (ok : AcceptedSet f t) (fit : Fit f t (stateOf f s d sh)) (k : ℕ) (e : s .semaphore .holder ≡ suc k) where
   holding : (mode (core (stateOf f s d sh .plant) k) ≡ 1) ⊎ (mode (core (stateOf f s d sh .plant) k) ≡ 4)
   holding = fit .held .holding k (ap (λ (m : Semaphore). m .holder) (semaphore-in f (s .cores) (s .places) (s .offsets) (semaphoreOf (s .semaphore)) d sh) ∙ e)
 
@@ -44,14 +44,14 @@ module _ (f t : List ℕ) (s : State) (d sh : List ℕ) (ok : AcceptedSet f t) (
   write-bytes m = subst (λ (n : ℕ). getD (s .cores) k noRegisters .exchange ≤ n) (length-writes f k (omega (arith, known, ok .few))) (here .writing m)
 
 -- the three ways: no holder, a reading, a writing
-pub aim-free : (f : List ℕ) (s : State) (r : Cursor) → s .semaphore .holder ≡ 0 → (k : ℕ) → k < cores f → s .semaphore .holder ≡ suc k → CursorAimed f k (getD (s .cores) k noRegisters) r
+pub aim-free : (f : List ℕ) (s : Held) (r : Cursor) → s .semaphore .holder ≡ 0 → (k : ℕ) → k < cores f → s .semaphore .holder ≡ suc k → CursorAimed f k (getD (s .cores) k noRegisters) r
 aim-free f s r z k l e = absurd (omega arith)
 
-aim-at : (f : List ℕ) (s : State) (r : Cursor) (j : ℕ) → s .semaphore .holder ≡ suc j → CursorAimed f j (getD (s .cores) j noRegisters) r → (k : ℕ) → k < cores f → s .semaphore .holder ≡ suc k → CursorAimed f k (getD (s .cores) k noRegisters) r
+aim-at : (f : List ℕ) (s : Held) (r : Cursor) (j : ℕ) → s .semaphore .holder ≡ suc j → CursorAimed f j (getD (s .cores) j noRegisters) r → (k : ℕ) → k < cores f → s .semaphore .holder ≡ suc k → CursorAimed f k (getD (s .cores) k noRegisters) r
 aim-at f s r j z a k l e = let q : k ≡ j = omega arith in rw q a
 
 -- the holder's core has the number one below
-module _ (f t : List ℕ) (s : State) (d sh : List ℕ) (ok : AcceptedSet f t) (fit : Fit f t (stateOf f s d sh)) (n : s .semaphore .holder ≢ 0) where
+module _ (f t : List ℕ) (s : Held) (d sh : List ℕ) (ok : AcceptedSet f t) (fit : Fit f t (stateOf f s d sh)) (n : s .semaphore .holder ≢ 0) where
   named : s .semaphore .holder ≡ suc (s .semaphore .holder - 1)
   named = omega arith
 

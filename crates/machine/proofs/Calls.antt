@@ -26,18 +26,18 @@ use Rattle.taskset.specs.Trace.{traceRefusal}
 use Rattle.taskset.specs.Task.{listed, sizesOf}
 use Rattle.taskset.specs.Starts.{startShared, startBuffer}
 use Rattle.taskset.proofs.Exact.{keeps-rules}
-use Rattle.states.specs.declared.State.{State}
+use Rattle.states.specs.declared.Held.{Held}
 use Rattle.states.specs.declared.Prepared.{Prepared}
 use Rattle.states.specs.Fit.{stateRefusal}
 use Rattle.states.specs.Tasks.{tasksOf}
 use Rattle.states.specs.Preparing.{heldRefusal, prepared}
-use Rattle.runner.specs.declared.Ran.{Ran}
+use Rattle.runner.specs.declared.RunAnswer.{RunAnswer}
 use Rattle.runner.specs.Runs.{allBelow, Left, leftAs, ranCall}
 use Rattle.machine.specs.Calls.{lentFits, setRefusal, callRefusal, answerOf, tableOf, freshRefusalFor, freshRefusal, freshCallFor, freshCall, runRefusal, runCall, freshLeft}
 
 -- ---- loading
 
-module _ (f t : List ℕ) (h : State) where
+module _ (f t : List ℕ) (h : Held) where
   -- the two parts of a held refusal
   pub held-none : heldRefusal f t h ≡ 0 → (traceRefusal f t ≡ 0) × (stateRefusal f t h ≡ 0)
   unfolding heldRefusal
@@ -101,7 +101,7 @@ below-laid f order l e b q = sym (q ∙ ap (λ (x : Layout). allBelow (x .cores)
 
 -- ---- the chain of refusals
 
-module _ (f t : List ℕ) (h : State) (buffer shared : ℕ) (room named : Bool) where
+module _ (f t : List ℕ) (h : Held) (buffer shared : ℕ) (room named : Bool) where
   pub refuse-file : {r : ℕ} → r ≡ judge f → r ≢ 0 → r ≡ callRefusal f t h buffer shared room named
   unfolding callRefusal
   refuse-file e n = stop _ e n
@@ -142,7 +142,7 @@ module _ (fits room named : Bool) (held : ℕ) where
     none-refused z e = skip (yes _ 21 (rw (a, b))) (skip z (sym (yes _ 20 e)))
 
 -- what a call knows that is not refused
-pub record Granted (f t : List ℕ) (h : State) (buffer shared : ℕ) (room named : Bool) : Type 0 where
+pub record Granted (f t : List ℕ) (h : Held) (buffer shared : ℕ) (room named : Bool) : Type 0 where
   pub accepted : judge f ≡ 0
   pub sound : traceRefusal f t ≡ 0
   pub state : stateRefusal f t h ≡ 0
@@ -151,7 +151,7 @@ pub record Granted (f t : List ℕ) (h : State) (buffer shared : ℕ) (room name
   pub listed : room ≡ true
   pub below : named ≡ true
 
-pub granted : (f t : List ℕ) (h : State) (buffer shared : ℕ) (room named : Bool) → callRefusal f t h buffer shared room named ≡ 0 → Granted f t h buffer shared room named
+pub granted : (f t : List ℕ) (h : Held) (buffer shared : ℕ) (room named : Bool) → callRefusal f t h buffer shared room named ≡ 0 → Granted f t h buffer shared room named
 unfolding callRefusal lentFits
 granted f t h buffer shared room named e =
     let a = next-zero _ _ e in
@@ -171,11 +171,11 @@ granted f t h buffer shared room named e =
 
 -- ---- the answers
 
-module _ (f t : List ℕ) (h : State) (d sh order list : List ℕ) where
-  pub run-refused : {r : ℕ} (x : Ran) → r ≡ runRefusal f t h d sh order list → r ≢ 0 → x ≡ answerOf r h → leftAs x d sh list ≡ runCall f t h d sh order list
+module _ (f t : List ℕ) (h : Held) (d sh order list : List ℕ) where
+  pub run-refused : {r : ℕ} (x : RunAnswer) → r ≡ runRefusal f t h d sh order list → r ≢ 0 → x ≡ answerOf r h → leftAs x d sh list ≡ runCall f t h d sh order list
   unfolding runCall
   run-refused x e n q =
-      ap (λ (y : Ran). leftAs y d sh list) (q ∙ ap (λ (m : ℕ). answerOf m h) e)
+      ap (λ (y : RunAnswer). leftAs y d sh list) (q ∙ ap (λ (m : ℕ). answerOf m h) e)
       ∙ sym (pick-false _ _ _ (ne-eqb _ _ (λ w. n (e ∙ w))))
 
   pub run-granted : (x : Left) → runRefusal f t h d sh order list ≡ 0 → x ≡ ranCall f t h d sh order list → x ≡ runCall f t h d sh order list
@@ -198,16 +198,16 @@ module _ (o : Profile) (f : List ℕ) (d sh : List ℕ) where
   pub fresh-none-for : judgeFor o f ≡ 0 → lentFits f (length d) (length sh) ≡ true → freshRefusalFor o f (length d) (length sh) ≡ 0
   fresh-none-for z e = next-none _ _ z (yes _ 21 e)
 
-  pub fresh-refused-for : {r : ℕ} (x : Ran) → r ≡ freshRefusalFor o f (length d) (length sh) → r ≢ 0 → x ≡ answerOf r (tableOf 0 0) → leftAs x d sh [] ≡ freshCallFor o f d sh
+  pub fresh-refused-for : {r : ℕ} (x : RunAnswer) → r ≡ freshRefusalFor o f (length d) (length sh) → r ≢ 0 → x ≡ answerOf r (tableOf 0 0) → leftAs x d sh [] ≡ freshCallFor o f d sh
   unfolding freshCallFor
   fresh-refused-for x e n q =
-      ap (λ (y : Ran). leftAs y d sh []) (q ∙ ap (λ (m : ℕ). answerOf m (tableOf 0 0)) e)
+      ap (λ (y : RunAnswer). leftAs y d sh []) (q ∙ ap (λ (m : ℕ). answerOf m (tableOf 0 0)) e)
       ∙ sym (pick-false _ _ _ (ne-eqb _ _ (λ w. n (e ∙ w))))
 
-  pub fresh-granted-for : (x : Ran) (d′ sh′ : List ℕ) → freshRefusalFor o f (length d) (length sh) ≡ 0 → x ≡ answerOf 0 (tableOf (cores f) 4) → d′ ≡ startBuffer f → sh′ ≡ startShared f
+  pub fresh-granted-for : (x : RunAnswer) (d′ sh′ : List ℕ) → freshRefusalFor o f (length d) (length sh) ≡ 0 → x ≡ answerOf 0 (tableOf (cores f) 4) → d′ ≡ startBuffer f → sh′ ≡ startShared f
       → leftAs x d′ sh′ [] ≡ freshCallFor o f d sh
   unfolding freshCallFor
-  fresh-granted-for x d′ sh′ e q a b = ap₂ (λ (y : Ran) (l : List ℕ). leftAs y l sh′ []) q a ∙ ap (λ (l : List ℕ). leftAs (answerOf 0 (tableOf (cores f) 4)) (startBuffer f) l []) b ∙ sym (pick-true _ _ _ (eq-eqb _ _ e))
+  fresh-granted-for x d′ sh′ e q a b = ap₂ (λ (y : RunAnswer) (l : List ℕ). leftAs y l sh′ []) q a ∙ ap (λ (l : List ℕ). leftAs (answerOf 0 (tableOf (cores f) 4)) (startBuffer f) l []) b ∙ sym (pick-true _ _ _ (eq-eqb _ _ e))
 
 -- under the full one
 pub fresh-none : (f d sh : List ℕ) → judge f ≡ 0 → lentFits f (length d) (length sh) ≡ true → freshRefusal f (length d) (length sh) ≡ 0

@@ -12,7 +12,7 @@ use Rattle.records.specs.File.{cores, variables, recordPlace}
 use Rattle.taskset.specs.declared.Layout.{Layout}
 use Rattle.taskset.specs.Layout.{layoutOf}
 use Rattle.taskset.proofs.Exact.{keeps-rules}
-use Rattle.states.specs.declared.State.{State}
+use Rattle.states.specs.declared.Held.{Held}
 use Rattle.states.specs.declared.CoreTask.{CoreTask}
 use Rattle.states.specs.Set.{AcceptedSet}
 use Rattle.states.specs.Fit.{Fit}
@@ -28,7 +28,7 @@ use Rattle.machine.specs.Calls.{runRefusal}
 use Rattle.machine.proofs.Calls.{Granted, granted}
 
 -- the variables' records
-module _ (f t : List ℕ) (h : State) (d sh order list : List ℕ) (e : runRefusal f t h d sh order list ≡ 0) (l : Layout) (laid : l ≡ layoutOf f) where
+module _ (f t : List ℕ) (h : Held) (d sh order list : List ℕ) (e : runRefusal f t h d sh order list ≡ 0) (l : Layout) (laid : l ≡ layoutOf f) where
   pub known : Granted f t h (length d) (length sh) (leb (length order) (length list)) (allBelow (cores f) order)
   unfolding runRefusal
   known = granted f t h _ _ _ _ e

@@ -11,7 +11,7 @@ use lib.ListN.{getD}
 use Rattle.verdict.proofs.Verdict.{skip, stop, yes, no, pick-true, pick-false, next-none, next-zero, unless-zero}
 use Rattle.records.specs.File.{cores}
 use Rattle.taskset.specs.Judge.{judge}
-use Rattle.states.specs.declared.State.{State}
+use Rattle.states.specs.declared.Held.{Held}
 use Rattle.states.specs.Machine.{Sized, stateOf}
 use Rattle.states.specs.Set.{AcceptedSet}
 use Rattle.states.specs.Preparing.{heldRefusal}
@@ -26,7 +26,7 @@ use Rattle.machine.specs.declared.Next.the-variants.{Refused, Found}
 use Rattle.machine.specs.Calls.{nextRefusal, nextCall, coresNamed, nextSays, nextSaid}
 use Rattle.machine.proofs.Calls.{held-none}
 
-module _ (f t : List ℕ) (h : State) (given : ℕ) where
+module _ (f t : List ℕ) (h : Held) (given : ℕ) where
   pub next-file : {r : ℕ} → r ≡ judge f → r ≢ 0 → r ≡ nextRefusal f t h given
   unfolding nextRefusal
   next-file e n = stop _ e n

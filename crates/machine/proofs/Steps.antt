@@ -9,10 +9,10 @@ use Rattle.verdict.specs.Verdict.{pick, both}
 use Rattle.verdict.proofs.Verdict.{pick-ap}
 use Rattle.protocol.specs.Step.{step, Taking, takingOf, encoded}
 use Rattle.records.specs.File.{cores}
-use Rattle.states.specs.declared.State.{State}
+use Rattle.states.specs.declared.Held.{Held}
 use Rattle.states.specs.Task.{taskOf}
 use Rattle.states.specs.Machine.{stateOf, heldAfter, dataOf}
-use Rattle.runner.specs.declared.Ran.{Ran}
+use Rattle.runner.specs.declared.RunAnswer.{RunAnswer}
 use Rattle.runner.specs.Runs.{Left, leftAs, ranCall}
 use Rattle.machine.specs.Calls.{callRefusal, answerOf, runRefusal, runCall, stepRefusal, stepped, stepCall}
 
@@ -28,7 +28,7 @@ both-one : (b : Bool) → both b true ≡ b
 both-one true = refl
 both-one false = refl
 
-module _ (f t : List ℕ) (h : State) (d sh : List ℕ) (k b : ℕ) where
+module _ (f t : List ℕ) (h : Held) (d sh : List ℕ) (k b : ℕ) where
   one-refusal : runRefusal f t h d sh (k ∷ []) (b ∷ []) ≡ stepRefusal f t h d sh k
   unfolding runRefusal stepRefusal
   one-refusal = ap (callRefusal f t h (length d) (length sh) true) (both-one (ltb k (cores f)))
@@ -44,5 +44,5 @@ module _ (f t : List ℕ) (h : State) (d sh : List ℕ) (k b : ℕ) where
       pick-ap unlisted (eqb (runRefusal f t h d sh (k ∷ []) (b ∷ [])) 0) _ _
       ∙ ap₂ (λ (r : ℕ) (x : Left). pick (eqb r 0) x (leftAs (answerOf r h) d sh [])) one-refusal one-ran
 
-  pub step-as-run : (x : Ran) (d′ sh′ list′ : List ℕ) → leftAs x d′ sh′ list′ ≡ runCall f t h d sh (k ∷ []) (b ∷ []) → leftAs x d′ sh′ [] ≡ stepCall f t h d sh k
+  pub step-as-run : (x : RunAnswer) (d′ sh′ list′ : List ℕ) → leftAs x d′ sh′ list′ ≡ runCall f t h d sh (k ∷ []) (b ∷ []) → leftAs x d′ sh′ [] ≡ stepCall f t h d sh k
   step-as-run x d′ sh′ list′ e = ap unlisted e ∙ one-call

@@ -16,11 +16,11 @@ use Rattle.code.specs.declared.Profile.the-variants.{Full}
 use Rattle.taskset.specs.Judge.{judgeFor, judge}
 use Rattle.taskset.specs.Task.{sizesOf}
 use Rattle.taskset.specs.Starts.{startShared, startBuffer}
-use Rattle.states.specs.declared.State.{State}
+use Rattle.states.specs.declared.Held.{Held}
 use Rattle.states.specs.Task.{taskOf}
 use Rattle.states.specs.Machine.{stateOf, heldAfter, dataOf}
 use Rattle.states.specs.Preparing.{heldRefusal}
-use Rattle.runner.specs.declared.Ran.{Ran}
+use Rattle.runner.specs.declared.RunAnswer.{RunAnswer}
 use Rattle.runner.specs.Runs.{allBelow, Left, leftAs, ranCall}
 use Rattle.table.specs.declared.Moving.{Moving}
 use Rattle.table.specs.declared.Moving.the-variants.{Core, Nothing}
@@ -39,22 +39,22 @@ unfoldable pub lentFits : List ℕ → ℕ → ℕ → Bool
 lentFits f buffer shared = both (eqb buffer (total (sizesOf f))) (eqb shared 1024)
 
 -- of a file, a trace and a state, where no memory is lent
-unfoldable pub setRefusal : List ℕ → List ℕ → State → ℕ
+unfoldable pub setRefusal : List ℕ → List ℕ → Held → ℕ
 setRefusal f t h = next (judge f) (heldRefusal f t h)
 
 -- of a call that lends memory of these sizes, and an order list with room or not; `named` says that it names no core from n on
-unfoldable pub callRefusal : List ℕ → List ℕ → State → ℕ → ℕ → Bool → Bool → ℕ
+unfoldable pub callRefusal : List ℕ → List ℕ → Held → ℕ → ℕ → Bool → Bool → ℕ
 callRefusal f t h buffer shared room named =
     next (judge f) (next (unless (both (lentFits f buffer shared) room) badLengths) (next (heldRefusal f t h) (unless named noSuchCore)))
 
 -- what a call answers that steps no core: the refusal number, no takings, a state
-abbrev pub answerOf : ℕ → State → Ran
+abbrev pub answerOf : ℕ → Held → RunAnswer
 answerOf r h = record { refusal = r; taken = 0; state = h }
 
 -- ---- the fresh state
 
 -- n cores with these flags, all else 0
-unfoldable pub tableOf : ℕ → ℕ → State
+unfoldable pub tableOf : ℕ → ℕ → Held
 tableOf n flags = record {
   count = n;
   semaphore = record { holder = 0; waiting = 0; line = replicate 4 0 };
@@ -86,10 +86,10 @@ freshCall f d sh = freshLeft (freshRefusal f (length d) (length sh)) f d sh
 
 -- ---- a run: the steps of an order, which is judged whole before the first; its takings go to the front of the order list
 
-unfoldable pub runRefusal : List ℕ → List ℕ → State → List ℕ → List ℕ → List ℕ → List ℕ → ℕ
+unfoldable pub runRefusal : List ℕ → List ℕ → Held → List ℕ → List ℕ → List ℕ → List ℕ → ℕ
 runRefusal f t h d sh order list = callRefusal f t h (length d) (length sh) (leb (length order) (length list)) (allBelow (cores f) order)
 
-unfoldable pub runCall : List ℕ → List ℕ → State → List ℕ → List ℕ → List ℕ → List ℕ → Left
+unfoldable pub runCall : List ℕ → List ℕ → Held → List ℕ → List ℕ → List ℕ → List ℕ → Left
 runCall f t h d sh order list =
     pick (eqb (runRefusal f t h d sh order list) 0)
     (ranCall f t h d sh order list)
@@ -97,10 +97,10 @@ runCall f t h d sh order list =
 
 -- ---- a step of core k; no order list is lent
 
-unfoldable pub stepRefusal : List ℕ → List ℕ → State → List ℕ → List ℕ → ℕ → ℕ
+unfoldable pub stepRefusal : List ℕ → List ℕ → Held → List ℕ → List ℕ → ℕ → ℕ
 stepRefusal f t h d sh k = callRefusal f t h (length d) (length sh) true (ltb k (cores f))
 
-abbrev pub stepped : List ℕ → List ℕ → State → List ℕ → List ℕ → ℕ → Left
+abbrev pub stepped : List ℕ → List ℕ → Held → List ℕ → List ℕ → ℕ → Left
 stepped f t h d sh k =
     leftAs
     (record { refusal = 0; taken = length (takingOf (taskOf f t) k (stateOf f h d sh)); state = heldAfter (cores f) h (step (taskOf f t) k (stateOf f h d sh)) })
@@ -108,7 +108,7 @@ stepped f t h d sh k =
     (step (taskOf f t) k (stateOf f h d sh) .plant .shared)
     []
 
-unfoldable pub stepCall : List ℕ → List ℕ → State → List ℕ → List ℕ → ℕ → Left
+unfoldable pub stepCall : List ℕ → List ℕ → Held → List ℕ → List ℕ → ℕ → Left
 stepCall f t h d sh k =
     pick (eqb (stepRefusal f t h d sh k) 0)
     (stepped f t h d sh k)
@@ -116,10 +116,10 @@ stepCall f t h d sh k =
 
 -- ---- the next core to move after a given one; no memory is lent
 
-unfoldable pub nextRefusal : List ℕ → List ℕ → State → ℕ → ℕ
+unfoldable pub nextRefusal : List ℕ → List ℕ → Held → ℕ → ℕ
 nextRefusal f t h given = next (judge f) (next (heldRefusal f t h) (unless (ltb given (cores f)) noSuchCore))
 
-unfoldable pub nextCall : List ℕ → List ℕ → State → ℕ → Next
+unfoldable pub nextCall : List ℕ → List ℕ → Held → ℕ → Next
 nextCall f t h given =
     pick (eqb (nextRefusal f t h given) 0)
     (Found (nextMoving f t h given))
@@ -139,7 +139,7 @@ abbrev pub nextSays : Next → Says
 nextSays (Refused r) = record { number = r; named = [] }
 nextSays (Found m) = record { number = 0; named = coresNamed m }
 
-unfoldable pub nextSaid : List ℕ → List ℕ → State → ℕ → Says
+unfoldable pub nextSaid : List ℕ → List ℕ → Held → ℕ → Says
 nextSaid f t h given = record {
   number = nextRefusal f t h given;
   named = pick (eqb (nextRefusal f t h given) 0) (coresNamed (nextMoving f t h given)) [];

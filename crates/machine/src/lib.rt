@@ -3,10 +3,10 @@
 use code::Profile;
 use exchange::Cursor;
 use protocol::Registers;
-use runner::Ran;
+use runner::RunAnswer;
 use semaphore::Semaphore;
 use states::CoreTask;
-use states::State;
+use states::Held;
 use table::Moving;
 use taskset::Layout;
 ghost use mathlib.Core.Path.{_≡_};
@@ -52,7 +52,7 @@ pub fn check_file(file: &[u8]) -> u8
 }
 
 // The refusal number of a state, with its file and trace.
-pub fn check_state(file: &[u8], trace: &[u8], s: State) -> u8
+pub fn check_state(file: &[u8], trace: &[u8], s: Held) -> u8
     ensures { λ r. ⌜ r ≡ setRefusal (now (file .entry)) (now (trace .entry)) s ⌝ }
 {
     let loaded = taskset::load(file);
@@ -107,7 +107,7 @@ fn cleared(flags: u8) -> Registers
 }
 
 // A table of n cores with these flags, all else 0: the semaphore free, and nobody in line.
-pub fn table_of(n: u8, flags: u8) -> State
+pub fn table_of(n: u8, flags: u8) -> Held
     ensures { λ r. ⌜ r ≡ tableOf n flags ⌝ }
 {
     let core = cleared(flags);
@@ -120,7 +120,7 @@ pub fn table_of(n: u8, flags: u8) -> State
         waiting: 0,
         line,
     };
-    State {
+    Held {
         count: n,
         semaphore,
         cores,
@@ -130,7 +130,7 @@ pub fn table_of(n: u8, flags: u8) -> State
 }
 
 // The fresh state of an accepted file, in memories of its sizes: zero but for the start values.
-pub fn fresh_judged(file: &[u8], layout: Layout, buffer: &mut [u8], shared: &mut [u8]) -> Ran
+pub fn fresh_judged(file: &[u8], layout: Layout, buffer: &mut [u8], shared: &mut [u8]) -> RunAnswer
     requires { ⌜ (judge (now file) ≡ 0) × (layout ≡ layoutOf (now file)) × (lentFits (now file) (length (now buffer)) (length (now shared)) ≡ true) ⌝ }
     ensures { λ r. ⌜ leftAs r (now (buffer .exit)) (now (shared .exit)) [] ≡ freshCall (now (file .entry)) (now (buffer .entry)) (now (shared .entry)) ⌝ }
 {
@@ -139,7 +139,7 @@ pub fn fresh_judged(file: &[u8], layout: Layout, buffer: &mut [u8], shared: &mut
 }
 
 // The fresh state of a file that is loaded under a profile: memories zero but for the start values, mode 0, registers 0, flags 4, semaphore free, nobody in line. A refused call gives a table of no cores.
-pub fn fresh_for(profile: Profile, file: &[u8], buffer: &mut [u8], shared: &mut [u8]) -> Ran
+pub fn fresh_for(profile: Profile, file: &[u8], buffer: &mut [u8], shared: &mut [u8]) -> RunAnswer
     ensures { λ r. ⌜ leftAs r (now (buffer .exit)) (now (shared .exit)) [] ≡ freshCallFor profile (now (file .entry)) (now (buffer .entry)) (now (shared .entry)) ⌝ }
 {
     let loaded = taskset::load_for(profile, file);
@@ -154,7 +154,7 @@ pub fn fresh_for(profile: Profile, file: &[u8], buffer: &mut [u8], shared: &mut 
 }
 
 // Under the full profile.
-pub fn fresh(file: &[u8], buffer: &mut [u8], shared: &mut [u8]) -> Ran
+pub fn fresh(file: &[u8], buffer: &mut [u8], shared: &mut [u8]) -> RunAnswer
     ensures { λ r. ⌜ leftAs r (now (buffer .exit)) (now (shared .exit)) [] ≡ freshCall (now (file .entry)) (now (buffer .entry)) (now (shared .entry)) ⌝ }
 {
     fresh_for(Profile::Full, file, buffer, shared)
@@ -186,7 +186,7 @@ fn aim_of(
     trace: &[u8],
     first: usize,
     end: usize,
-    s: State,
+    s: Held,
     buffer: &[u8],
     shared: &[u8],
 ) -> Cursor
@@ -210,10 +210,10 @@ fn aim_of(
 }
 
 // What a call answers that steps no core.
-pub fn answer(number: u8, s: State) -> Ran
+pub fn answer(number: u8, s: Held) -> RunAnswer
     ensures { λ r. ⌜ r ≡ answerOf number s ⌝ }
 {
-    Ran {
+    RunAnswer {
         refusal: number,
         taken: 0,
         state: s,
@@ -246,12 +246,12 @@ fn run_judged(
     trace: &[u8],
     layout: Layout,
     tasks: [CoreTask; 4],
-    s: State,
+    s: Held,
     buffer: &mut [u8],
     shared: &mut [u8],
     order: &[u8],
     list: &mut [u8],
-) -> Ran
+) -> RunAnswer
     requires { ⌜ (layout ≡ layoutOf (now file)) × (tasks ≡ tasksOf (now file) (now trace)) × (runRefusal (now file) (now trace) s (now buffer) (now shared) (now order) (now list) ≡ 0) ⌝ }
     ensures { λ r. ⌜ leftAs r (now (buffer .exit)) (now (shared .exit)) (now (list .exit)) ≡ ranCall (now (file .entry)) (now (trace .entry)) s (now (buffer .entry)) (now (shared .entry)) (now (order .entry)) (now (list .entry)) ⌝ }
 {
@@ -280,12 +280,12 @@ fn run_judged(
 pub fn run(
     file: &[u8],
     trace: &[u8],
-    s: State,
+    s: Held,
     buffer: &mut [u8],
     shared: &mut [u8],
     order: &[u8],
     list: &mut [u8],
-) -> Ran
+) -> RunAnswer
     ensures { λ r. ⌜ leftAs r (now (buffer .exit)) (now (shared .exit)) (now (list .exit)) ≡ runCall (now (file .entry)) (now (trace .entry)) s (now (buffer .entry)) (now (shared .entry)) (now (order .entry)) (now (list .entry)) ⌝ }
 {
     let loaded = taskset::load(file);
@@ -308,11 +308,11 @@ pub fn run(
 pub fn step(
     file: &[u8],
     trace: &[u8],
-    s: State,
+    s: Held,
     buffer: &mut [u8],
     shared: &mut [u8],
     core: u8,
-) -> Ran
+) -> RunAnswer
     ensures { λ r. ⌜ leftAs r (now (buffer .exit)) (now (shared .exit)) [] ≡ stepCall (now (file .entry)) (now (trace .entry)) s (now (buffer .entry)) (now (shared .entry)) core ⌝ }
 {
     let order = [core];
@@ -329,7 +329,7 @@ pub enum Next {
 }
 
 // The first core after a given one, round the ring and that one last, whose step would change something.
-pub fn next_core(file: &[u8], trace: &[u8], s: State, given: u8) -> Next
+pub fn next_core(file: &[u8], trace: &[u8], s: Held, given: u8) -> Next
     ensures { λ r. ⌜ (r ≡ nextCall (now (file .entry)) (now (trace .entry)) s given) × (nextSays r ≡ nextSaid (now (file .entry)) (now (trace .entry)) s given) ⌝ }
 {
     let loaded = taskset::load(file);

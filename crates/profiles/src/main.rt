@@ -1,7 +1,7 @@
 // Document 02, 2.10, with stored results. A case prints its name and a file's number under the full and under the small profile; a row of types prints the
 // number under the small profile of each type from 0 to 11. The files have one core, no inputs, no variables and the instruction limit 9.
 use code::Profile;
-use runner::Ran;
+use runner::RunAnswer;
 
 fn text(s: &[u8]) {
     io::write_all(1, s);
@@ -327,11 +327,11 @@ fn run_under(name: &[u8], profile: Profile) {
     let mut list = [9u8; 8];
     let order = [0u8; 8];
     label(name);
-    let made: Ran = machine::fresh_for(profile, file, &mut d, &mut sh);
+    let made: RunAnswer = machine::fresh_for(profile, file, &mut d, &mut sh);
     number(made.refusal);
     six(&d);
     text(b",");
-    let ran: Ran = machine::run(file, b"", made.state, &mut d, &mut sh, &order, &mut list);
+    let ran: RunAnswer = machine::run(file, b"", made.state, &mut d, &mut sh, &order, &mut list);
     number(ran.refusal);
     six(&d);
     text(b",");
@@ -345,7 +345,7 @@ fn wide_under(name: &[u8], profile: Profile) {
     let mut d = [9u8; 6];
     let mut sh = [9u8; 1024];
     label(name);
-    let made: Ran = machine::fresh_for(profile, file, &mut d, &mut sh);
+    let made: RunAnswer = machine::fresh_for(profile, file, &mut d, &mut sh);
     number(made.refusal);
     number(made.state.count);
     six(&d);

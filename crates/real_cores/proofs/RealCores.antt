@@ -20,7 +20,7 @@ use Rattle.states.specs.Fit.{Fit}
 use Rattle.machine.specs.Calls.{freshRefusal, freshCall}
 use Rattle.calls.specs.Calling.{Call, stepsOf}
 use Rattle.calls.proofs.Calling.{calls-interleaved}
-use Rattle.snapshot.specs.declared.Core.{Core}
+use Rattle.snapshot.specs.declared.CoreRecord.{CoreRecord}
 use Rattle.rikzord.specs.Lent.{freshLent}
 use Rattle.lent_calls.specs.Calling.{LentCall, lentStepsOf}
 use Rattle.lent_calls.proofs.Calling.{lent-interleaved}
@@ -74,7 +74,7 @@ module _ (f t : List ℕ) (bytes : (i : ℕ) → getD f i 0 < 256) (trace-bytes 
 
   -- ---- calls on a lent core table
 
-  module _ (ys : List Core) (p : Semaphore) (d sh : List ℕ) (e : freshLent f ys p d sh .refusal ≡ 0) where
+  module _ (ys : List CoreRecord) (p : Semaphore) (d sh : List ℕ) (e : freshLent f ys p d sh .refusal ≡ 0) where
     pub lent-race-free : (cs : List LentCall) → LentRaceFree f t ys p d sh cs
     lent-race-free cs =
         let c = lent-interleaved f t bytes trace-bytes ys p d sh e sound cs in

@@ -17,7 +17,7 @@ use Rattle.semaphore.specs.declared.Semaphore.{Semaphore}
 use Rattle.states.specs.Task.{taskOf}
 use Rattle.machine.specs.Calls.{freshCall}
 use Rattle.calls.specs.Calling.{Call, calls, stepsOf, wholeOf}
-use Rattle.snapshot.specs.declared.Core.{Core}
+use Rattle.snapshot.specs.declared.CoreRecord.{CoreRecord}
 use Rattle.rikzord.specs.Lent.{freshLent}
 use Rattle.lent_calls.specs.Calling.{LentCall, lentCalls, lentStepsOf, wholeLent}
 
@@ -61,10 +61,10 @@ pub record CallsAlike (f t d sh : List ℕ) (bs cs : List Call) : Type 0 where
 
 -- ---- calls on a lent core table, from what `rikzord_fresh` left that was lent the table ys, the semaphore p and the memories d and sh
 
-pub record LentRaceFree (f t : List ℕ) (ys : List Core) (p : Semaphore) (d sh : List ℕ) (cs : List LentCall) : Type 0 where
+pub record LentRaceFree (f t : List ℕ) (ys : List CoreRecord) (p : Semaphore) (d sh : List ℕ) (cs : List LentCall) : Type 0 where
   pub steps : wholeLent f (lentCalls f t cs (freshLent f ys p d sh)) ≡ run (taskOf f t) (lentStepsOf f t cs (freshLent f ys p d sh)) (freshOf f)
   pub race-free : RaceFree (taskOf f t) (operandsIn f) (wholeLent f (lentCalls f t cs (freshLent f ys p d sh)))
 
-pub record LentAlike (f t : List ℕ) (ys : List Core) (p : Semaphore) (d sh : List ℕ) (bs cs : List LentCall) : Type 0 where
+pub record LentAlike (f t : List ℕ) (ys : List CoreRecord) (p : Semaphore) (d sh : List ℕ) (bs cs : List LentCall) : Type 0 where
   pub whole : wholeLent f (lentCalls f t bs (freshLent f ys p d sh)) ≡ wholeLent f (lentCalls f t cs (freshLent f ys p d sh))
   pub takings-same : takings (taskOf f t) (lentStepsOf f t bs (freshLent f ys p d sh)) (freshOf f) ≡ takings (taskOf f t) (lentStepsOf f t cs (freshLent f ys p d sh)) (freshOf f)

@@ -24,11 +24,11 @@ use Rattle.semaphore.specs.declared.Semaphore.{Semaphore as HeldSemaphore}
 use Rattle.taskset.specs.Judge.{judge}
 use Rattle.taskset.specs.Trace.{traceRefusal}
 use Rattle.taskset.specs.Fresh.{freshOf}
-use Rattle.states.specs.declared.State.{State as Held}
+use Rattle.states.specs.declared.Held.{Held}
 use Rattle.states.specs.Task.{taskOf}
 use Rattle.states.specs.Machine.{noRegisters, stackIn, stateIn, heldAfter, dataOf}
 use Rattle.states.specs.Set.{AcceptedSet}
-use Rattle.runner.specs.declared.Ran.{Ran}
+use Rattle.runner.specs.declared.RunAnswer.{RunAnswer}
 use Rattle.runner.specs.Runs.{Left, leftAs}
 use Rattle.runner.specs.Running.{Running}
 use Rattle.runner.proofs.Running.{shared-in}
@@ -49,7 +49,7 @@ unfolding stateIn
 plant-of f cs places offsets d sh a b = refl
 
 module _ (f t list : List ℕ) (ok : AcceptedSet f t) (bytes : (i : ℕ) → getD f i 0 < 256) (trace-bytes : (i : ℕ) → getD t i 0 < 256) (d₀ sh₀ : List ℕ) (fits : lentFits f (length d₀) (length sh₀) ≡ true)
-    (r : Ran) (d sh : List ℕ) (e : leftAs r d sh [] ≡ freshCall f d₀ sh₀) where
+    (r : RunAnswer) (d sh : List ℕ) (e : leftAs r d sh [] ≡ freshCall f d₀ sh₀) where
   granted : freshRefusal f (length d₀) (length sh₀) ≡ 0
   granted = fresh-none f d₀ sh₀ (ok .file) fits
 
@@ -133,10 +133,10 @@ module _ (f t list : List ℕ) (ok : AcceptedSet f t) (h : Held) (table : h ≡ 
 
 -- ---- the list's refusal
 
-pub reran-none : (f t list d sh : List ℕ) (r : Ran) → r ≡ answerOf 33 (tableOf 0 0) → legal (taskOf f t) (map decoded list) (freshOf f .plant) ≡ false → Reran f t list r d sh
+pub reran-none : (f t list d sh : List ℕ) (r : RunAnswer) → r ≡ answerOf 33 (tableOf 0 0) → legal (taskOf f t) (map decoded list) (freshOf f .plant) ≡ false → Reran f t list r d sh
 unfolding listRefusal
 reran-none f t list d sh r e l =
-    let number : r .refusal ≡ 33 = ap (λ (x : Ran). x .refusal) e in
+    let number : r .refusal ≡ 33 = ap (λ (x : RunAnswer). x .refusal) e in
     record {
       number = number ∙ sym (no _ 33 l);
       done = λ z. absurd (omega (arith, number));
@@ -154,10 +154,10 @@ splice-all s ys e =
 -- ---- the call
 
 module _ (f t list d sh : List ℕ) where
-  pub rerun-refused : {r : ℕ} (x : Ran) → r ≡ rerunRefusal f t list (length d) (length sh) → r ≢ 0 → x ≡ answerOf r (tableOf 0 0) → leftAs x d sh [] ≡ rerunCall f t list d sh
+  pub rerun-refused : {r : ℕ} (x : RunAnswer) → r ≡ rerunRefusal f t list (length d) (length sh) → r ≢ 0 → x ≡ answerOf r (tableOf 0 0) → leftAs x d sh [] ≡ rerunCall f t list d sh
   unfolding rerunCall
   rerun-refused x e n q =
-      ap (λ (y : Ran). leftAs y d sh []) (q ∙ ap (λ (m : ℕ). answerOf m (tableOf 0 0)) e)
+      ap (λ (y : RunAnswer). leftAs y d sh []) (q ∙ ap (λ (m : ℕ). answerOf m (tableOf 0 0)) e)
       ∙ sym (pick-false _ _ _ (ne-eqb _ _ (λ w. n (e ∙ w))))
 
   pub refused-file : {r : ℕ} → r ≡ judge f → r ≢ 0 → r ≡ rerunRefusal f t list (length d) (length sh)
@@ -179,11 +179,11 @@ module _ (f t list d sh : List ℕ) where
       refused-list e = skip z (skip (yes _ 21 fits) (skip sound e))
 
       -- what was rerun in memories of its own is copied out, or left
-      pub rerun-done : (x : Ran) (d′ sh′ : List ℕ) → Reran f t list x d′ sh′ → x .refusal ≡ 0 → leftAs x d′ sh′ [] ≡ rerunCall f t list d sh
+      pub rerun-done : (x : RunAnswer) (d′ sh′ : List ℕ) → Reran f t list x d′ sh′ → x .refusal ≡ 0 → leftAs x d′ sh′ [] ≡ rerunCall f t list d sh
       unfolding rerunCall
       rerun-done x d′ sh′ y e = y .done e ∙ sym (pick-true _ _ _ (eq-eqb _ _ (sym (refused-list (y .number)) ∙ e)))
 
-      pub rerun-left : (x : Ran) (d′ sh′ : List ℕ) → Reran f t list x d′ sh′ → x .refusal ≢ 0 → leftAs x d sh [] ≡ rerunCall f t list d sh
+      pub rerun-left : (x : RunAnswer) (d′ sh′ : List ℕ) → Reran f t list x d′ sh′ → x .refusal ≢ 0 → leftAs x d sh [] ≡ rerunCall f t list d sh
       rerun-left x d′ sh′ y n = rerun-refused x (refused-list (y .number)) n (y .refused n)
 
 -- ---- memories of its own

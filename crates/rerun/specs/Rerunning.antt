@@ -20,13 +20,13 @@ use Rattle.records.specs.File.{cores, variables, recordPlace}
 use Rattle.taskset.specs.Task.{sizesOf, variablesOf, sampleAt}
 use Rattle.taskset.specs.Trace.{recordCount}
 use Rattle.taskset.specs.Fresh.{freshOf}
-use Rattle.states.specs.declared.State.{State}
+use Rattle.states.specs.declared.Held.{Held}
 use Rattle.states.specs.declared.CoreTask.{CoreTask}
 use Rattle.states.specs.Task.{taskOf}
 use Rattle.states.specs.Tasks.{coreTask}
 use Rattle.states.specs.Machine.{noRegisters, stackIn, stateIn}
 use Rattle.states.specs.Set.{AcceptedSet}
-use Rattle.runner.specs.declared.Ran.{Ran}
+use Rattle.runner.specs.declared.RunAnswer.{RunAnswer}
 use Rattle.runner.specs.Runs.{Left, leftAs}
 use Rattle.runner.specs.Executing.{Standing}
 use Rattle.machine.specs.Calls.{answerOf, tableOf}
@@ -82,7 +82,7 @@ ReadsWhole f t k r places offsets d sh r′ places′ offsets′ d′ =
 -- ---- the whole list
 
 -- before byte i of the list: the takings so far are legal, and made the state now; cores from n on are as in the fresh table h
-pub record Rerunning (f t list : List ℕ) (h : State) (i : ℕ) (cs : List Registers) (places offsets d sh : List ℕ) : Type 0 where
+pub record Rerunning (f t list : List ℕ) (h : Held) (i : ℕ) (cs : List Registers) (places offsets d sh : List ℕ) : Type 0 where
   pub within : i ≤ length list
   pub lawful : legal (taskOf f t) (map decoded (take i list)) (freshOf f .plant) ≡ true
   pub plant : stateIn f cs places offsets untaken d sh .plant ≡ whole (taskOf f t) (map decoded (take i list)) (freshOf f .plant)
@@ -93,7 +93,7 @@ pub record Rerunning (f t list : List ℕ) (h : State) (i : ℕ) (cs : List Regi
   pub spare : (j : ℕ) → cores f ≤ j → (getD cs j noRegisters ≡ getD (h .cores) j noRegisters) × (stackIn places offsets j ≡ stackIn (h .places) (h .offsets) j)
 
 -- in memories of its own, whose bytes are d and sh afterwards
-pub record Reran (f t list : List ℕ) (r : Ran) (d sh : List ℕ) : Type 0 where
+pub record Reran (f t list : List ℕ) (r : RunAnswer) (d sh : List ℕ) : Type 0 where
   pub number : r .refusal ≡ listRefusal f t list
   pub done : r .refusal ≡ 0 → leftAs r d sh [] ≡ rerunLeft f t list
   pub refused : r .refusal ≢ 0 → r ≡ answerOf (r .refusal) (tableOf 0 0)

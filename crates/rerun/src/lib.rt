@@ -2,9 +2,9 @@
 // list is known at its end alone, so the rerun works in memories of its own and copies them out where nothing is refused.
 // In order: a byte of the list; a reading; a writing; the list; the call.
 use protocol::Registers;
-use runner::Ran;
+use runner::RunAnswer;
 use states::CoreTask;
-use states::State;
+use states::Held;
 use taskset::Layout;
 ghost use mathlib.Core.Path.{_≡_};
 ghost use mathlib.Core.Bool.{true};
@@ -151,7 +151,7 @@ fn write_exchange(
 // ---- the list
 
 // What a refused call answers.
-fn refused(number: u8) -> Ran
+fn refused(number: u8) -> RunAnswer
     ensures { λ r. ⌜ r ≡ answerOf number (tableOf 0 0) ⌝ }
 {
     machine::answer(number, machine::table_of(0, 0))
@@ -166,7 +166,7 @@ fn rerun_in(
     list: &[u8],
     buffer: &mut [u8],
     shared: &mut [u8],
-) -> Ran
+) -> RunAnswer
     requires { ⌜ AcceptedSet (now file) (now trace) × (layout ≡ layoutOf (now file)) × (tasks ≡ tasksOf (now file) (now trace)) × (lentFits (now file) (length (now buffer)) (length (now shared)) ≡ true) ⌝ }
     ensures { λ r. ⌜ Reran (now (file .entry)) (now (trace .entry)) (now (list .entry)) r (now (buffer .exit)) (now (shared .exit)) ⌝ }
 {
@@ -219,14 +219,14 @@ fn rerun_in(
         i += 1;
     }
     let semaphore = s.semaphore;
-    let state = State {
+    let state = Held {
         count: s.count,
         semaphore,
         cores,
         places,
         offsets,
     };
-    Ran {
+    RunAnswer {
         refusal: 0,
         taken: i,
         state,
@@ -246,7 +246,7 @@ fn rerun_through(
     common: &mut [u8],
     buffer: &mut [u8],
     shared: &mut [u8],
-) -> Ran
+) -> RunAnswer
     requires { ⌜ AcceptedSet (now file) (now trace) × (layout ≡ layoutOf (now file)) × (tasks ≡ tasksOf (now file) (now trace)) × (lentFits (now file) (length (now buffer)) (length (now shared)) ≡ true) × (length (now scratch) ≡ length (now buffer)) × (length (now common) ≡ length (now shared)) ⌝ }
     ensures { λ r. ⌜ leftAs r (now (buffer .exit)) (now (shared .exit)) [] ≡ rerunCall (now (file .entry)) (now (trace .entry)) (now (list .entry)) (now (buffer .entry)) (now (shared .entry)) ⌝ }
 {
@@ -268,7 +268,7 @@ fn rerun_judged(
     list: &[u8],
     buffer: &mut [u8],
     shared: &mut [u8],
-) -> Ran
+) -> RunAnswer
     requires { ⌜ AcceptedSet (now file) (now trace) × (layout ≡ layoutOf (now file)) × (tasks ≡ tasksOf (now file) (now trace)) × (lentFits (now file) (length (now buffer)) (length (now shared)) ≡ true) ⌝ }
     ensures { λ r. ⌜ leftAs r (now (buffer .exit)) (now (shared .exit)) [] ≡ rerunCall (now (file .entry)) (now (trace .entry)) (now (list .entry)) (now (buffer .entry)) (now (shared .entry)) ⌝ }
 {
@@ -289,7 +289,13 @@ fn rerun_judged(
 }
 
 // Reruns an order list from the fresh state of a file on a trace.
-pub fn rerun(file: &[u8], trace: &[u8], list: &[u8], buffer: &mut [u8], shared: &mut [u8]) -> Ran
+pub fn rerun(
+    file: &[u8],
+    trace: &[u8],
+    list: &[u8],
+    buffer: &mut [u8],
+    shared: &mut [u8],
+) -> RunAnswer
     ensures { λ r. ⌜ leftAs r (now (buffer .exit)) (now (shared .exit)) [] ≡ rerunCall (now (file .entry)) (now (trace .entry)) (now (list .entry)) (now (buffer .entry)) (now (shared .entry)) ⌝ }
 {
     let loaded = taskset::load(file);

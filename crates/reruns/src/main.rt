@@ -31,7 +31,7 @@ fn core(r: protocol::Registers) {
     number(r.flags as usize);
 }
 
-fn show(label: &[u8], x: runner::Ran, buffer: &[u8], shared: &[u8]) {
+fn show(label: &[u8], x: runner::RunAnswer, buffer: &[u8], shared: &[u8]) {
     text(label);
     text(b":");
     number(x.refusal as usize);

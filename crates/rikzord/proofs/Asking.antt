@@ -35,9 +35,9 @@ use denote.Triple.Clauses.{ensured, lasts}
 use denote.Triple.Spec.{tripleOf}
 use Rattle.snapshot.specs.Snapshot.{noRecord}
 use Rattle.rikzord.specs.Lent.{recordAt}
-use Rattle.snapshot.specs.declared.Core.{Core}
-use Rattle.snapshot.proofs.Core as T
-use Rattle.snapshot.proofs.Core.Laws as T′
+use Rattle.snapshot.specs.declared.CoreRecord.{CoreRecord}
+use Rattle.snapshot.proofs.CoreRecord as T
+use Rattle.snapshot.proofs.CoreRecord.Laws as T′
 use Rattle.rikzord.proofs.get_or as get-or
 use Rattle.rikzord.proofs.get_or.Symbol.{name as #rikzord·get-or}
 use Rattle.snapshot.proofs.no_core as no-core
@@ -47,8 +47,8 @@ abbrev pub R : RattleType
 R = T.the-row
 
 -- what `get_or` answers where a record past the end is one of zeros
-pub from-none : (ys : List Core) (c n : Core) (i : ℕ) → n ≡ noRecord → c ≡ getD ys i n → c ≡ recordAt ys i
-from-none ys c n i en e = e ∙ ap (λ (m : Core). getD ys i m) en
+pub from-none : (ys : List CoreRecord) (c n : CoreRecord) (i : ℕ) → n ≡ noRecord → c ≡ getD ys i n → c ≡ recordAt ys i
+from-none ys c n i en e = e ∙ ap (λ (m : CoreRecord). getD ys i m) en
 
 module _ {M : Type 1} (𝓤 : URA M) (H : Heap 𝓤) (A : Atoms 𝓤) (at-mem : Memory → SProp 𝓤) (run : Routine → Fun 𝓤) where
   abbrev pub GetOr : Contract 𝓤
@@ -58,10 +58,10 @@ module _ {M : Type 1} (𝓤 : URA M) (H : Heap 𝓤) (A : Atoms 𝓤) (at-mem : 
   NoCore = tripleOf 𝓤 H A no-core.signature (no-core.spec 𝓤 H A at-mem run)
 
   -- of what each ensures, the clause alone: neither has a last value
-  none-of : (r : Core) → ent 𝓤 (ensured 𝓤 H A no-core.ended (no-core.clauses 𝓤 H A at-mem run) tt tt tt r) (fact 𝓤 (r ≡ noRecord))
+  none-of : (r : CoreRecord) → ent 𝓤 (ensured 𝓤 H A no-core.ended (no-core.clauses 𝓤 H A at-mem run) tt tt tt r) (fact 𝓤 (r ≡ noRecord))
   none-of r = exE 𝓤 _ (λ ws. snd∗ 𝓤 (sem 𝓤 H A (lasts no-core.ended tt tt ws)) (fact 𝓤 (r ≡ noRecord)))
 
-  got-of : (κ : Lft) (x : RefT (List Core)) (i : ℕ) (n r : Core) → ent 𝓤 (ensured 𝓤 H A get-or.ended (get-or.clauses 𝓤 H A at-mem run) (κ, tt) (x, (i, (n, tt))) tt r) (fact 𝓤 (r ≡ getD (x .now) i n))
+  got-of : (κ : Lft) (x : RefT (List CoreRecord)) (i : ℕ) (n r : CoreRecord) → ent 𝓤 (ensured 𝓤 H A get-or.ended (get-or.clauses 𝓤 H A at-mem run) (κ, tt) (x, (i, (n, tt))) tt r) (fact 𝓤 (r ≡ getD (x .now) i n))
   got-of κ x i n r = exE 𝓤 _ (λ ws. snd∗ 𝓤 (sem 𝓤 H A (lasts get-or.ended (κ, tt) (x, (i, (n, tt))) ws)) (fact 𝓤 (r ≡ getD (x .now) i n)))
 
 module _ {M : Type 1} (𝓤 : URA M) (H : Heap 𝓤) (A : Atoms 𝓤) (W : Given 𝓤 H A) (at-mem : Memory → SProp 𝓤) (run : Routine → Fun 𝓤) where
@@ -71,21 +71,21 @@ module _ {M : Type 1} (𝓤 : URA M) (H : Heap 𝓤) (A : Atoms 𝓤) (W : Given
   goes-none : ent 𝓤 (emp 𝓤) (NoCore 𝓤 H A at-mem run .pre to-none)
   goes-none = qed W [] ∵ nothing ! $ nothing ! $ join ! $ frame ! $ done !
 
-  pub typed : (c : Core) (v : Val) → Is R c (v ∷ []) → Holds (hasTy T′.mir v) × WT v
+  pub typed : (c : CoreRecord) (v : Val) → Is R c (v ∷ []) → Holds (hasTy T′.mir v) × WT v
   typed c v is = LL.lawful T.the-type T′.the-laws 𝓤 H A W .typed c (v ∷ []) is .0
 
   module _ (C : Calls 𝓤 H) (Λ : Loops 𝓤 H) (fm : FmC 𝓤 H (W .laws) C) (known : Triple 𝓤 (C #snapshot·no-core) (NoCore 𝓤 H A at-mem run)) where
     pub begins : {Γ : List (Item 𝓤)} {E : Env 𝓤 H} {d : Place} {rest : Body} {p : Kit.Post 𝓤 H}
-        → ((n : Core) (u : Val) → n ≡ noRecord → Is R n (u ∷ []) → Sq W Γ (lands C Λ E d u rest p)) → Sq W Γ (runs C Λ E (seq (call #snapshot·no-core [] d) rest) p)
+        → ((n : CoreRecord) (u : Val) → n ≡ noRecord → Is R n (u ∷ []) → Sq W Γ (lands C Λ E d u rest p)) → Sq W Γ (runs C Λ E (seq (call #snapshot·no-core [] d) rest) p)
     begins k =
         use0 W (raw (NoCore 𝓤 H A at-mem run .pre to-none)) goes-none $
         calls-at ! fm (NoCore 𝓤 H A at-mem run) known to-none (no-more !) (λ u.
-        use1 W (later (some (λ (r : Core). (‵ ftrue ⊛ ‵ (R .own r (u ∷ []))) ⊛ raw (ensured 𝓤 H A no-core.ended (no-core.clauses 𝓤 H A at-mem run) tt tt tt r)))) (id⊢ 𝓤 _) $ await ! tt $ pick ! (λ n.
+        use1 W (later (some (λ (r : CoreRecord). (‵ ftrue ⊛ ‵ (R .own r (u ∷ []))) ⊛ raw (ensured 𝓤 H A no-core.ended (no-core.clauses 𝓤 H A at-mem run) tt tt tt r)))) (id⊢ 𝓤 _) $ await ! tt $ pick ! (λ n.
         split ! $ move ! (1 ∷ []) $ use1 W (raw (fact 𝓤 (n ≡ noRecord))) (none-of 𝓤 H A at-mem run n) $ heard ! (n ≡ noRecord) (λ en.
         split ! $ drop ! $ peeks ! R (Is R) (shows 𝓤 H A R) n (u ∷ []) (λ n-is. drop ! $ k n u en n-is))))
 
-module _ {M : Type 1} (𝓤 : URA M) (H : Heap 𝓤) (A : Atoms 𝓤) (W : Given 𝓤 H A) (at-mem : Memory → SProp 𝓤) (run : Routine → Fun 𝓤) (κ : Lft) (q : Share) (b o : ℕ) (γ : GName) (ys : List Core) where
-  abbrev pub x : RefT (List Core)
+module _ {M : Type 1} (𝓤 : URA M) (H : Heap 𝓤) (A : Atoms 𝓤) (W : Given 𝓤 H A) (at-mem : Memory → SProp 𝓤) (run : Routine → Fun 𝓤) (κ : Lft) (q : Share) (b o : ℕ) (γ : GName) (ys : List CoreRecord) where
+  abbrev pub x : RefT (List CoreRecord)
   x = record { ptr = (b, o); name = γ; now = ys }
 
   abbrev pub s : Val
@@ -94,21 +94,21 @@ module _ {M : Type 1} (𝓤 : URA M) (H : Heap 𝓤) (A : Atoms 𝓤) (W : Given
   abbrev pub Own : Fml
   Own = ShrSlice (named 0) κ R .own x (s ∷ [])
 
-  abbrev to-get : ℕ → Core → Val → GetOr 𝓤 H A at-mem run .Ghost
+  abbrev to-get : ℕ → CoreRecord → Val → GetOr 𝓤 H A at-mem run .Ghost
   to-get i n u = (((κ, tt), (q, tt), tt, (x, (i, (n, tt))), (s ∷ [], (vint w64 i ∷ [], (u ∷ [], tt)))), tt)
 
-  goes-get : (i : ℕ) → i < 2 ^ 64 → (n : Core) (u : Val) → Is R n (u ∷ []) → ent 𝓤 (sep 𝓤 (sep 𝓤 (A .lft κ q) (sem 𝓤 H A ftrue)) (sem 𝓤 H A Own)) (GetOr 𝓤 H A at-mem run .pre (to-get i n u))
+  goes-get : (i : ℕ) → i < 2 ^ 64 → (n : CoreRecord) (u : Val) → Is R n (u ∷ []) → ent 𝓤 (sep 𝓤 (sep 𝓤 (A .lft κ q) (sem 𝓤 H A ftrue)) (sem 𝓤 H A Own)) (GetOr 𝓤 H A at-mem run .pre (to-get i n u))
   goes-get i i-fits n u n-is =
       qed W ((‵ (flft κ q) ⊛ ‵ ftrue) ∷ ‵ Own ∷ []) ∵ nothing ! $ owned ! R (Is R) (LL.makes T.the-type T′.the-plain 𝓤 H A) n _ n-is $ fjoin ! $ owned ! usize (Is usize) (uint-makes 𝓤 H A W w64) i _ (refl, i-fits) $ fjoin ! $ move ! (2 ∷ 0 ∷ []) $ fjoin ! $ move ! (1 ∷ 0 ∷ []) $ join ! $ frame ! $ done !
 
   module _ (C : Calls 𝓤 H) (Λ : Loops 𝓤 H) (fm : FmC 𝓤 H (W .laws) C) (known-get : Triple 𝓤 (C #rikzord·get-or) (GetOr 𝓤 H A at-mem run)) where
-    pub asks : {Γ : List (Item 𝓤)} {E : Env 𝓤 H} {xs : List Operand} {d : Place} {rest : Body} {p : Kit.Post 𝓤 H} (i : ℕ) → i < 2 ^ 64 → (n : Core) (u : Val) → Is R n (u ∷ [])
+    pub asks : {Γ : List (Item 𝓤)} {E : Env 𝓤 H} {xs : List Operand} {d : Place} {rest : Body} {p : Kit.Post 𝓤 H} (i : ℕ) → i < 2 ^ 64 → (n : CoreRecord) (u : Val) → Is R n (u ∷ [])
         → Opds (Go {0}) W (raw (GetOr 𝓤 H A at-mem run .pre (to-get i n u)) ∷ ‵ Own ∷ Γ) E xs (s ∷ vint w64 i ∷ u ∷ [])
-        → ((r : Core) (v : Val) → r ≡ getD ys i n → Is R r (v ∷ []) → Sq W ((‵ (flft κ q) ⊛ ‵ ftrue) ∷ ‵ Own ∷ Γ) (lands C Λ E d v rest p))
+        → ((r : CoreRecord) (v : Val) → r ≡ getD ys i n → Is R r (v ∷ []) → Sq W ((‵ (flft κ q) ⊛ ‵ ftrue) ∷ ‵ Own ∷ Γ) (lands C Λ E d v rest p))
         → Sq W ((‵ (flft κ q) ⊛ ‵ ftrue) ∷ ‵ Own ∷ Γ) (runs C Λ E (seq (call #rikzord·get-or xs d) rest) p)
     asks i i-fits n u n-is os k =
         move ! (1 ∷ []) $ use1 W (‵ Own ⊛ ‵ Own) (shr-slice-copy 𝓤 H A W (named 0) κ R .twice x (s ∷ [])) $ split ! $ move ! (2 ∷ 0 ∷ []) $ use2 W (raw (GetOr 𝓤 H A at-mem run .pre (to-get i n u))) (goes-get i i-fits n u n-is) $
         calls-at ! fm (GetOr 𝓤 H A at-mem run) known-get (to-get i n u) os (λ v.
-        use1 W (later (some (λ (r : Core). ((‵ (flft κ q) ⊛ ‵ ftrue) ⊛ ‵ (R .own r (v ∷ []))) ⊛ raw (ensured 𝓤 H A get-or.ended (get-or.clauses 𝓤 H A at-mem run) (κ, tt) (x, (i, (n, tt))) tt r)))) (id⊢ 𝓤 _) $ await ! tt $ pick ! (λ r.
+        use1 W (later (some (λ (r : CoreRecord). ((‵ (flft κ q) ⊛ ‵ ftrue) ⊛ ‵ (R .own r (v ∷ []))) ⊛ raw (ensured 𝓤 H A get-or.ended (get-or.clauses 𝓤 H A at-mem run) (κ, tt) (x, (i, (n, tt))) tt r)))) (id⊢ 𝓤 _) $ await ! tt $ pick ! (λ r.
         split ! $ move ! (1 ∷ []) $ use1 W (raw (fact 𝓤 (r ≡ getD ys i n))) (got-of 𝓤 H A at-mem run κ x i n r) $ heard ! (r ≡ getD ys i n) (λ e.
         split ! $ move ! (1 ∷ []) $ peeks ! R (Is R) (shows 𝓤 H A R) r (v ∷ []) (λ is. drop ! $ k r v e is))))

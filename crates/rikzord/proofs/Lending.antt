@@ -32,11 +32,11 @@ use denote.Triple.Spec.{tripleOf}
 use Rattle.semaphore.specs.declared.Semaphore.{Semaphore}
 use Rattle.semaphore.proofs.Semaphore as P
 use Rattle.semaphore.proofs.Semaphore.Laws as P′
-use Rattle.snapshot.specs.declared.Core.{Core}
+use Rattle.snapshot.specs.declared.CoreRecord.{CoreRecord}
 use Rattle.snapshot.specs.declared.Table.{Table}
 use Rattle.snapshot.specs.declared.After.{After}
 use Rattle.rikzord.specs.Lent.{loaded}
-use Rattle.snapshot.proofs.Core as T
+use Rattle.snapshot.proofs.CoreRecord as T
 use Rattle.snapshot.proofs.After as N
 use Rattle.snapshot.proofs.After.Laws as N′
 use Rattle.rikzord.proofs.Laws.{WrittenBack}
@@ -62,7 +62,7 @@ module _ {M : Type 1} (𝓤 : URA M) (H : Heap 𝓤) (A : Atoms 𝓤) (at-mem : 
   Save = tripleOf 𝓤 H A save.signature (save.spec 𝓤 H A at-mem run)
 
   -- of what `load` ensures, the clause alone: it has no last value
-  pub load-of : (κ : Lft) (x : RefT (List Core)) (r : Table) → ent 𝓤 (ensured 𝓤 H A load′.ended (load′.clauses 𝓤 H A at-mem run) (κ, tt) (x, tt) tt r) (fact 𝓤 (r ≡ loaded (x .now)))
+  pub load-of : (κ : Lft) (x : RefT (List CoreRecord)) (r : Table) → ent 𝓤 (ensured 𝓤 H A load′.ended (load′.clauses 𝓤 H A at-mem run) (κ, tt) (x, tt) tt r) (fact 𝓤 (r ≡ loaded (x .now)))
   load-of κ x r = exE 𝓤 _ (λ ws. snd∗ 𝓤 (sem 𝓤 H A (lasts load′.ended (κ, tt) (x, tt) ws)) (fact 𝓤 (r ≡ loaded (x .now))))
 
 -- whoever holds an answer knows its facts of its machine value
@@ -70,8 +70,8 @@ pub after-is : (y : After) (w : Val) → Is N.the-row y (w ∷ []) → Is N.the-
 after-is y w is = subst (Is N.the-row y) (LL.tells N.the-type N′.the-laws y _ is) is
 
 -- the call of `save`: the table and the semaphore are given up for good, and of both only what says their last values comes back, with the number
-module _ {M : Type 1} (𝓤 : URA M) (H : Heap 𝓤) (A : Atoms 𝓤) (W : Given 𝓤 H A) (at-mem : Memory → SProp 𝓤) (run : Routine → Fun 𝓤) (κ κ′ : Lft) (q q′ : Share) (b o : ℕ) (γ : GName) (table : List Core) (b′ o′ : ℕ) (γ′ : GName) (semaphore : Semaphore) (y : After) (is : Is N.the-row y (mach-after y ∷ [])) where
-  abbrev table-ref : RefT (List Core)
+module _ {M : Type 1} (𝓤 : URA M) (H : Heap 𝓤) (A : Atoms 𝓤) (W : Given 𝓤 H A) (at-mem : Memory → SProp 𝓤) (run : Routine → Fun 𝓤) (κ κ′ : Lft) (q q′ : Share) (b o : ℕ) (γ : GName) (table : List CoreRecord) (b′ o′ : ℕ) (γ′ : GName) (semaphore : Semaphore) (y : After) (is : Is N.the-row y (mach-after y ∷ [])) where
+  abbrev table-ref : RefT (List CoreRecord)
   table-ref = record { ptr = (b, o); name = γ; now = table }
 
   abbrev table-val : Val
@@ -90,7 +90,7 @@ module _ {M : Type 1} (𝓤 : URA M) (H : Heap 𝓤) (A : Atoms 𝓤) (W : Given
   semaphore-own = MutRef (named 1) κ′ P.the-row .own semaphore-ref (semaphore-val ∷ [])
 
   abbrev SaveArg : Type 0
-  SaveArg = RefT (List Core) × (RefT Semaphore × (After × Unit {0}))
+  SaveArg = RefT (List CoreRecord) × (RefT Semaphore × (After × Unit {0}))
 
   abbrev save-args : SaveArg
   save-args = (table-ref, (semaphore-ref, (y, tt)))
@@ -107,13 +107,13 @@ module _ {M : Type 1} (𝓤 : URA M) (H : Heap 𝓤) (A : Atoms 𝓤) (W : Given
   module _ (C : Calls 𝓤 H) (Λ : Loops 𝓤 H) (fm : FmC 𝓤 H (W .laws) C) (known : Triple 𝓤 (C #rikzord·save) (Save 𝓤 H A at-mem run)) where
     pub saves : {Γ : List (Item 𝓤)} {E : Env 𝓤 H} {xs : List Operand} {d : Place} {rest : Body} {p : Kit.Post 𝓤 H}
         → Opds (Go {0}) W (raw (Save 𝓤 H A at-mem run .pre to-save) ∷ Γ) E xs (table-val ∷ semaphore-val ∷ mach-after y ∷ [])
-        → ((n : ℕ) (u : Val) (table′ : List Core) (semaphore′ : Semaphore) → WrittenBack table semaphore y n table′ semaphore′ → length table′ ≡ length table → Is u8 n (u ∷ []) → Sq W (‵ (finally R γ table′) ∷ ‵ (fres γ′ (P.the-row .coded .code semaphore′)) ∷ ‵ (flft κ q) ∷ ‵ (flft κ′ q′) ∷ ‵ (u8 .own n (u ∷ [])) ∷ Γ) (lands C Λ E d u rest p))
+        → ((n : ℕ) (u : Val) (table′ : List CoreRecord) (semaphore′ : Semaphore) → WrittenBack table semaphore y n table′ semaphore′ → length table′ ≡ length table → Is u8 n (u ∷ []) → Sq W (‵ (finally R γ table′) ∷ ‵ (fres γ′ (P.the-row .coded .code semaphore′)) ∷ ‵ (flft κ q) ∷ ‵ (flft κ′ q′) ∷ ‵ (u8 .own n (u ∷ [])) ∷ Γ) (lands C Λ E d u rest p))
         → Sq W (‵ table-own ∷ ‵ (flft κ q) ∷ ‵ semaphore-own ∷ ‵ (flft κ′ q′) ∷ Γ) (runs C Λ E (seq (call #rikzord·save xs d) rest) p)
     saves os k =
         cut (‵ table-own ∷ ‵ (flft κ q) ∷ ‵ semaphore-own ∷ ‵ (flft κ′ q′) ∷ []) (raw (Save 𝓤 H A at-mem run .pre to-save) ∷ []) _ goes-save $
         calls-at ! fm (Save 𝓤 H A at-mem run) known to-save os (λ u.
         use1 W (later (some (λ (n : ℕ). ((‵ (flft κ q) ⊛ ‵ (flft κ′ q′) ⊛ ‵ ftrue) ⊛ ‵ (u8 .own n (u ∷ []))) ⊛ raw (ensured 𝓤 H A save.ended (save.clauses 𝓤 H A at-mem run) (κ, (κ′, tt)) save-args tt n)))) (id⊢ 𝓤 _) $ await ! tt $ pick ! (λ n.
-        split ! $ move ! (1 ∷ []) $ use1 W (some (λ (zs : List Core × (Semaphore × (Unit {0} × Unit {0}))). ‵ (lasts save.ended (κ, (κ′, tt)) save-args zs) ⊛ raw (fact 𝓤 (WrittenBack table semaphore y n (zs .0) (zs .1 .0))))) (id⊢ 𝓤 _) $ pick ! (λ zs.
+        split ! $ move ! (1 ∷ []) $ use1 W (some (λ (zs : List CoreRecord × (Semaphore × (Unit {0} × Unit {0}))). ‵ (lasts save.ended (κ, (κ′, tt)) save-args zs) ⊛ raw (fact 𝓤 (WrittenBack table semaphore y n (zs .0) (zs .1 .0))))) (id⊢ 𝓤 _) $ pick ! (λ zs.
         split ! $ move ! (1 ∷ []) $ heard ! (WrittenBack table semaphore y n (zs .0) (zs .1 .0)) (λ e. fsplit ! $ fsplit ! $ move ! (1 ∷ []) $ feqL ! (λ len. move ! (1 ∷ []) $ fsplit ! $ move ! (1 ∷ []) $ drop ! $
         -- [the last semaphore; the last table; the tokens and the number; …]
         move ! (2 ∷ []) $ split ! $ split ! $ move ! (1 ∷ []) $ split ! $ move ! (1 ∷ []) $ drop ! $

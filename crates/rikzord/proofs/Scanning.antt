@@ -19,14 +19,14 @@ use Rattle.taskset.proofs.Exact.{keeps-rules}
 use Rattle.taskset.specs.Trace.{recordCount}
 use Rattle.semaphore.specs.declared.Semaphore.{Semaphore}
 use Rattle.semaphore.specs.Line.{semaphoreOf}
-use Rattle.states.specs.declared.State.{State}
+use Rattle.states.specs.declared.Held.{Held}
 use Rattle.states.specs.declared.CoreTask.{CoreTask}
 use Rattle.states.specs.Machine.{noRegisters}
 use Rattle.states.specs.Tasks.{coreTask, taskAt}
 use Rattle.table.specs.declared.Moving.the-variants.{Core as moving}
 use Rattle.table.specs.Table.{canMove, canMoveAt, roundFrom, firstMoving, nextMoving}
 use Rattle.machine.specs.Calls.{nextRefusal}
-use Rattle.snapshot.specs.declared.Core.{Core}
+use Rattle.snapshot.specs.declared.CoreRecord.{CoreRecord}
 use Rattle.snapshot.specs.declared.Table.{Table}
 use Rattle.snapshot.specs.declared.Ring.{Ring}
 use Rattle.snapshot.specs.Snapshot.{registersIn, held, countsOf, refusedRing, ringOf, placeAfter, recordMoves, answered, ringAnswer}
@@ -43,8 +43,8 @@ four P a b c d (suc (suc zero)) h = c
 four P a b c d (suc (suc (suc zero))) h = d
 four P a b c d (suc (suc (suc (suc k)))) h = absurd (omega arith)
 
-module _ (f t : List ℕ) (ys : List Core) (p : Semaphore) (given : ℕ) (few : cores f ≤ 4) (inside : given < cores f) where
-  abbrev state : State
+module _ (f t : List ℕ) (ys : List CoreRecord) (p : Semaphore) (given : ℕ) (few : cores f ≤ 4) (inside : given < cores f) where
+  abbrev state : Held
   state = held (loaded ys) p
 
   abbrev ring : Ring
@@ -92,20 +92,20 @@ module _ (f t : List ℕ) (ys : List Core) (p : Semaphore) (given : ℕ) (few : 
 -- ---- the scan turn by turn
 
 -- a turn that begins with i records passed: the scan from there is the whole scan
-pub record Turn (ys : List Core) (r : Ring) : Type 0 where
+pub record Turn (ys : List CoreRecord) (r : Ring) : Type 0 where
   pub i : ℕ
   pub most : i ≤ r .cores
   pub same : scanFrom ys r (r .cores - i) i ≡ scanned ys r
 
 -- how many records are left
-abbrev pub toGo : {ys : List Core} {r : Ring} → Turn ys r → ℕ
+abbrev pub toGo : {ys : List CoreRecord} {r : Ring} → Turn ys r → ℕ
 toGo {r = r} t = r .cores - t .i
 
-module _ (ys : List Core) (r : Ring) where
+module _ (ys : List CoreRecord) (r : Ring) where
   abbrev pub turn-first : Turn ys r
   turn-first = record { i = 0; most = zero-le; same = ap (λ (m : ℕ). scanFrom ys r m 0) (sub-zero (r .cores)) }
 
-  module _ (t : Turn ys r) (k : ℕ) (c : Core) (z : Bool) (ek : k ≡ placeAfter r (t .i)) (ec : c ≡ recordAt ys k) (ez : z ≡ recordMoves r k c) (more : t .i < r .cores) where
+  module _ (t : Turn ys r) (k : ℕ) (c : CoreRecord) (z : Bool) (ek : k ≡ placeAfter r (t .i)) (ec : c ≡ recordAt ys k) (ez : z ≡ recordMoves r k c) (more : t .i < r .cores) where
     one-more : r .cores - t .i ≡ suc (r .cores - (t .i + 1))
     one-more = omega (arith, more)
 
@@ -134,7 +134,7 @@ module _ (ys : List Core) (r : Ring) where
 
 -- ---- the call
 
-module _ (f t : List ℕ) (ys : List Core) (p : Semaphore) (given found : ℕ) (x : Table) (r : Ring) (k number found′ : ℕ)
+module _ (f t : List ℕ) (ys : List CoreRecord) (p : Semaphore) (given found : ℕ) (x : Table) (r : Ring) (k number found′ : ℕ)
     (ex : x ≡ loaded ys) (er : r ≡ ringOf f t x p given) (ek : k ≡ scanned ys r) (ea : answered number found′ ≡ ringAnswer r k found) where
   ring-is : r ≡ ringOf f t (loaded ys) p given
   ring-is = er ∙ ap (λ (z : Table). ringOf f t z p given) ex

@@ -4,13 +4,13 @@
 // The functions that start with `rikzord_` are the C interface too: a slice is a pointer and a length there.
 use code::Profile;
 use protocol::Registers;
-use runner::Ran;
+use runner::RunAnswer;
 use semaphore::Semaphore;
 use snapshot::After;
-use snapshot::Core;
+use snapshot::CoreRecord;
 use snapshot::Ring;
 use snapshot::Table;
-use states::State;
+use states::Held;
 use window::Shown;
 ghost use mathlib.Core.Path.{_≡_};
 ghost use mathlib.Core.List.{[]};
@@ -30,7 +30,7 @@ ghost use Rattle.rikzord.specs.Lent.{loaded, saved, savedSemaphore, lent
 // ---- the lent table
 
 // Record i of a table; `other` past its end.
-pub fn get_or(t: &[Core], i: usize, other: Core) -> Core
+pub fn get_or(t: &[CoreRecord], i: usize, other: CoreRecord) -> CoreRecord
     ensures { λ r. ⌜ r ≡ getD (now (t .entry)) i other ⌝ }
 {
     if t.len() <= i {
@@ -40,7 +40,7 @@ pub fn get_or(t: &[Core], i: usize, other: Core) -> Core
 }
 
 // Record i of a table is set; past its end nothing changes.
-pub fn put_or(t: &mut [Core], i: usize, c: Core)
+pub fn put_or(t: &mut [CoreRecord], i: usize, c: CoreRecord)
     ensures { λ _. ⌜ now (t .exit) ≡ set (now (t .entry)) i c ⌝ }
 {
     if t.len() <= i {
@@ -50,7 +50,7 @@ pub fn put_or(t: &mut [Core], i: usize, c: Core)
 }
 
 // The table copied out.
-pub fn load(t: &[Core]) -> Table
+pub fn load(t: &[CoreRecord]) -> Table
     ensures { λ r. ⌜ r ≡ loaded (now (t .entry)) ⌝ }
 {
     let none = snapshot::no_core();
@@ -63,7 +63,7 @@ pub fn load(t: &[Core]) -> Table
 
 // The scan round the ring: of the lent table's records, from the one after the given core to that core's own, the first whose core can move;
 // 255 where there is none.
-pub fn scan(t: &[Core], r: Ring) -> u8
+pub fn scan(t: &[CoreRecord], r: Ring) -> u8
     ensures { λ x. ⌜ x ≡ scanned (now (t .entry)) r ⌝ }
 {
     let none = snapshot::no_core();
@@ -81,7 +81,7 @@ pub fn scan(t: &[Core], r: Ring) -> u8
 
 // What a call leaves is written back: the table's first four records, as far as it has them, and the semaphore. A refused call returns before
 // anything is stored. The answer is the refusal number.
-pub fn save(t: &mut [Core], semaphore: &mut Semaphore, x: After) -> u8
+pub fn save(t: &mut [CoreRecord], semaphore: &mut Semaphore, x: After) -> u8
     ensures { λ r. ⌜ (now (t .exit) ≡ saved (now (t .entry)) x) × ((now (semaphore .exit) ≡ savedSemaphore (now (semaphore .entry)) x) × (r ≡ x .refusal)) ⌝ }
 {
     if x.refusal != 0 {
@@ -102,7 +102,7 @@ pub fn save(t: &mut [Core], semaphore: &mut Semaphore, x: After) -> u8
 pub extern "C" fn rikzord_step(
     file: &[u8],
     trace: &[u8],
-    table: &mut [Core],
+    table: &mut [CoreRecord],
     semaphore: &mut Semaphore,
     buffer: &mut [u8],
     shared: &mut [u8],
@@ -120,7 +120,7 @@ pub extern "C" fn rikzord_step(
 pub extern "C" fn rikzord_run(
     file: &[u8],
     trace: &[u8],
-    table: &mut [Core],
+    table: &mut [CoreRecord],
     semaphore: &mut Semaphore,
     buffer: &mut [u8],
     shared: &mut [u8],
@@ -149,7 +149,7 @@ pub extern "C" fn rikzord_run(
 #[no_mangle]
 pub extern "C" fn rikzord_fresh(
     file: &[u8],
-    table: &mut [Core],
+    table: &mut [CoreRecord],
     semaphore: &mut Semaphore,
     buffer: &mut [u8],
     shared: &mut [u8],
@@ -165,7 +165,7 @@ pub extern "C" fn rikzord_fresh(
 #[no_mangle]
 pub extern "C" fn rikzord_fresh_small(
     file: &[u8],
-    table: &mut [Core],
+    table: &mut [CoreRecord],
     semaphore: &mut Semaphore,
     buffer: &mut [u8],
     shared: &mut [u8],
@@ -183,7 +183,7 @@ pub extern "C" fn rikzord_rerun(
     file: &[u8],
     trace: &[u8],
     list: &[u8],
-    table: &mut [Core],
+    table: &mut [CoreRecord],
     semaphore: &mut Semaphore,
     buffer: &mut [u8],
     shared: &mut [u8],
@@ -200,7 +200,7 @@ pub extern "C" fn rikzord_rerun(
 pub extern "C" fn rikzord_next_core(
     file: &[u8],
     trace: &[u8],
-    table: &[Core],
+    table: &[CoreRecord],
     semaphore: &Semaphore,
     given: u8,
     found: &mut u8,
@@ -235,12 +235,12 @@ pub extern "C" fn rikzord_check_file_small(file: &[u8]) -> u8
 pub fn step_registers(
     file: &[u8],
     trace: &[u8],
-    s: State,
+    s: Held,
     registers: &mut Registers,
     buffer: &mut [u8],
     shared: &mut [u8],
     core: u8,
-) -> Ran
+) -> RunAnswer
     ensures { λ x. ⌜ (leftAs x (now (buffer .exit)) (now (shared .exit)) [] ≡ stepRegisters (now (file .entry)) (now (trace .entry)) s (now (registers .entry)) (now (buffer .entry)) (now (shared .entry)) core) × (now (registers .exit) ≡ registersAfter (x .state) core (now (registers .entry))) ⌝ }
 {
     let x = snapshot::step_with(file, trace, s, *registers, buffer, shared, core);

@@ -25,7 +25,7 @@ use Rattle.exchange.specs.declared.Cursor.{Cursor}
 use Rattle.records.specs.File.{cores, dataSize}
 use Rattle.taskset.specs.Task.{listed, sizesOf}
 use Rattle.taskset.proofs.Accepted.{length-listed, listed-at}
-use Rattle.states.specs.declared.State.{State as Held}
+use Rattle.states.specs.declared.Held.{Held}
 use Rattle.states.specs.declared.CoreTask.{CoreTask}
 use Rattle.states.specs.Task.{taskOf}
 use Rattle.states.specs.Machine.{noRegisters, stackIn, coreIn, stateIn, stateOf, registersBack, entryBack, heldAfter, dataOf}

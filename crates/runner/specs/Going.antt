@@ -8,7 +8,7 @@ use Rattle.memory.specs.Memory.{total}
 use Rattle.exchange.specs.declared.Cursor.{Cursor}
 use Rattle.records.specs.File.{cores, variables, recordPlace}
 use Rattle.taskset.specs.Task.{sizesOf}
-use Rattle.states.specs.declared.State.{State as Held}
+use Rattle.states.specs.declared.Held.{Held}
 use Rattle.states.specs.declared.CoreTask.{CoreTask}
 use Rattle.states.specs.Tasks.{coreTask, noTask}
 use Rattle.states.specs.Set.{AcceptedSet}

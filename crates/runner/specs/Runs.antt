@@ -8,10 +8,10 @@ use Rattle.verdict.specs.Verdict.{both}
 use Rattle.memory.specs.Memory.{splice}
 use Rattle.protocol.specs.Step.{run, orderList}
 use Rattle.records.specs.File.{cores}
-use Rattle.states.specs.declared.State.{State as Held}
+use Rattle.states.specs.declared.Held.{Held}
 use Rattle.states.specs.Task.{taskOf}
 use Rattle.states.specs.Machine.{stateOf, heldAfter, dataOf}
-use Rattle.runner.specs.declared.Ran.{Ran}
+use Rattle.runner.specs.declared.RunAnswer.{RunAnswer}
 
 -- 20: each core of an order is below n
 abbrev pub allBelow : ℕ → List ℕ → Bool
@@ -21,12 +21,12 @@ allBelow n (k ∷ ks) = both (ltb k n) (allBelow n ks)
 -- ---- what a call leaves: its answer and every lent byte
 
 pub record Left : Type 0 where
-  pub answer : Ran
+  pub answer : RunAnswer
   pub memory : List ℕ
   pub shared : List ℕ
   pub order : List ℕ
 
-abbrev pub leftAs : Ran → List ℕ → List ℕ → List ℕ → Left
+abbrev pub leftAs : RunAnswer → List ℕ → List ℕ → List ℕ → Left
 leftAs r d sh list = record { answer = r; memory = d; shared = sh; order = list }
 
 -- the steps of an order, whose takings go to the front of the order list

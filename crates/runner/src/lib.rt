@@ -4,7 +4,7 @@ use protocol::EXECUTING;
 use protocol::Outcome;
 use protocol::Registers;
 use states::CoreTask;
-use states::State;
+use states::Held;
 use steps::Exchange;
 ghost use mathlib.Core.Path.{_≡_};
 ghost use mathlib.Core.Bool.{true, false};
@@ -20,10 +20,10 @@ ghost use Rattle.runner.specs.Running.{stepsOn, AllOn, executingAt, byte
 ghost use Rattle.runner.specs.Executing.{ExecutionGiven, Executes};
 
 // What a call that moves the machine answers: the refusal number, 0 for none; how many takings it wrote; the state.
-pub struct Ran {
+pub struct RunAnswer {
     pub refusal: u8,
     pub taken: usize,
-    pub state: State,
+    pub state: Held,
 }
 
 // Entry `depth` of core k's call stack, in the entries of all four.
@@ -42,19 +42,19 @@ fn set_entry(entries: &mut [u16; 64], k: usize, depth: u8, value: u16)
 }
 
 // The parts of a state; that its arrays have their lengths is known of a result.
-pub fn table_of(s: State) -> [Registers; 4]
+pub fn table_of(s: Held) -> [Registers; 4]
     ensures { λ r. ⌜ (r ≡ s .cores) × (length r ≡ 4) ⌝ }
 {
     s.cores
 }
 
-pub fn places_of(s: State) -> [u16; 64]
+pub fn places_of(s: Held) -> [u16; 64]
     ensures { λ r. ⌜ (r ≡ s .places) × (length r ≡ 64) ⌝ }
 {
     s.places
 }
 
-pub fn offsets_of(s: State) -> [u16; 64]
+pub fn offsets_of(s: Held) -> [u16; 64]
     ensures { λ r. ⌜ (r ≡ s .offsets) × (length r ≡ 64) ⌝ }
 {
     s.offsets
@@ -254,12 +254,12 @@ pub fn run_order(
     first: usize,
     end: usize,
     order: &[u8],
-    s: State,
+    s: Held,
     aim: Cursor,
     buffer: &mut [u8],
     shared: &mut [u8],
     list: &mut [u8],
-) -> Ran
+) -> RunAnswer
     requires { ⌜ RunGiven (now file) (now trace) tasks first end (now order) s aim (now buffer) (now shared) (now list) ⌝ }
     ensures { λ r. ⌜ leftAs r (now (buffer .exit)) (now (shared .exit)) (now (list .exit)) ≡ ranCall (now (file .entry)) (now (trace .entry)) s (now (buffer .entry)) (now (shared .entry)) (now (order .entry)) (now (list .entry)) ⌝ }
 {
@@ -374,14 +374,14 @@ pub fn run_order(
         }
     }
     let semaphore = line.semaphore;
-    let state = State {
+    let state = Held {
         count: s.count,
         semaphore,
         cores,
         places,
         offsets,
     };
-    Ran {
+    RunAnswer {
         refusal: 0,
         taken,
         state,

@@ -4,9 +4,9 @@
 use listing::Written;
 use machine::Next;
 use protocol::Registers;
-use runner::Ran;
+use runner::RunAnswer;
 use semaphore::Semaphore;
-use states::State;
+use states::Held;
 use table::Moving;
 
 const CHANGED: u8 = 99;
@@ -115,7 +115,7 @@ fn same_registers(a: Registers, b: Registers) -> bool {
         && a.time == b.time
 }
 
-fn same_table(a: State, b: State) -> bool {
+fn same_table(a: Held, b: Held) -> bool {
     let x = runner::table_of(a);
     let y = runner::table_of(b);
     same_registers(x[0], y[0])
@@ -145,7 +145,7 @@ fn same_semaphore(a: Semaphore, b: Semaphore) -> bool {
         && a.line[3] == b.line[3]
 }
 
-fn same_state(a: State, b: State) -> bool {
+fn same_state(a: Held, b: Held) -> bool {
     a.count == b.count
         && same_semaphore(a.semaphore, b.semaphore)
         && same_table(a, b)
@@ -154,14 +154,14 @@ fn same_state(a: State, b: State) -> bool {
 }
 
 // The state that a file with 8 bytes of data starts with, in memory that is forgotten; of any other file, a table of no cores.
-fn start(file: &[u8]) -> State {
+fn start(file: &[u8]) -> Held {
     let mut buffer = [0u8; 8];
     let mut shared = [0u8; 1024];
     let begun = machine::fresh(file, &mut buffer, &mut shared);
     begun.state
 }
 
-fn core_of(s: State, k: usize) -> Registers {
+fn core_of(s: Held, k: usize) -> Registers {
     let cores = runner::table_of(s);
     if k < 4 {
         return cores[k];
@@ -169,7 +169,7 @@ fn core_of(s: State, k: usize) -> Registers {
     cores[0]
 }
 
-fn with_core(s: State, k: usize, r: Registers) -> State {
+fn with_core(s: Held, k: usize, r: Registers) -> Held {
     let mut cores = runner::table_of(s);
     if k < 4 {
         cores[k] = r;
@@ -177,7 +177,7 @@ fn with_core(s: State, k: usize, r: Registers) -> State {
     let places = runner::places_of(s);
     let offsets = runner::offsets_of(s);
     let semaphore = s.semaphore;
-    State {
+    Held {
         count: s.count,
         semaphore,
         cores,
@@ -187,14 +187,14 @@ fn with_core(s: State, k: usize, r: Registers) -> State {
 }
 
 // Entry 0 of core 0's call stack.
-fn with_entry(s: State, place: u16, offset: u16) -> State {
+fn with_entry(s: Held, place: u16, offset: u16) -> Held {
     let cores = runner::table_of(s);
     let mut places = runner::places_of(s);
     let mut offsets = runner::offsets_of(s);
     places[0] = place;
     offsets[0] = offset;
     let semaphore = s.semaphore;
-    State {
+    Held {
         count: s.count,
         semaphore,
         cores,
@@ -203,11 +203,11 @@ fn with_entry(s: State, place: u16, offset: u16) -> State {
     }
 }
 
-fn with_semaphore(s: State, semaphore: Semaphore) -> State {
+fn with_semaphore(s: Held, semaphore: Semaphore) -> Held {
     let cores = runner::table_of(s);
     let places = runner::places_of(s);
     let offsets = runner::offsets_of(s);
-    State {
+    Held {
         count: s.count,
         semaphore,
         cores,
@@ -216,7 +216,7 @@ fn with_semaphore(s: State, semaphore: Semaphore) -> State {
     }
 }
 
-fn with_holder(s: State, holder: u8) -> State {
+fn with_holder(s: Held, holder: u8) -> Held {
     let m = s.semaphore;
     let waiting = m.waiting;
     let line = m.line;
@@ -228,7 +228,7 @@ fn with_holder(s: State, holder: u8) -> State {
     with_semaphore(s, semaphore)
 }
 
-fn with_line(s: State, waiting: u8, line: [u8; 4]) -> State {
+fn with_line(s: Held, waiting: u8, line: [u8; 4]) -> Held {
     let m = s.semaphore;
     let holder = m.holder;
     let semaphore = Semaphore {
@@ -239,7 +239,7 @@ fn with_line(s: State, waiting: u8, line: [u8; 4]) -> State {
     with_semaphore(s, semaphore)
 }
 
-fn with_count(s: State, count: u8) -> State {
+fn with_count(s: Held, count: u8) -> Held {
     let mut t = s;
     t.count = count;
     t
@@ -259,7 +259,7 @@ fn fresh_refusal(file: &[u8], buffer: &mut [u8], shared: &mut [u8]) -> u8 {
 fn run_refusal(
     file: &[u8],
     trace: &[u8],
-    s: State,
+    s: Held,
     buffer: &mut [u8],
     shared: &mut [u8],
     order: &[u8],
@@ -275,7 +275,7 @@ fn run_refusal(
 fn step_refusal(
     file: &[u8],
     trace: &[u8],
-    s: State,
+    s: Held,
     buffer: &mut [u8],
     shared: &mut [u8],
     core: u8,
@@ -299,7 +299,7 @@ fn moving_number(moving: Moving) -> u8 {
     }
 }
 
-fn next_number(file: &[u8], trace: &[u8], s: State, given: u8) -> u8 {
+fn next_number(file: &[u8], trace: &[u8], s: Held, given: u8) -> u8 {
     let next = machine::next_core(file, trace, s, given);
     match next {
         Next::Refused(number) => number,
@@ -325,7 +325,7 @@ fn run_fresh(
     buffer: &mut [u8],
     shared: &mut [u8],
     list: &mut [u8],
-) -> Ran {
+) -> RunAnswer {
     let begun = machine::fresh(file, buffer, shared);
     if begun.refusal != 0 {
         return begun;
@@ -342,7 +342,7 @@ fn length_of(written: Written) -> usize {
 }
 
 // What `cores` prints of it, and its length.
-fn outcome(ran: Ran, list: &[u8], out: &mut [u8]) -> usize {
+fn outcome(ran: RunAnswer, list: &[u8], out: &mut [u8]) -> usize {
     if ran.refusal != 0 {
         return length_of(listing::write_refused(ran.refusal, out));
     }
@@ -619,7 +619,7 @@ fn bad_run(
     label: &[u8],
     f: &[u8],
     t: &[u8],
-    s: State,
+    s: Held,
     buffer: &mut [u8],
     shared: &mut [u8],
     order: &[u8],
@@ -633,7 +633,7 @@ fn bad_run(
     case(label, came, said);
 }
 
-fn bad_shared(f: &[u8], t: &[u8], s: State) {
+fn bad_shared(f: &[u8], t: &[u8], s: Held) {
     let mut buffer = [0u8; 8];
     let mut list = [0u8; 1];
     let mut short = [0u8; 1023];
@@ -662,7 +662,7 @@ fn bad_shared(f: &[u8], t: &[u8], s: State) {
     );
 }
 
-fn bad_buffer(f: &[u8], t: &[u8], s: State) {
+fn bad_buffer(f: &[u8], t: &[u8], s: Held) {
     let mut shared = [0u8; 1024];
     let mut list = [0u8; 1];
     let mut short = [0u8; 7];
@@ -692,7 +692,7 @@ fn bad_buffer(f: &[u8], t: &[u8], s: State) {
 }
 
 // With memory of the right sizes.
-fn bad_order(label: &[u8], f: &[u8], t: &[u8], s: State, order: &[u8], said: u8) {
+fn bad_order(label: &[u8], f: &[u8], t: &[u8], s: Held, order: &[u8], said: u8) {
     let mut buffer = [0u8; 8];
     let mut shared = [0u8; 1024];
     let mut list = [0u8; 3];
@@ -709,7 +709,7 @@ fn bad_order(label: &[u8], f: &[u8], t: &[u8], s: State, order: &[u8], said: u8)
     );
 }
 
-fn bad_orders(f: &[u8], t: &[u8], s: State) {
+fn bad_orders(f: &[u8], t: &[u8], s: Held) {
     bad_order(b"order of 4, list of 3", f, t, s, b"\x00\x00\x00\x00", 21);
     bad_order(b"order names core 2", f, t, s, b"\x02", 20);
     bad_order(
@@ -722,7 +722,7 @@ fn bad_orders(f: &[u8], t: &[u8], s: State) {
     );
 }
 
-fn bad_traces(f: &[u8], s: State) {
+fn bad_traces(f: &[u8], s: Held) {
     bad_order(b"trace of one byte", f, b"\x02", s, b"\x00", 22);
     bad_order(
         b"trace cut in its last record",
@@ -743,7 +743,7 @@ fn bad_traces(f: &[u8], s: State) {
 }
 
 // More than one thing is wrong: 21, 22, 23, 20 are judged in this order.
-fn precedence(f: &[u8], t: &[u8], s: State) {
+fn precedence(f: &[u8], t: &[u8], s: Held) {
     let unfit = with_holder(s, 9);
     bad_order(b"21 before 22", f, b"\x02", unfit, b"\x02\x02\x02\x02", 21);
     bad_order(b"22 before 23", f, b"\x02", unfit, b"\x02", 22);
@@ -766,7 +766,7 @@ fn bad_fresh_sizes(f: &[u8]) {
     bad_fresh(b"fresh with data buffer 9", f, &mut nine, &mut shared, 21);
 }
 
-fn bad_step(label: &[u8], f: &[u8], t: &[u8], s: State, core: u8, said: u8) {
+fn bad_step(label: &[u8], f: &[u8], t: &[u8], s: Held, core: u8, said: u8) {
     let mut buffer = [0u8; 8];
     let mut shared = [0u8; 1024];
     fill(&mut buffer);
@@ -775,7 +775,7 @@ fn bad_step(label: &[u8], f: &[u8], t: &[u8], s: State, core: u8, said: u8) {
     case(label, came, said);
 }
 
-fn bad_steps(f: &[u8], t: &[u8], s: State) {
+fn bad_steps(f: &[u8], t: &[u8], s: Held) {
     bad_step(b"step of core 2", f, t, s, 2, 20);
     bad_step(b"step of core 255", f, t, s, 255, 20);
     bad_step(b"step with a trace of one byte", f, b"\x02", s, 0, 22);
@@ -783,7 +783,7 @@ fn bad_steps(f: &[u8], t: &[u8], s: State) {
 
 // ---- refusal 23: each reason that makes a state unfit; check_state with next_core, run and step answer alike
 
-fn unfit(label: &[u8], f: &[u8], t: &[u8], s: State) {
+fn unfit(label: &[u8], f: &[u8], t: &[u8], s: Held) {
     let mut buffer = [0u8; 8];
     let mut shared = [0u8; 1024];
     let mut list = [0u8; 1];
@@ -796,11 +796,11 @@ fn unfit(label: &[u8], f: &[u8], t: &[u8], s: State) {
     three(label, checked, ran, stepped, 23);
 }
 
-fn fit(label: &[u8], f: &[u8], t: &[u8], s: State) {
+fn fit(label: &[u8], f: &[u8], t: &[u8], s: Held) {
     case(label, machine::check_state(f, t, s), 0);
 }
 
-fn modes(f: &[u8], t: &[u8], s: State) {
+fn modes(f: &[u8], t: &[u8], s: Held) {
     let mut r = core_of(s, 0);
     r.mode = 5;
     fit(b"mode 5", f, t, with_core(s, 0, r));
@@ -809,7 +809,7 @@ fn modes(f: &[u8], t: &[u8], s: State) {
     unfit(b"mode 6 of core 1", f, t, with_core(s, 1, r));
 }
 
-fn counters(f: &[u8], t: &[u8], s: State) {
+fn counters(f: &[u8], t: &[u8], s: Held) {
     let mut r = core_of(s, 0);
     r.counter = 6;
     fit(b"program counter 6", f, t, with_core(s, 0, r));
@@ -824,7 +824,7 @@ fn counters(f: &[u8], t: &[u8], s: State) {
     );
 }
 
-fn offsets(f: &[u8], t: &[u8], s: State) {
+fn offsets(f: &[u8], t: &[u8], s: Held) {
     let mut r = core_of(s, 0);
     r.offset = 3;
     fit(b"data offset 3", f, t, with_core(s, 0, r));
@@ -832,7 +832,7 @@ fn offsets(f: &[u8], t: &[u8], s: State) {
     unfit(b"data offset 4, the data size", f, t, with_core(s, 0, r));
 }
 
-fn depths(f: &[u8], t: &[u8], s: State) {
+fn depths(f: &[u8], t: &[u8], s: Held) {
     let mut r = core_of(s, 0);
     r.depth = 1;
     unfit(b"depth 1 in mode 0", f, t, with_core(s, 0, r));
@@ -843,7 +843,7 @@ fn depths(f: &[u8], t: &[u8], s: State) {
     unfit(b"depth 17", f, t, with_core(s, 0, r));
 }
 
-fn counts(f: &[u8], t: &[u8], s: State) {
+fn counts(f: &[u8], t: &[u8], s: Held) {
     let mut r = core_of(s, 0);
     r.count = 10;
     fit(b"count 10, the limit", f, t, with_core(s, 0, r));
@@ -852,7 +852,7 @@ fn counts(f: &[u8], t: &[u8], s: State) {
 }
 
 // Core 1 reads two bytes.
-fn exchanges(f: &[u8], t: &[u8], s: State) {
+fn exchanges(f: &[u8], t: &[u8], s: Held) {
     let held = with_holder(s, 2);
     let mut r = core_of(s, 1);
     r.exchange = 1;
@@ -865,7 +865,7 @@ fn exchanges(f: &[u8], t: &[u8], s: State) {
 }
 
 // Core 0 has two records.
-fn cycles(f: &[u8], t: &[u8], s: State) {
+fn cycles(f: &[u8], t: &[u8], s: Held) {
     let mut r = core_of(s, 0);
     r.cycles = 2;
     fit(b"cycles 2 of 2", f, t, with_core(s, 0, r));
@@ -876,7 +876,7 @@ fn cycles(f: &[u8], t: &[u8], s: State) {
     unfit(b"cycles 2 of 2 in mode 2", f, t, with_core(s, 0, r));
 }
 
-fn holders(f: &[u8], t: &[u8], s: State) {
+fn holders(f: &[u8], t: &[u8], s: Held) {
     let mut r = core_of(s, 0);
     unfit(b"held, no core in an exchange", f, t, with_holder(s, 1));
     unfit(b"held by core 2 of two", f, t, with_holder(s, 3));
@@ -896,7 +896,7 @@ fn holders(f: &[u8], t: &[u8], s: State) {
 }
 
 // Document 02, 2.4. Core 0 has two records, core 1 one.
-fn lines(f: &[u8], t: &[u8], s: State) {
+fn lines(f: &[u8], t: &[u8], s: Held) {
     fit(b"line 1 0", f, t, with_line(s, 2, [1, 0, 0, 0]));
     fit(
         b"entries past the line",
@@ -932,7 +932,7 @@ fn lines(f: &[u8], t: &[u8], s: State) {
     unfit(b"in line and out of records", f, t, with_core(line, 0, r));
 }
 
-fn stacks(f: &[u8], t: &[u8], s: State) {
+fn stacks(f: &[u8], t: &[u8], s: Held) {
     unfit(b"return place above the depth", f, t, with_entry(s, 6, 0));
     unfit(b"offset above the depth", f, t, with_entry(s, 0, 3));
     let mut r = core_of(s, 0);
@@ -949,13 +949,13 @@ fn stacks(f: &[u8], t: &[u8], s: State) {
     );
 }
 
-fn tables(f: &[u8], t: &[u8], s: State) {
+fn tables(f: &[u8], t: &[u8], s: Held) {
     fit(b"two records", f, t, s);
     unfit(b"table of one record", f, t, with_count(s, 1));
     unfit(b"table of three records", f, t, with_count(s, 3));
 }
 
-fn flag_bits(f: &[u8], t: &[u8], s: State) {
+fn flag_bits(f: &[u8], t: &[u8], s: Held) {
     let mut r = core_of(s, 0);
     r.flags = 63;
     fit(b"flags 63", f, t, with_core(s, 0, r));
@@ -967,7 +967,7 @@ fn flag_bits(f: &[u8], t: &[u8], s: State) {
     unfit(b"flag bit 7", f, t, with_core(s, 0, r));
 }
 
-fn unfit_states(f: &[u8], t: &[u8], s: State) {
+fn unfit_states(f: &[u8], t: &[u8], s: Held) {
     modes(f, t, s);
     counters(f, t, s);
     offsets(f, t, s);
@@ -984,7 +984,7 @@ fn unfit_states(f: &[u8], t: &[u8], s: State) {
 
 // ---- the next core to move
 
-fn next_refusals(f: &[u8], t: &[u8], s: State) {
+fn next_refusals(f: &[u8], t: &[u8], s: Held) {
     case(b"next after core 2 of two", next_number(f, t, s, 2), 20);
     case(
         b"next with a trace of one byte",
@@ -999,7 +999,7 @@ fn next_refusals(f: &[u8], t: &[u8], s: State) {
 }
 
 // Both cores in mode 0 with records; core 1 waiting to write; core 1 stopped; both stopped.
-fn next_cores(f: &[u8], t: &[u8], s: State) {
+fn next_cores(f: &[u8], t: &[u8], s: Held) {
     case(b"next after core 0", next_number(f, t, s, 0), 101);
     case(b"next after core 1", next_number(f, t, s, 1), 100);
     let mut r = core_of(s, 1);
@@ -1025,7 +1025,7 @@ fn next_cores(f: &[u8], t: &[u8], s: State) {
 
 // Core 0 in its writing exchange: core 1 joins the line, and then waits. The semaphore free, core 1 in line: core 0 joins behind it, and then
 // only core 1 moves.
-fn next_held(f: &[u8], t: &[u8], s: State) {
+fn next_held(f: &[u8], t: &[u8], s: Held) {
     let mut r = core_of(s, 0);
     r.mode = 4;
     let held = with_core(with_holder(s, 1), 0, r);
@@ -1064,7 +1064,7 @@ fn next_held(f: &[u8], t: &[u8], s: State) {
 }
 
 // Core 0 has two records, core 1 one.
-fn next_spent(f: &[u8], t: &[u8], s: State) {
+fn next_spent(f: &[u8], t: &[u8], s: Held) {
     let mut r = core_of(s, 0);
     r.cycles = 1;
     let one = with_core(s, 1, r);
@@ -1084,7 +1084,7 @@ fn next_spent(f: &[u8], t: &[u8], s: State) {
 // ---- document 02, 2.4: a fair line at the semaphore
 
 // One step of core 1, and what it leaves.
-fn stepped(f: &[u8], t: &[u8], s: State) -> State {
+fn stepped(f: &[u8], t: &[u8], s: Held) -> Held {
     let mut buffer = [0u8; 8];
     let mut shared = [0u8; 1024];
     let r = machine::step(f, t, s, &mut buffer, &mut shared, 1);
@@ -1092,7 +1092,7 @@ fn stepped(f: &[u8], t: &[u8], s: State) -> State {
 }
 
 // 0, or 99 where two states differ.
-fn differs(a: State, b: State) -> u8 {
+fn differs(a: Held, b: Held) -> u8 {
     if same_state(a, b) {
         return 0;
     }
@@ -1100,7 +1100,7 @@ fn differs(a: State, b: State) -> u8 {
 }
 
 // The bench case of a step in mode 3 against a held semaphore: the first such step joins, a second changes nothing.
-fn joins(f: &[u8], t: &[u8], s: State) {
+fn joins(f: &[u8], t: &[u8], s: Held) {
     let mut r = core_of(s, 0);
     r.mode = 4;
     let held = with_core(with_holder(s, 1), 0, r);
@@ -1145,7 +1145,7 @@ fn executes(r: Registers) -> bool {
 }
 
 // The exchanges that ended, of cores 0, 1 and 2 in turn, where the semaphore is free and only core `last` stands in line.
-fn ended(ran: Ran, last: u8) -> u8 {
+fn ended(ran: RunAnswer, last: u8) -> u8 {
     let s = ran.state;
     let m = s.semaphore;
     if ran.refusal != 0 || m.holder != 0 || m.waiting != 1 || m.line[0] != last {

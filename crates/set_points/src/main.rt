@@ -2,7 +2,7 @@
 // from its place 2 to shared place 10, core 1 reads it to its place 4. Both codes are RETURN. In a file of the new form the start values follow them.
 // In order: numbers of files; the fresh state; what a reader sees before the first writing; the converters.
 use forms::Converted;
-use runner::Ran;
+use runner::RunAnswer;
 
 fn text(s: &[u8]) {
     io::write_all(1, s);

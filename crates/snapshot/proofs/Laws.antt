@@ -18,8 +18,8 @@ use Rattle.code.specs.declared.Profile.{Profile}
 use Rattle.code.specs.declared.Profile.the-variants.{Full}
 use Rattle.taskset.specs.Judge.{judgeFor, judge}
 use Rattle.semaphore.specs.declared.Semaphore.{Semaphore}
-use Rattle.states.specs.declared.State.{State}
-use Rattle.runner.specs.declared.Ran.{Ran}
+use Rattle.states.specs.declared.Held.{Held}
+use Rattle.runner.specs.declared.RunAnswer.{RunAnswer}
 use Rattle.runner.specs.Runs.{Left, leftAs}
 use Rattle.machine.specs.Calls.{answerOf, tableOf, freshCallFor, runCall, stepCall}
 use Rattle.machine.proofs.Calls.{fresh-full}
@@ -40,12 +40,12 @@ splice-whole s ys e =
 
 -- ---- what a call by value left
 
-pub on-refused : (x : Table) (p : Semaphore) (r : Ran) (d sh list : List ℕ) → r .refusal ≢ 0 → onTable x p (leftAs r d sh list) ≡ tableLeft (refusedOf x p (r .refusal)) d sh list
+pub on-refused : (x : Table) (p : Semaphore) (r : RunAnswer) (d sh list : List ℕ) → r .refusal ≢ 0 → onTable x p (leftAs r d sh list) ≡ tableLeft (refusedOf x p (r .refusal)) d sh list
 on-refused x p r d sh list ne =
     let kept : afterOf x p r ≡ refusedOf x p (r .refusal) = pick-false _ _ _ (ne-eqb (r .refusal) 0 ne) in
     (λ i. tableLeft (kept i) d sh list)
 
-pub on-accepted : (x : Table) (p : Semaphore) (r : Ran) (d sh list : List ℕ) → r .refusal ≡ 0 → onTable x p (leftAs r d sh list) ≡ tableLeft (acceptedOf x (r .state)) d sh list
+pub on-accepted : (x : Table) (p : Semaphore) (r : RunAnswer) (d sh list : List ℕ) → r .refusal ≡ 0 → onTable x p (leftAs r d sh list) ≡ tableLeft (acceptedOf x (r .state)) d sh list
 on-accepted x p r d sh list z =
     let new : afterOf x p r ≡ acceptedOf x (r .state) = pick-true _ _ _ (eq-eqb (r .refusal) 0 z) in
     (λ i. tableLeft (new i) d sh list)
@@ -58,10 +58,10 @@ short-refused (suc a) e = suc-ne-zero a e
 
 -- ---- a call on a snapshot: refused, or not
 
-module _ (f t : List ℕ) (x : Table) (p : Semaphore) (d sh : List ℕ) (k : ℕ) (s : State) (r : Ran) (y : After) (d′ sh′ : List ℕ) (es : s ≡ held x p) (e : leftAs r d′ sh′ [] ≡ stepCall f t s d sh k) where
+module _ (f t : List ℕ) (x : Table) (p : Semaphore) (d sh : List ℕ) (k : ℕ) (s : Held) (r : RunAnswer) (y : After) (d′ sh′ : List ℕ) (es : s ≡ held x p) (e : leftAs r d′ sh′ [] ≡ stepCall f t s d sh k) where
   stepped-on : onTable x p (leftAs r d′ sh′ []) ≡ stepTable f t x p d sh k
   unfolding stepTable
-  stepped-on = ap (onTable x p) (e ∙ ap (λ (z : State). stepCall f t z d sh k) es)
+  stepped-on = ap (onTable x p) (e ∙ ap (λ (z : Held). stepCall f t z d sh k) es)
 
   pub step-stays : r .refusal ≢ 0 → y ≡ refusedOf x p (r .refusal) → tableLeft y d′ sh′ [] ≡ stepTable f t x p d sh k
   step-stays ne ey = ap (λ (z : After). tableLeft z d′ sh′ []) ey ∙ sym (on-refused x p r d′ sh′ [] ne) ∙ stepped-on
@@ -69,14 +69,14 @@ module _ (f t : List ℕ) (x : Table) (p : Semaphore) (d sh : List ℕ) (k : ℕ
   pub step-moves : r .refusal ≡ 0 → y ≡ acceptedOf x (r .state) → tableLeft y d′ sh′ [] ≡ stepTable f t x p d sh k
   step-moves z ey = ap (λ (z : After). tableLeft z d′ sh′ []) ey ∙ sym (on-accepted x p r d′ sh′ [] z) ∙ stepped-on
 
-module _ (f t : List ℕ) (x : Table) (p : Semaphore) (d sh order list : List ℕ) (taken : ℕ) (s : State) (r : Ran) (y : After) (d′ sh′ list′ : List ℕ) (es : s ≡ held x p) (e : leftAs r d′ sh′ list′ ≡ runCall f t s d sh order list) where
+module _ (f t : List ℕ) (x : Table) (p : Semaphore) (d sh order list : List ℕ) (taken : ℕ) (s : Held) (r : RunAnswer) (y : After) (d′ sh′ list′ : List ℕ) (es : s ≡ held x p) (e : leftAs r d′ sh′ list′ ≡ runCall f t s d sh order list) where
   ran-on : onTable x p (leftAs r d′ sh′ list′) ≡ runTable f t x p d sh order list
   unfolding runTable
-  ran-on = ap (onTable x p) (e ∙ ap (λ (z : State). runCall f t z d sh order list) es)
+  ran-on = ap (onTable x p) (e ∙ ap (λ (z : Held). runCall f t z d sh order list) es)
 
   taken-on : takenAfter taken r ≡ takenTable f t x p d sh order list taken
   unfolding takenTable
-  taken-on = ap (λ (l : Left). takenAfter taken (l .answer)) (e ∙ ap (λ (z : State). runCall f t z d sh order list) es)
+  taken-on = ap (λ (l : Left). takenAfter taken (l .answer)) (e ∙ ap (λ (z : Held). runCall f t z d sh order list) es)
 
   pub run-stays : r .refusal ≢ 0 → y ≡ refusedOf x p (r .refusal)
       → (tableLeft y d′ sh′ list′ ≡ runTable f t x p d sh order list) × (taken ≡ takenTable f t x p d sh order list taken)
@@ -101,7 +101,7 @@ module _ (judged : ℕ) (made : Left) (f : List ℕ) (x : Table) (p : Semaphore)
       ∙ sym (on-refused x p (answerOf q (tableOf 0 0)) d sh [] (short-refused judged))
       ∙ ap (onTable x p) (sym (pick-false _ _ _ (lt-leb (cores f) (x .count) (omega (arith, en, h)))))
 
-  module _ (r : Ran) (y : After) (d′ sh′ : List ℕ) (h : n ≤ x .count) (e : leftAs r d′ sh′ [] ≡ made) where
+  module _ (r : RunAnswer) (y : After) (d′ sh′ : List ℕ) (h : n ≤ x .count) (e : leftAs r d′ sh′ [] ≡ made) where
     made-on : onTable x p (leftAs r d′ sh′ []) ≡ madeOn judged made f x p d sh
     made-on = ap (onTable x p) (e ∙ sym (pick-true _ _ _ (le-leb (cores f) (x .count) (omega (arith, en, h)))))
 
@@ -116,7 +116,7 @@ module _ (o : Profile) (f : List ℕ) (x : Table) (p : Semaphore) (d sh : List �
   unfolding freshTableFor
   fresh-short = made-short (judgeFor o f) (freshCallFor o f d sh) f x p d sh n en
 
-  module _ (r : Ran) (y : After) (d′ sh′ : List ℕ) (h : n ≤ x .count) (e : leftAs r d′ sh′ [] ≡ freshCallFor o f d sh) where
+  module _ (r : RunAnswer) (y : After) (d′ sh′ : List ℕ) (h : n ≤ x .count) (e : leftAs r d′ sh′ [] ≡ freshCallFor o f d sh) where
     pub fresh-stays : r .refusal ≢ 0 → y ≡ refusedOf x p (r .refusal) → tableLeft y d′ sh′ [] ≡ freshTableFor o f x p d sh
     unfolding freshTableFor
     fresh-stays = made-stays (judgeFor o f) (freshCallFor o f d sh) f x p d sh n en r y d′ sh′ h e
@@ -130,7 +130,7 @@ module _ (f t list : List ℕ) (x : Table) (p : Semaphore) (d sh : List ℕ) (n 
   unfolding rerunTable
   rerun-short = made-short (judge f) (rerunCall f t list d sh) f x p d sh n en
 
-  module _ (r : Ran) (y : After) (d′ sh′ : List ℕ) (h : n ≤ x .count) (e : leftAs r d′ sh′ [] ≡ rerunCall f t list d sh) where
+  module _ (r : RunAnswer) (y : After) (d′ sh′ : List ℕ) (h : n ≤ x .count) (e : leftAs r d′ sh′ [] ≡ rerunCall f t list d sh) where
     pub rerun-stays : r .refusal ≢ 0 → y ≡ refusedOf x p (r .refusal) → tableLeft y d′ sh′ [] ≡ rerunTable f t list x p d sh
     unfolding rerunTable
     rerun-stays = made-stays (judge f) (rerunCall f t list d sh) f x p d sh n en r y d′ sh′ h e

@@ -16,15 +16,15 @@ use Rattle.code.specs.declared.Profile.{Profile}
 use Rattle.taskset.specs.Judge.{judgeFor, judge}
 use Rattle.semaphore.specs.declared.Semaphore.{Semaphore}
 use Rattle.semaphore.specs.Line.{semaphoreOf}
-use Rattle.states.specs.declared.State.{State}
+use Rattle.states.specs.declared.Held.{Held}
 use Rattle.states.specs.Machine.{noRegisters}
 use Rattle.states.specs.Tasks.{taskAt}
-use Rattle.runner.specs.declared.Ran.{Ran}
+use Rattle.runner.specs.declared.RunAnswer.{RunAnswer}
 use Rattle.runner.specs.Runs.{Left, leftAs}
 use Rattle.table.specs.Table.{canMove, roundFrom}
 use Rattle.machine.specs.Calls.{answerOf, tableOf, freshCallFor, freshCall, runCall, stepCall, nextRefusal}
 use Rattle.rerun.specs.Calls.{rerunCall}
-use Rattle.snapshot.specs.declared.Core.{Core}
+use Rattle.snapshot.specs.declared.CoreRecord.{CoreRecord}
 use Rattle.snapshot.specs.declared.Table.{Table}
 use Rattle.snapshot.specs.declared.After.{After}
 use Rattle.snapshot.specs.declared.Ring.{Ring}
@@ -32,7 +32,7 @@ use Rattle.snapshot.specs.declared.Ring.{Ring}
 -- ---- a table as a state, and back
 
 -- the registers of a record
-abbrev pub registersIn : Core → Registers
+abbrev pub registersIn : CoreRecord → Registers
 registersIn c = record {
   mode = c .mode;
   counter = c .counter;
@@ -46,7 +46,7 @@ registersIn c = record {
 }
 
 -- the record of these registers and this call stack, with zeros in its spare bytes
-abbrev pub recordWith : Registers → List ℕ → List ℕ → Core
+abbrev pub recordWith : Registers → List ℕ → List ℕ → CoreRecord
 recordWith r places offsets = record {
   time = r .time;
   counter = r .counter;
@@ -63,11 +63,11 @@ recordWith r places offsets = record {
 }
 
 -- a record past the end of a table
-abbrev pub noRecord : Core
+abbrev pub noRecord : CoreRecord
 noRecord = recordWith noRegisters (replicate 16 0) (replicate 16 0)
 
 -- record k of a table copied out, which has four; no other is ever read
-abbrev pub recordOf : Table → ℕ → Core
+abbrev pub recordOf : Table → ℕ → CoreRecord
 recordOf t k = getD (t .cores) k record {
   time = 0;
   counter = 0;
@@ -88,7 +88,7 @@ abbrev pub counted : ℕ → ℕ
 counted n = pick (ltb n 255) n 255
 
 -- a table copied out: its count, and its first four records
-abbrev pub tableFrom : Core → Core → Core → Core → ℕ → Table
+abbrev pub tableFrom : CoreRecord → CoreRecord → CoreRecord → CoreRecord → ℕ → Table
 tableFrom a b c d n = record { count = counted n; cores = a ∷ b ∷ c ∷ d ∷ [] }
 
 -- the entries of four call stacks, sixteen each, end to end
@@ -102,7 +102,7 @@ unfoldable pub heldOffsets : Table → List ℕ
 heldOffsets t = entries (recordOf t 0 .offsets) (recordOf t 1 .offsets) (recordOf t 2 .offsets) (recordOf t 3 .offsets)
 
 -- the state that a table holds
-unfoldable pub held : Table → Semaphore → State
+unfoldable pub held : Table → Semaphore → Held
 held t p = record {
   count = t .count;
   semaphore = p;
@@ -112,27 +112,27 @@ held t p = record {
 }
 
 -- the record of core k of a state
-unfoldable pub coreOf : State → ℕ → Core
+unfoldable pub coreOf : Held → ℕ → CoreRecord
 coreOf s k = recordWith (getD (s .cores) k noRegisters) (part (s .places) (16 * k) 16) (part (s .offsets) (16 * k) 16)
 
 -- ---- what a call leaves
 
 -- record k after a call that isn't refused: that of the state it leaves; the one on entry where the state has no core k
-unfoldable pub recordAfter : Table → State → ℕ → Core
+unfoldable pub recordAfter : Table → Held → ℕ → CoreRecord
 recordAfter t s k = pick (ltb k (s .count)) (coreOf s k) (recordOf t k)
 
-abbrev pub acceptedOf : Table → State → After
+abbrev pub acceptedOf : Table → Held → After
 acceptedOf t s = record { refusal = 0; a = recordAfter t s 0; b = recordAfter t s 1; c = recordAfter t s 2; d = recordAfter t s 3; semaphore = s .semaphore }
 
 -- a refused call's number, with the semaphore and the records on entry
 abbrev pub refusedOf : Table → Semaphore → ℕ → After
 refusedOf t p n = record { refusal = n; a = recordOf t 0; b = recordOf t 1; c = recordOf t 2; d = recordOf t 3; semaphore = p }
 
-abbrev pub afterOf : Table → Semaphore → Ran → After
+abbrev pub afterOf : Table → Semaphore → RunAnswer → After
 afterOf t p r = pick (eqb (r .refusal) 0) (acceptedOf t (r .state)) (refusedOf t p (r .refusal))
 
 -- the count of takings after a call; a refused one leaves it
-abbrev pub takenAfter : ℕ → Ran → ℕ
+abbrev pub takenAfter : ℕ → RunAnswer → ℕ
 takenAfter taken r = pick (eqb (r .refusal) 0) (r .taken) taken
 
 -- of a call on a table copied out: refusal number, semaphore and records, and every lent byte
@@ -198,7 +198,7 @@ abbrev pub placeAfter : Ring → ℕ → ℕ
 placeAfter r i = pick (eqb (r .cores) 0) 0 (roundFrom (r .cores) (r .given) (i + 1))
 
 -- core k with this record can move
-abbrev pub recordMoves : Ring → ℕ → Core → Bool
+abbrev pub recordMoves : Ring → ℕ → CoreRecord → Bool
 recordMoves r k c = canMove (semaphoreOf (r .semaphore)) k (pick (ltb k 4) (getD (r .counts) k 0) 0) (registersIn c)
 
 -- the refusal number, and the byte that takes the core's number; a refused call leaves it
@@ -215,12 +215,12 @@ ringAnswer r k found = pick (eqb (r .refusal) 0) (answered 0 k) (answered (r .re
 -- ---- the registers of one core, lent to its step beside the rest of the state
 
 -- the state with these registers for core k
-unfoldable pub withRegisters : State → ℕ → Registers → State
+unfoldable pub withRegisters : Held → ℕ → Registers → Held
 withRegisters s k r = record { count = s .count; semaphore = s .semaphore; cores = set (s .cores) k r; places = s .places; offsets = s .offsets }
 
 -- the lent registers after a call that left this state; those on entry where it names no core
-abbrev pub registersAfter : State → ℕ → Registers → Registers
+abbrev pub registersAfter : Held → ℕ → Registers → Registers
 registersAfter s k r = pick (ltb k 4) (getD (s .cores) k noRegisters) r
 
-unfoldable pub stepRegisters : List ℕ → List ℕ → State → Registers → List ℕ → List ℕ → ℕ → Left
+unfoldable pub stepRegisters : List ℕ → List ℕ → Held → Registers → List ℕ → List ℕ → ℕ → Left
 stepRegisters f t s r d sh k = stepCall f t (withRegisters s k r) d sh k

@@ -2,9 +2,9 @@
 // call these, and store what they leave.
 use code::Profile;
 use protocol::Registers;
-use runner::Ran;
+use runner::RunAnswer;
 use semaphore::Semaphore;
-use states::State;
+use states::Held;
 ghost use mathlib.Core.Path.{_≡_};
 ghost use mathlib.Core.List.{[]};
 ghost use Prim.Native.Nat.{_+_, _*_, _<_, _≤_};
@@ -19,7 +19,7 @@ ghost use Rattle.snapshot.specs.Snapshot.{noRecord, tableFrom, entries, 
 // A record of the core table: a core's registers and call stack, in 84 bytes of which each belongs to a field, so that what a call says of the
 // fields it says of every byte. Spare bytes are never judged, and a record that a call writes has zeros there.
 #[repr(C)]
-pub struct Core {
+pub struct CoreRecord {
     pub time: u32,
     pub counter: u16,
     pub offset: u16,
@@ -37,13 +37,13 @@ pub struct Core {
 // A table copied out: how many records it has, 255 for more, and its first four; zeros where it has fewer.
 pub struct Table {
     pub count: u8,
-    pub cores: [Core; 4],
+    pub cores: [CoreRecord; 4],
 }
 
 // ---- a table as a state, and back
 
 // The registers of a record.
-fn registers_in(c: Core) -> Registers
+fn registers_in(c: CoreRecord) -> Registers
     ensures { λ r. ⌜ r ≡ registersIn c ⌝ }
 {
     Registers {
@@ -60,11 +60,11 @@ fn registers_in(c: Core) -> Registers
 }
 
 // A record of these registers and this call stack.
-fn record_of(r: Registers, places: [u16; 16], offsets: [u16; 16]) -> Core
+fn record_of(r: Registers, places: [u16; 16], offsets: [u16; 16]) -> CoreRecord
     ensures { λ c. ⌜ c ≡ recordWith r places offsets ⌝ }
 {
     let spare = [0u8; 3];
-    Core {
+    CoreRecord {
         time: r.time,
         counter: r.counter,
         offset: r.offset,
@@ -145,7 +145,7 @@ fn offsets_of(t: Table) -> [u16; 64]
 }
 
 // The state that a table holds.
-fn state_of(t: Table, semaphore: Semaphore) -> State
+fn state_of(t: Table, semaphore: Semaphore) -> Held
     ensures { λ r. ⌜ r ≡ held t semaphore ⌝ }
 {
     let a = t.cores[0];
@@ -159,7 +159,7 @@ fn state_of(t: Table, semaphore: Semaphore) -> State
     let cores = [ra, rb, rc, rd];
     let places = places_of(t);
     let offsets = offsets_of(t);
-    State {
+    Held {
         count: t.count,
         semaphore,
         cores,
@@ -169,7 +169,7 @@ fn state_of(t: Table, semaphore: Semaphore) -> State
 }
 
 // The record of core k of a state.
-fn core_of(s: State, k: usize) -> Core
+fn core_of(s: Held, k: usize) -> CoreRecord
     requires { ⌜ k < 4 ⌝ }
     ensures { λ r. ⌜ r ≡ coreOf s k ⌝ }
 {
@@ -186,15 +186,15 @@ fn core_of(s: State, k: usize) -> Core
 // The refusal number, the table's first four records, and the semaphore.
 pub struct After {
     pub refusal: u8,
-    pub a: Core,
-    pub b: Core,
-    pub c: Core,
-    pub d: Core,
+    pub a: CoreRecord,
+    pub b: CoreRecord,
+    pub c: CoreRecord,
+    pub d: CoreRecord,
     pub semaphore: Semaphore,
 }
 
 // Record k after a call that is not refused and leaves the state s.
-fn record_after(t: Table, s: State, k: usize) -> Core
+fn record_after(t: Table, s: Held, k: usize) -> CoreRecord
     requires { ⌜ k < 4 ⌝ }
     ensures { λ x. ⌜ x ≡ recordAfter t s k ⌝ }
 {
@@ -204,7 +204,7 @@ fn record_after(t: Table, s: State, k: usize) -> Core
     core_of(s, k)
 }
 
-fn accepted(t: Table, s: State) -> After
+fn accepted(t: Table, s: Held) -> After
     ensures { λ x. ⌜ x ≡ acceptedOf t s ⌝ }
 {
     let a = record_after(t, s, 0);
@@ -430,7 +430,7 @@ pub fn place_after(r: Ring, i: u8) -> u8
 }
 
 // Whether core k, which has this record, can move: the test by value.
-pub fn moves(r: Ring, k: u8, c: Core) -> bool
+pub fn moves(r: Ring, k: u8, c: CoreRecord) -> bool
     ensures { λ ok. ⌜ ok ≡ recordMoves r k c ⌝ }
 {
     if 4 <= k {
@@ -456,7 +456,7 @@ pub fn found_in(r: Ring, k: u8, found: &mut u8) -> u8
 // What a step answers that is lent the registers of its core: these, and the answer by value.
 pub struct Stepped {
     pub registers: Registers,
-    pub ran: Ran,
+    pub ran: RunAnswer,
 }
 
 fn set_registers(cores: [Registers; 4], k: usize, r: Registers) -> [Registers; 4]
@@ -471,7 +471,7 @@ fn set_registers(cores: [Registers; 4], k: usize, r: Registers) -> [Registers; 4
 }
 
 // The state with these registers for core k.
-fn with_registers(s: State, k: usize, r: Registers) -> State
+fn with_registers(s: Held, k: usize, r: Registers) -> Held
     ensures { λ x. ⌜ x ≡ withRegisters s k r ⌝ }
 {
     let old = s.cores;
@@ -479,7 +479,7 @@ fn with_registers(s: State, k: usize, r: Registers) -> State
     let places = s.places;
     let offsets = s.offsets;
     let held = s.semaphore;
-    State {
+    Held {
         count: s.count,
         semaphore: held,
         cores,
@@ -489,7 +489,7 @@ fn with_registers(s: State, k: usize, r: Registers) -> State
 }
 
 // Core k's registers of a state; r where there is no core k.
-fn registers_of(s: State, k: usize, r: Registers) -> Registers
+fn registers_of(s: Held, k: usize, r: Registers) -> Registers
     ensures { λ x. ⌜ x ≡ registersAfter s k r ⌝ }
 {
     if k < 4 {
@@ -501,7 +501,7 @@ fn registers_of(s: State, k: usize, r: Registers) -> Registers
 pub fn step_with(
     file: &[u8],
     trace: &[u8],
-    s: State,
+    s: Held,
     registers: Registers,
     buffer: &mut [u8],
     shared: &mut [u8],
@@ -528,7 +528,7 @@ pub fn step_with(
 // ---- a table from its records
 
 // A record of zeros.
-pub fn no_core() -> Core
+pub fn no_core() -> CoreRecord
     ensures { λ r. ⌜ r ≡ noRecord ⌝ }
 {
     let registers = Registers {
@@ -557,7 +557,7 @@ fn count_of(n: usize) -> u8
     255
 }
 
-pub fn table_of(a: Core, b: Core, c: Core, d: Core, n: usize) -> Table
+pub fn table_of(a: CoreRecord, b: CoreRecord, c: CoreRecord, d: CoreRecord, n: usize) -> Table
     ensures { λ r. ⌜ r ≡ tableFrom a b c d n ⌝ }
 {
     let count = count_of(n);

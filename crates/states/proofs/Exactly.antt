@@ -18,7 +18,7 @@ use Rattle.memory.proofs.Cores.{split-at, start-end}
 use Rattle.code.specs.Code.{isStart}
 use Rattle.protocol.specs.Registers.{flagBound}
 use Rattle.protocol.specs.declared.Registers.{Registers}
-use Rattle.protocol.specs.State.{Core, State as Whole, absent, core}
+use Rattle.protocol.specs.State.{Core, State, absent, core}
 use Rattle.protocol.specs.Variables.{readsOf, writesOf}
 use Rattle.protocol.specs.Step.{inLine}
 use Rattle.protocol.specs.Laws.{Holding}
@@ -30,7 +30,7 @@ use Rattle.taskset.specs.Judge.{codeOf}
 use Rattle.taskset.specs.Task.{sizesOf, variablesOf}
 use Rattle.taskset.specs.Trace.{recordCount}
 use Rattle.taskset.proofs.Accepted.{length-listed, listed-at, sizes-length, sizes-at}
-use Rattle.states.specs.declared.State.{State}
+use Rattle.states.specs.declared.Held.{Held}
 use Rattle.states.specs.Task.{taskOf}
 use Rattle.states.specs.Machine.{noRegisters, coreIn, stateIn, stateOf, Sized}
 use Rattle.states.specs.Set.{AcceptedSet}
@@ -179,7 +179,7 @@ data-size f d k h e =
 
 -- ---- one core, from its rules and back
 
-module _ (f t : List ℕ) (ok : AcceptedSet f t) (h : State) (d sh : List ℕ) (z : Sized f h d sh) where
+module _ (f t : List ℕ) (ok : AcceptedSet f t) (h : Held) (d sh : List ℕ) (z : Sized f h d sh) where
   abbrev mine : ℕ → Core
   mine k = coreIn f (h .cores) (h .places) (h .offsets) d k
 
@@ -252,7 +252,7 @@ module _ (f t : List ℕ) (ok : AcceptedSet f t) (h : State) (d sh : List ℕ) (
 
   -- ---- the state
 
-  abbrev whole : Whole
+  abbrev whole : State
   whole = stateOf f h d sh
 
   core-of : (k : ℕ) → k < cores f → core (whole .plant) k ≡ mine k

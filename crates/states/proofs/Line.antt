@@ -21,7 +21,7 @@ use Rattle.records.specs.File.{cores}
 use Rattle.taskset.specs.Task.{sampleAt, samplesOf}
 use Rattle.taskset.specs.Trace.{recordCount}
 use Rattle.taskset.proofs.Accepted.{length-listed}
-use Rattle.states.specs.declared.State.{State}
+use Rattle.states.specs.declared.Held.{Held}
 use Rattle.states.specs.Machine.{noRegisters}
 use Rattle.states.specs.Task.{taskOf}
 use Rattle.states.specs.declared.CoreTask.{CoreTask}
@@ -60,7 +60,7 @@ says-may count r = says-both (says-either (says-equal _ _) (says-equal _ _)) (sa
 says-not : (b : Bool) → Says (not b) (b ≡ false)
 says-not b = record { tested = not-true b; holds = λ e. rw e }
 
-module _ (f t : List ℕ) (s : State) where
+module _ (f t : List ℕ) (s : Held) where
   abbrev pub Stands : ℕ → Type 0
   Stands k = (k < cores f) × MayWait (recordCount f t k) (getD (s .cores) k noRegisters)
 
@@ -84,7 +84,7 @@ module _ (f t : List ℕ) (s : State) where
 
 -- ---- the test, entry by entry
 
-module _ (f t : List ℕ) (s : State) where
+module _ (f t : List ℕ) (s : Held) where
   abbrev entries : List ℕ
   entries = semaphoreOf (s .semaphore) .line
 

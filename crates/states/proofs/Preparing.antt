@@ -10,7 +10,7 @@ use Rattle.verdict.specs.Verdict.{pick, next}
 use Rattle.verdict.proofs.Verdict.{skip, stop, pick-true, pick-false}
 use Rattle.taskset.specs.declared.TraceLayout.{TraceLayout}
 use Rattle.taskset.specs.Trace.{traceRefusal, noTrace, traceLayout, loadTraceOf}
-use Rattle.states.specs.declared.State.{State}
+use Rattle.states.specs.declared.Held.{Held}
 use Rattle.states.specs.declared.CoreTask.{CoreTask}
 use Rattle.states.specs.declared.Prepared.{Prepared}
 use Rattle.states.specs.Tasks.{noTask, tasksOf}
@@ -33,7 +33,7 @@ module _ (f t : List ℕ) (x : TraceLayout) (e : x ≡ loadTraceOf f t) where
   unfolding loadTraceOf
   trace-laid z = e ∙ pick-true _ _ _ (eq-eqb _ _ (trace-sound z))
 
-  module _ (s : State) where
+  module _ (s : Held) where
     pub prepared-refused : x .refusal ≢ 0 → record { refusal = x .refusal; tasks = noTask ∷ noTask ∷ noTask ∷ noTask ∷ [] } ≡ prepared f t s
     unfolding prepared heldRefusal
     prepared-refused n =

@@ -13,7 +13,7 @@ use Rattle.code.specs.Code.{isStart}
 use Rattle.protocol.specs.Modes.{betweenCycles, readingExchange, executing, waitingToWrite, writingExchange, stopped}
 use Rattle.protocol.specs.Registers.{flagBound}
 use Rattle.protocol.specs.declared.Registers.{Registers}
-use Rattle.protocol.specs.State.{Core, State as Whole, core, mode}
+use Rattle.protocol.specs.State.{Core, State, core, mode}
 use Rattle.protocol.specs.Variables.{readsOf, writesOf}
 use Rattle.protocol.specs.Step.{inLine}
 use Rattle.protocol.specs.Laws.{SemaphoreHeld}
@@ -24,7 +24,7 @@ use Rattle.records.specs.File.{cores, dataSize, limit}
 use Rattle.taskset.specs.Judge.{codeOf}
 use Rattle.taskset.specs.Task.{variablesOf}
 use Rattle.taskset.specs.Trace.{recordCount}
-use Rattle.states.specs.declared.State.{State}
+use Rattle.states.specs.declared.Held.{Held}
 use Rattle.states.specs.Task.{taskOf}
 use Rattle.states.specs.Machine.{noRegisters}
 
@@ -87,7 +87,7 @@ coreFit f t holder k r place offset =
     (both (freedFit r place offset) (ltb (r .flags) flagBound)))
 
 -- core k of a state
-unfoldable pub fitAt : List ℕ → List ℕ → State → ℕ → Bool
+unfoldable pub fitAt : List ℕ → List ℕ → Held → ℕ → Bool
 fitAt f t s k = coreFit f t (s .semaphore .holder) k (getD (s .cores) k noRegisters) (entry (s .places) k) (entry (s .offsets) k)
 
 -- a core with these registers and so many input records is in mode 0 or 3, and has records left
@@ -95,20 +95,20 @@ unfoldable pub mayWait : ℕ → Registers → Bool
 mayWait count r = both (either (eqb (r .mode) betweenCycles) (eqb (r .mode) waitingToWrite)) (ltb (r .cycles) count)
 
 -- document 02, 2.4: the line names no core twice, none from n on, none that is not in mode 0 or 3, and none that is out of records
-abbrev pub lineFitIn : List ℕ → List ℕ → State → List ℕ → Bool
+abbrev pub lineFitIn : List ℕ → List ℕ → Held → List ℕ → Bool
 lineFitIn f t s [] = true
 lineFitIn f t s (k ∷ ks) =
     both (not (inLine k ks)) (both (ltb k (cores f)) (both (mayWait (recordCount f t k) (getD (s .cores) k noRegisters)) (lineFitIn f t s ks)))
 
 -- a line has at most four entries
-unfoldable pub lineFit : List ℕ → List ℕ → State → Bool
+unfoldable pub lineFit : List ℕ → List ℕ → Held → Bool
 lineFit f t s = both (leb (s .semaphore .waiting) 4) (lineFitIn f t s (semaphoreOf (s .semaphore) .line))
 
 -- the table has n records, the semaphore names one of them or is free, each core is fit, and so is the line
-unfoldable pub stateFit : List ℕ → List ℕ → State → Bool
+unfoldable pub stateFit : List ℕ → List ℕ → Held → Bool
 stateFit f t s = both (eqb (s .count) (cores f)) (both (leb (s .semaphore .holder) (cores f)) (both (upto (fitAt f t s) (cores f)) (lineFit f t s)))
 
-unfoldable pub stateRefusal : List ℕ → List ℕ → State → ℕ
+unfoldable pub stateRefusal : List ℕ → List ℕ → Held → ℕ
 stateRefusal f t s = unless (stateFit f t s) unfitState
 
 -- ---- the same as properties
@@ -128,7 +128,7 @@ pub record FitCore (f t : List ℕ) (k : ℕ) (c : Core) : Type 0 where
   pub size : length (c .memory) ≡ dataSize f k
 
 -- The state: its n cores, the semaphore and its line, and lent memory of the right size
-pub record Fit (f t : List ℕ) (s : Whole) : Type 0 where
+pub record Fit (f t : List ℕ) (s : State) : Type 0 where
   pub table : length (s .plant .cores) ≡ cores f
   pub each : (k : ℕ) → k < cores f → FitCore f t k (core (s .plant) k)
   pub held : SemaphoreHeld s

@@ -12,7 +12,7 @@ use Rattle.protocol.specs.State.{Core, Semaphore, State, core, cleared}
 use Rattle.semaphore.specs.Line.{semaphoreOf, semaphoreBack}
 use Rattle.records.specs.File.{cores}
 use Rattle.taskset.specs.Task.{listed, sizesOf}
-use Rattle.states.specs.declared.State.{State as Held}
+use Rattle.states.specs.declared.Held.{Held}
 
 -- registers past the table: never reached
 abbrev pub noRegisters : Registers

@@ -19,7 +19,7 @@ use taskset::Layout;
 use taskset::TraceLayout;
 
 // The state of up to four cores. The call stack of core k is entries 16k to 16k + 15 of `places` and `offsets`.
-pub struct State {
+pub struct Held {
     pub count: u8, // records of the core table
     pub semaphore: Semaphore,
     pub cores: [Registers; 4],
@@ -343,7 +343,7 @@ fn exchanges_fit(task: CoreTask, holder: u8, k: usize, r: Registers) -> bool
 }
 
 // Core k of a state.
-fn core_fit(file: &[u8], trace: &[u8], task: CoreTask, s: State, k: usize) -> bool
+fn core_fit(file: &[u8], trace: &[u8], task: CoreTask, s: Held, k: usize) -> bool
     requires { ⌜ AcceptedSet (now file) (now trace) × (k < cores (now file)) × (task ≡ coreTask (now file) (now trace) k) ⌝ }
     ensures { λ ok. ⌜ ok ≡ fitAt (now (file .entry)) (now (trace .entry)) s k ⌝ }
 {
@@ -379,7 +379,7 @@ fn may_wait(count: usize, r: Registers) -> bool
 }
 
 // The line names no core twice, none from n on, none that is not in mode 0 or 3, and none that is out of records.
-fn line_fit(file: &[u8], trace: &[u8], tasks: [CoreTask; 4], n: usize, s: State) -> bool
+fn line_fit(file: &[u8], trace: &[u8], tasks: [CoreTask; 4], n: usize, s: Held) -> bool
     requires { ⌜ AcceptedSet (now file) (now trace) × (tasks ≡ tasksOf (now file) (now trace)) × (n ≡ cores (now file)) ⌝ }
     ensures { λ ok. ⌜ ok ≡ lineFit (now (file .entry)) (now (trace .entry)) s ⌝ }
 {
@@ -407,7 +407,7 @@ fn line_fit(file: &[u8], trace: &[u8], tasks: [CoreTask; 4], n: usize, s: State)
 }
 
 // The refusal of a state of an accepted file with n cores, whose tasks on a sound trace are given; 0 where it is fit.
-pub fn state_refusal(file: &[u8], trace: &[u8], tasks: [CoreTask; 4], n: usize, s: State) -> u8
+pub fn state_refusal(file: &[u8], trace: &[u8], tasks: [CoreTask; 4], n: usize, s: Held) -> u8
     requires { ⌜ AcceptedSet (now file) (now trace) × (tasks ≡ tasksOf (now file) (now trace)) × (n ≡ cores (now file)) ⌝ }
     ensures { λ r. ⌜ r ≡ stateRefusal (now (file .entry)) (now (trace .entry)) s ⌝ }
 {
@@ -438,7 +438,7 @@ pub struct Prepared {
     pub tasks: [CoreTask; 4],
 }
 
-pub fn prepare(file: &[u8], trace: &[u8], layout: Layout, s: State) -> Prepared
+pub fn prepare(file: &[u8], trace: &[u8], layout: Layout, s: Held) -> Prepared
     requires { ⌜ (judge (now file) ≡ 0) × (layout ≡ layoutOf (now file)) ⌝ }
     ensures { λ r. ⌜ r ≡ prepared (now (file .entry)) (now (trace .entry)) s ⌝ }
 {

@@ -25,7 +25,7 @@ use Rattle.states.specs.Set.{AcceptedSet}
 use Rattle.states.specs.Fit.{Fit}
 use Rattle.states.specs.Task.{taskOf}
 use Rattle.states.specs.Machine.{noRegisters, coreIn, stateIn, stateOf}
-use Rattle.states.specs.declared.State.{State as Held}
+use Rattle.states.specs.declared.Held.{Held}
 use Rattle.states.proofs.Line.{left-records}
 use Rattle.states.proofs.Executes.{executes}
 use Rattle.table.specs.Table.{servedOrJoins, canMoveIn, canMove, canMoveAt, roundFrom, nextMoving}

@@ -12,17 +12,17 @@ use Rattle.states.specs.Set.{AcceptedSet}
 use Rattle.states.specs.Machine.{noRegisters}
 use Rattle.states.specs.Tasks.{coreTask, noTask, tasksOf}
 use Rattle.states.specs.declared.CoreTask.{CoreTask}
-use Rattle.states.specs.declared.State.{State}
+use Rattle.states.specs.declared.Held.{Held}
 use Rattle.states.proofs.Tasks.{tasks-at}
 use Rattle.table.specs.Table.{canMove, canMoveAt, roundFrom, nextMoving}
 use Rattle.table.specs.declared.Moving.the-variants.{Core, Nothing}
 use Rattle.table.proofs.Ring.{Looking, looking-more, looking-stop, looking-end, round-inside}
 
 -- the cores from number i after the given one on are still to be looked at
-abbrev pub Scanning : List ℕ → List ℕ → State → ℕ → ℕ → Type 0
+abbrev pub Scanning : List ℕ → List ℕ → Held → ℕ → ℕ → Type 0
 Scanning f t s given i = Looking (canMoveAt f t s) (roundFrom (cores f) given) (cores f) i
 
-module _ (f t : List ℕ) (s : State) (tasks : List CoreTask) (n given : ℕ) (p : AcceptedSet f t × (tasks ≡ tasksOf f t) × (n ≡ cores f) × (given < n)) where
+module _ (f t : List ℕ) (s : Held) (tasks : List CoreTask) (n given : ℕ) (p : AcceptedSet f t × (tasks ≡ tasksOf f t) × (n ≡ cores f) × (given < n)) where
   -- core number i after the given one is one of at most four
   pub inside-four : (i : ℕ) → (given + i) % n < 4
   inside-four i = omega (arith, round-inside n given i (p .3), p .0 .few, p .2)

@@ -11,7 +11,7 @@ use Rattle.protocol.specs.Step.{step}
 use Rattle.records.specs.File.{cores}
 use Rattle.taskset.specs.Trace.{recordCount}
 use Rattle.states.specs.Task.{taskOf}
-use Rattle.states.specs.declared.State.{State as Held}
+use Rattle.states.specs.declared.Held.{Held}
 use Rattle.table.specs.Table.{canMoveAt, roundFrom, nextMoving}
 use Rattle.table.specs.declared.Moving.the-variants.{Core, Nothing}
 

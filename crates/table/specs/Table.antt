@@ -14,7 +14,7 @@ use Rattle.semaphore.specs.Line.{semaphoreOf}
 use Rattle.records.specs.File.{cores}
 use Rattle.taskset.specs.Task.{listed}
 use Rattle.taskset.specs.Trace.{recordCount}
-use Rattle.states.specs.declared.State.{State}
+use Rattle.states.specs.declared.Held.{Held}
 use Rattle.states.specs.Machine.{noRegisters}
 use Rattle.table.specs.declared.Moving.{Moving}
 use Rattle.table.specs.declared.Moving.the-variants.{Core, Nothing}
@@ -35,7 +35,7 @@ unfoldable pub canMove : Semaphore → ℕ → ℕ → Registers → Bool
 canMove m k count r = canMoveIn (r .mode) (servedOrJoins m k) count (r .cycles)
 
 -- core k of a state
-unfoldable pub canMoveAt : List ℕ → List ℕ → State → ℕ → Bool
+unfoldable pub canMoveAt : List ℕ → List ℕ → Held → ℕ → Bool
 canMoveAt f t s k = canMove (semaphoreOf (s .semaphore)) k (recordCount f t k) (getD (s .cores) k noRegisters)
 
 -- ---- the table
@@ -50,5 +50,5 @@ firstMoving moving [] = Nothing
 firstMoving moving (k ∷ ks) = pick (moving k) (Core k) (firstMoving moving ks)
 
 -- the cores from the first after the given one to the given one itself
-unfoldable pub nextMoving : List ℕ → List ℕ → State → ℕ → Moving
+unfoldable pub nextMoving : List ℕ → List ℕ → Held → ℕ → Moving
 nextMoving f t s given = firstMoving (canMoveAt f t s) (listed (roundFrom (cores f) given) (cores f) 1)

@@ -9,7 +9,7 @@ ghost use Rattle.table.specs.Table.{servedOrJoins, canMove, nextMoving};
 use protocol::Registers;
 use semaphore::Semaphore;
 use states::CoreTask;
-use states::State;
+use states::Held;
 
 // The core that moves next; none, where every core is stopped or out of records.
 pub enum Moving {
@@ -49,7 +49,7 @@ pub fn next_moving(
     trace: &[u8],
     tasks: [CoreTask; 4],
     n: usize,
-    s: State,
+    s: Held,
     given: u8,
 ) -> Moving
     requires { ⌜ AcceptedSet (now file) (now trace) × (tasks ≡ tasksOf (now file) (now trace)) × (n ≡ cores (now file)) × (given < n) ⌝ }

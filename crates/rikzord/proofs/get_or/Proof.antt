@@ -38,9 +38,9 @@ use denote.Triple.Spec.{Meets, tripleOf}
 use denote.Triple.Table.{entered}
 use denote.Triple.Walked.{says, Stays, stay-none-slice, stay-none, walkOf, goes-none-slice, goes-none, Walks, ends-at, walked, walk-meets}
 use denote.Exit.{yes}
-use Rattle.snapshot.specs.declared.Core.{Core}
-use Rattle.snapshot.proofs.Core as T
-use Rattle.snapshot.proofs.Core.Laws as T′
+use Rattle.snapshot.specs.declared.CoreRecord.{CoreRecord}
+use Rattle.snapshot.proofs.CoreRecord as T
+use Rattle.snapshot.proofs.CoreRecord.Laws as T′
 use Rattle.rikzord.proofs.get_or.Key.{name as #rikzord·get-or}
 use Rattle.rikzord.proofs.get_or as f
 use Rattle.rikzord.proofs.get_or.Statement as stated
@@ -51,23 +51,23 @@ abbrev R : RattleType
 R = T.the-row
 
 abbrev Arg : Type 0
-Arg = RefT (List Core) × (ℕ × (Core × Unit {0}))
+Arg = RefT (List CoreRecord) × (ℕ × (CoreRecord × Unit {0}))
 
 abbrev stayed : Stays (f.ended .signature .params) (f.ended .kept)
 stayed = (stay-none-slice (0 ∷ []) tt (plain (λ _. R)) yes, (stay-none (λ _. usize) yes, (stay-none (λ _. R) yes, tt)))
 
-abbrev mach : Core → Val
+abbrev mach : CoreRecord → Val
 mach c = LL.tuple-val T.the-type T′.the-laws (T.the-type .to c)
 
 -- the place of a record of the slice is computed without a wrap
-in-range : (ys : List Core) (i : ℕ) → Room R (length ys) → i < length ys → i * 84 < 2 ^ 64
+in-range : (ys : List CoreRecord) (i : ℕ) → Room R (length ys) → i < length ys → i * 84 < 2 ^ 64
 in-range ys i room l = omega (arith, room .1)
 
-module _ {M : Type 1} (𝓤 : URA M) (H : Heap 𝓤) (A : Atoms 𝓤) (W : Given 𝓤 H A) (at-mem : Memory → SProp 𝓤) (run : Routine → Fun 𝓤) (κ : Lft) (q : Share) (b o : ℕ) (γ : GName) (ys : List Core) (i : ℕ) (i-fits : i < 2 ^ 64) (other : Core) (other-is : Is R other (mach other ∷ [])) where
+module _ {M : Type 1} (𝓤 : URA M) (H : Heap 𝓤) (A : Atoms 𝓤) (W : Given 𝓤 H A) (at-mem : Memory → SProp 𝓤) (run : Routine → Fun 𝓤) (κ : Lft) (q : Share) (b o : ℕ) (γ : GName) (ys : List CoreRecord) (i : ℕ) (i-fits : i < 2 ^ 64) (other : CoreRecord) (other-is : Is R other (mach other ∷ [])) where
   abbrev a : Arg
   a = (record { ptr = (b, o); name = γ; now = ys }, (i, (other, tt)))
 
-  abbrev elem : Core
+  abbrev elem : CoreRecord
   elem = getD ys i other
 
   abbrev s : Val
@@ -79,7 +79,7 @@ module _ {M : Type 1} (𝓤 : URA M) (H : Heap 𝓤) (A : Atoms 𝓤) (W : Given
   abbrev Post : Val → SProp 𝓤
   Post = walkOf 𝓤 H A f.ended stayed (f.clauses 𝓤 H A at-mem run) .post (((κ, tt), (q, tt), tt, a, at), tt)
 
-  exits : (r : Core) → r ≡ elem → Is R r (mach r ∷ []) → ent 𝓤 (⋆ 𝓤 H A (‵ (flft κ q) ∷ ‵ (ShrSlice (named 0) κ R .own (a .0) (s ∷ [])) ∷ [])) (Post (mach r))
+  exits : (r : CoreRecord) → r ≡ elem → Is R r (mach r ∷ []) → ent 𝓤 (⋆ 𝓤 H A (‵ (flft κ q) ∷ ‵ (ShrSlice (named 0) κ R .own (a .0) (s ∷ [])) ∷ [])) (Post (mach r))
   exits r e is =
       qed W (‵ (flft κ q) ∷ ‵ (ShrSlice (named 0) κ R .own (a .0) (s ∷ [])) ∷ []) ∵
       suffices ! _ (ends-at 𝓤 H A f.ended stayed (f.clauses 𝓤 H A at-mem run) W (((κ, tt), (q, tt), tt, a, at), tt) (mach r) r (tt, (tt, (tt, tt))) (tt, (tt, (tt, tt)))) $ says ! e $

@@ -40,10 +40,10 @@ use denote.Triple.Walked.{says, Stays, stay-none-slice, walkOf, goes-none-slice,
 use denote.Exit.{yes}
 use Rattle.snapshot.specs.Snapshot.{tableFrom}
 use Rattle.rikzord.specs.Lent.{loaded}
-use Rattle.snapshot.specs.declared.Core.{Core}
+use Rattle.snapshot.specs.declared.CoreRecord.{CoreRecord}
 use Rattle.snapshot.specs.declared.Table.{Table}
-use Rattle.snapshot.proofs.Core as T
-use Rattle.snapshot.proofs.Core.Laws as T′
+use Rattle.snapshot.proofs.CoreRecord as T
+use Rattle.snapshot.proofs.CoreRecord.Laws as T′
 use Rattle.snapshot.proofs.Table as N
 use Rattle.snapshot.proofs.Table.Laws as N′
 use Rattle.rikzord.proofs.Asking.{R, GetOr, NoCore, typed, from-none, begins, asks}
@@ -63,7 +63,7 @@ use Rattle.rikzord.proofs.load.Statement as stated
 use Rattle.rikzord.proofs.load.Code as code
 
 abbrev Arg : Type 0
-Arg = RefT (List Core) × Unit {0}
+Arg = RefT (List CoreRecord) × Unit {0}
 
 abbrev stayed : Stays (f.ended .signature .params) (f.ended .kept)
 stayed = (stay-none-slice (0 ∷ []) tt (plain (λ _. R)) yes, tt)
@@ -74,10 +74,10 @@ module _ {M : Type 1} (𝓤 : URA M) (H : Heap 𝓤) (A : Atoms 𝓤) (at-mem : 
   TableOf = tripleOf 𝓤 H A table-of.signature (table-of.spec 𝓤 H A at-mem run)
 
   -- of what it ensures, the clause alone: it has no last value
-  table-is : (c₀ c₁ c₂ c₃ : Core) (n : ℕ) (r : Table) → ent 𝓤 (ensured 𝓤 H A table-of.ended (table-of.clauses 𝓤 H A at-mem run) tt (c₀, (c₁, (c₂, (c₃, (n, tt))))) tt r) (fact 𝓤 (r ≡ tableFrom c₀ c₁ c₂ c₃ n))
+  table-is : (c₀ c₁ c₂ c₃ : CoreRecord) (n : ℕ) (r : Table) → ent 𝓤 (ensured 𝓤 H A table-of.ended (table-of.clauses 𝓤 H A at-mem run) tt (c₀, (c₁, (c₂, (c₃, (n, tt))))) tt r) (fact 𝓤 (r ≡ tableFrom c₀ c₁ c₂ c₃ n))
   table-is c₀ c₁ c₂ c₃ n r = exE 𝓤 _ (λ ws. snd∗ 𝓤 (sem 𝓤 H A (lasts table-of.ended tt (c₀, (c₁, (c₂, (c₃, (n, tt))))) ws)) (fact 𝓤 (r ≡ tableFrom c₀ c₁ c₂ c₃ n)))
 
-module _ {M : Type 1} (𝓤 : URA M) (H : Heap 𝓤) (A : Atoms 𝓤) (W : Given 𝓤 H A) (at-mem : Memory → SProp 𝓤) (run : Routine → Fun 𝓤) (κ : Lft) (q : Share) (b o : ℕ) (γ : GName) (ys : List Core) (room : Room R (length ys)) where
+module _ {M : Type 1} (𝓤 : URA M) (H : Heap 𝓤) (A : Atoms 𝓤) (W : Given 𝓤 H A) (at-mem : Memory → SProp 𝓤) (run : Routine → Fun 𝓤) (κ : Lft) (q : Share) (b o : ℕ) (γ : GName) (ys : List CoreRecord) (room : Room R (length ys)) where
   abbrev a : Arg
   a = (record { ptr = (b, o); name = γ; now = ys }, tt)
 
@@ -100,10 +100,10 @@ module _ {M : Type 1} (𝓤 : URA M) (H : Heap 𝓤) (A : Atoms 𝓤) (W : Given
       frame ! $ nothing ! $ move ! (1 ∷ 0 ∷ []) $ fjoin ! $ frame ! $ done !
 
   -- what `table_of`'s triple binds outside, and that the caller has what it asks
-  abbrev to-table : (c₀ c₁ c₂ c₃ : Core) (v₀ v₁ v₂ v₃ : Val) → TableOf 𝓤 H A at-mem run .Ghost
+  abbrev to-table : (c₀ c₁ c₂ c₃ : CoreRecord) (v₀ v₁ v₂ v₃ : Val) → TableOf 𝓤 H A at-mem run .Ghost
   to-table c₀ c₁ c₂ c₃ v₀ v₁ v₂ v₃ = ((tt, tt, tt, (c₀, (c₁, (c₂, (c₃, (length ys, tt))))), (v₀ ∷ [], (v₁ ∷ [], (v₂ ∷ [], (v₃ ∷ [], (vint w64 (length ys) ∷ [], tt)))))), tt)
 
-  goes-table : (c₀ c₁ c₂ c₃ : Core) (v₀ v₁ v₂ v₃ : Val) → Is R c₀ (v₀ ∷ []) → Is R c₁ (v₁ ∷ []) → Is R c₂ (v₂ ∷ []) → Is R c₃ (v₃ ∷ []) → ent 𝓤 (emp 𝓤) (TableOf 𝓤 H A at-mem run .pre (to-table c₀ c₁ c₂ c₃ v₀ v₁ v₂ v₃))
+  goes-table : (c₀ c₁ c₂ c₃ : CoreRecord) (v₀ v₁ v₂ v₃ : Val) → Is R c₀ (v₀ ∷ []) → Is R c₁ (v₁ ∷ []) → Is R c₂ (v₂ ∷ []) → Is R c₃ (v₃ ∷ []) → ent 𝓤 (emp 𝓤) (TableOf 𝓤 H A at-mem run .pre (to-table c₀ c₁ c₂ c₃ v₀ v₁ v₂ v₃))
   goes-table c₀ c₁ c₂ c₃ v₀ v₁ v₂ v₃ i₀ i₁ i₂ i₃ =
       qed W [] ∵ nothing ! $ owned ! usize (Is usize) (uint-makes 𝓤 H A W w64) (length ys) _ (refl, room .0) $ fjoin ! $
       owned ! R (Is R) (LL.makes T.the-type T′.the-plain 𝓤 H A) c₃ _ i₃ $ fjoin ! $ owned ! R (Is R) (LL.makes T.the-type T′.the-plain 𝓤 H A) c₂ _ i₂ $ fjoin ! $

@@ -42,9 +42,9 @@ use denote.Triple.Table.{entered}
 use denote.Triple.Walked.{says, Stays, stay-slice, stay-none, walkOf, goes-slice, goes-none, Walks, ends-at, walked, walk-meets}
 use denote.Exit.{yes}
 use Rattle.snapshot.specs.Snapshot.{noRecord}
-use Rattle.snapshot.specs.declared.Core.{Core}
-use Rattle.snapshot.proofs.Core as T
-use Rattle.snapshot.proofs.Core.Laws as T′
+use Rattle.snapshot.specs.declared.CoreRecord.{CoreRecord}
+use Rattle.snapshot.proofs.CoreRecord as T
+use Rattle.snapshot.proofs.CoreRecord.Laws as T′
 use Rattle.rikzord.proofs.put_or.Key.{name as #rikzord·put-or}
 use Rattle.rikzord.proofs.put_or as f
 use Rattle.rikzord.proofs.put_or.Statement as stated
@@ -55,20 +55,20 @@ abbrev R : RattleType
 R = T.the-row
 
 abbrev Arg : Type 0
-Arg = RefT (List Core) × (ℕ × (Core × Unit {0}))
+Arg = RefT (List CoreRecord) × (ℕ × (CoreRecord × Unit {0}))
 
 abbrev stayed : Stays (f.ended .signature .params) (f.ended .kept)
 stayed = (stay-slice (0 ∷ []) tt (plain (λ _. R)), (stay-none (λ _. usize) yes, (stay-none (λ _. R) yes, tt)))
 
-abbrev mach : Core → Val
+abbrev mach : CoreRecord → Val
 mach d = LL.tuple-val T.the-type T′.the-laws (T.the-type .to d)
 
 -- the place of a record of the slice is computed without a wrap
-in-range : (ys : List Core) (i : ℕ) → Room R (length ys) → i < length ys → i * 84 < 2 ^ 64
+in-range : (ys : List CoreRecord) (i : ℕ) → Room R (length ys) → i < length ys → i * 84 < 2 ^ 64
 in-range ys i room l = omega (arith, room .1)
 
-module _ {M : Type 1} (𝓤 : URA M) (H : Heap 𝓤) (A : Atoms 𝓤) (W : Given 𝓤 H A) (at-mem : Memory → SProp 𝓤) (run : Routine → Fun 𝓤) (κ : Lft) (q : Share) (b o : ℕ) (γ : GName) (ys : List Core) (i : ℕ) (c : Core) (i-fits : i < 2 ^ 64) (c-is : Is R c (mach c ∷ [])) where
-  abbrev x : List Core → RefT (List Core)
+module _ {M : Type 1} (𝓤 : URA M) (H : Heap 𝓤) (A : Atoms 𝓤) (W : Given 𝓤 H A) (at-mem : Memory → SProp 𝓤) (run : Routine → Fun 𝓤) (κ : Lft) (q : Share) (b o : ℕ) (γ : GName) (ys : List CoreRecord) (i : ℕ) (c : CoreRecord) (i-fits : i < 2 ^ 64) (c-is : Is R c (mach c ∷ [])) where
+  abbrev x : List CoreRecord → RefT (List CoreRecord)
   x l = record { ptr = (b, o); name = γ; now = l }
 
   abbrev a : Arg
@@ -83,7 +83,7 @@ module _ {M : Type 1} (𝓤 : URA M) (H : Heap 𝓤) (A : Atoms 𝓤) (W : Given
   abbrev Post : Val → SProp 𝓤
   Post = walkOf 𝓤 H A f.ended stayed (f.clauses 𝓤 H A at-mem run) .post (((κ, tt), (q, tt), tt, a, at), tt)
 
-  exits : (zs : List Core) → zs ≡ set ys i c → length zs ≡ length ys → ent 𝓤 (⋆ 𝓤 H A (‵ (flft κ q) ∷ ‵ (MutSlice (named 0) κ R .own (x zs) (s ∷ [])) ∷ [])) (Post vunit)
+  exits : (zs : List CoreRecord) → zs ≡ set ys i c → length zs ≡ length ys → ent 𝓤 (⋆ 𝓤 H A (‵ (flft κ q) ∷ ‵ (MutSlice (named 0) κ R .own (x zs) (s ∷ [])) ∷ [])) (Post vunit)
   exits zs e l =
       qed W (‵ (flft κ q) ∷ ‵ (MutSlice (named 0) κ R .own (x zs) (s ∷ [])) ∷ []) ∵
       suffices ! _ (ends-at 𝓤 H A f.ended stayed (f.clauses 𝓤 H A at-mem run) W (((κ, tt), (q, tt), tt, a, at), tt) vunit tt (zs, (tt, (tt, tt))) (l, (tt, (tt, tt)))) $ says ! e $

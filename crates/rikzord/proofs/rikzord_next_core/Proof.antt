@@ -42,7 +42,7 @@ use denote.Exit.{yes}
 use Rattle.semaphore.specs.declared.Semaphore.{Semaphore}
 use Rattle.semaphore.proofs.Semaphore as P
 use Rattle.semaphore.proofs.Semaphore.Laws as P′
-use Rattle.snapshot.specs.declared.Core.{Core}
+use Rattle.snapshot.specs.declared.CoreRecord.{CoreRecord}
 use Rattle.snapshot.specs.declared.Table.{Table}
 use Rattle.snapshot.specs.Snapshot.{ringOf, answered, ringAnswer}
 use Rattle.rikzord.specs.Lent.{loaded, scanned, nextLent}
@@ -93,10 +93,10 @@ module _ {M : Type 1} (𝓤 : URA M) (H : Heap 𝓤) (A : Atoms 𝓤) (at-mem : 
       → ent 𝓤 (ensured 𝓤 H A ring-of.ended (ring-of.clauses 𝓤 H A at-mem run) (κ₀, (κ₁, tt)) (file, (trace, (t, (semaphore, (given, tt))))) tt r) (fact 𝓤 (r ≡ ringOf (file .now) (trace .now) t semaphore given))
   ring-is κ₀ κ₁ file trace t semaphore given r = exE 𝓤 _ (λ ws. snd∗ 𝓤 (sem 𝓤 H A (lasts ring-of.ended (κ₀, (κ₁, tt)) (file, (trace, (t, (semaphore, (given, tt))))) ws)) (fact 𝓤 (r ≡ ringOf (file .now) (trace .now) t semaphore given)))
 
-  scan-is : (κ : Lft) (x : RefT (List Core)) (r : Ring) (k : ℕ) → ent 𝓤 (ensured 𝓤 H A scan.ended (scan.clauses 𝓤 H A at-mem run) (κ, tt) (x, (r, tt)) tt k) (fact 𝓤 (k ≡ scanned (x .now) r))
+  scan-is : (κ : Lft) (x : RefT (List CoreRecord)) (r : Ring) (k : ℕ) → ent 𝓤 (ensured 𝓤 H A scan.ended (scan.clauses 𝓤 H A at-mem run) (κ, tt) (x, (r, tt)) tt k) (fact 𝓤 (k ≡ scanned (x .now) r))
   scan-is κ x r k = exE 𝓤 _ (λ ws. snd∗ 𝓤 (sem 𝓤 H A (lasts scan.ended (κ, tt) (x, (r, tt)) ws)) (fact 𝓤 (k ≡ scanned (x .now) r)))
 
-module _ {M : Type 1} (𝓤 : URA M) (H : Heap 𝓤) (A : Atoms 𝓤) (W : Given 𝓤 H A) (at-mem : Memory → SProp 𝓤) (run : Routine → Fun 𝓤) (κ₀ κ₁ κ₂ κ₃ κ₄ : Lft) (q₀ q₁ q₂ q₃ q₄ : Share) (b-file o-file : ℕ) (γ-file : GName) (file : List ℕ) (b-trace o-trace : ℕ) (γ-trace : GName) (trace : List ℕ) (b-table o-table : ℕ) (γ-table : GName) (table : List Core) (b-semaphore o-semaphore : ℕ) (γ-semaphore : GName) (semaphore : Semaphore) (given : ℕ) (b-found o-found : ℕ) (γ-found : GName) (found : ℕ) (room-file : Room u8 (length file)) (room-trace : Room u8 (length trace)) (room-table : Room R (length table)) (given-fits : given < 2 ^ 8) where
+module _ {M : Type 1} (𝓤 : URA M) (H : Heap 𝓤) (A : Atoms 𝓤) (W : Given 𝓤 H A) (at-mem : Memory → SProp 𝓤) (run : Routine → Fun 𝓤) (κ₀ κ₁ κ₂ κ₃ κ₄ : Lft) (q₀ q₁ q₂ q₃ q₄ : Share) (b-file o-file : ℕ) (γ-file : GName) (file : List ℕ) (b-trace o-trace : ℕ) (γ-trace : GName) (trace : List ℕ) (b-table o-table : ℕ) (γ-table : GName) (table : List CoreRecord) (b-semaphore o-semaphore : ℕ) (γ-semaphore : GName) (semaphore : Semaphore) (given : ℕ) (b-found o-found : ℕ) (γ-found : GName) (found : ℕ) (room-file : Room u8 (length file)) (room-trace : Room u8 (length trace)) (room-table : Room R (length table)) (given-fits : given < 2 ^ 8) where
   -- what is lent, and its machine values
   abbrev file-ref : RefT (List ℕ)
   file-ref = record { ptr = (b-file, o-file); name = γ-file; now = file }
@@ -116,7 +116,7 @@ module _ {M : Type 1} (𝓤 : URA M) (H : Heap 𝓤) (A : Atoms 𝓤) (W : Given
   abbrev trace-own : Fml
   trace-own = ShrSlice (named 1) κ₁ u8 .own trace-ref (trace-val ∷ [])
 
-  abbrev table-ref : RefT (List Core)
+  abbrev table-ref : RefT (List CoreRecord)
   table-ref = record { ptr = (b-table, o-table); name = γ-table; now = table }
 
   abbrev table-val : Val
@@ -138,7 +138,7 @@ module _ {M : Type 1} (𝓤 : URA M) (H : Heap 𝓤) (A : Atoms 𝓤) (W : Given
   found-val = vptr b-found o-found
 
   abbrev Arg : Type 0
-  Arg = RefT (List ℕ) × (RefT (List ℕ) × (RefT (List Core) × (RefT Semaphore × (ℕ × (RefT ℕ × Unit {0})))))
+  Arg = RefT (List ℕ) × (RefT (List ℕ) × (RefT (List CoreRecord) × (RefT Semaphore × (ℕ × (RefT ℕ × Unit {0})))))
 
   abbrev a : Arg
   a = (file-ref, (trace-ref, (table-ref, (semaphore-ref, (given, (found-ref, tt))))))

@@ -48,11 +48,11 @@ use Rattle.verdict.proofs.Verdict.{pick-true, pick-false}
 use Rattle.semaphore.specs.declared.Semaphore.{Semaphore}
 use Rattle.semaphore.proofs.Semaphore as P
 use Rattle.semaphore.proofs.Semaphore.Laws as P′
-use Rattle.snapshot.specs.declared.Core.{Core}
+use Rattle.snapshot.specs.declared.CoreRecord.{CoreRecord}
 use Rattle.snapshot.specs.declared.After.{After}
 use Rattle.rikzord.specs.Lent.{saved, savedSemaphore}
-use Rattle.snapshot.proofs.Core as T
-use Rattle.snapshot.proofs.Core.Laws as T′
+use Rattle.snapshot.proofs.CoreRecord as T
+use Rattle.snapshot.proofs.CoreRecord.Laws as T′
 use Rattle.snapshot.proofs.After as N
 use Rattle.snapshot.proofs.After.Laws as N′
 use Rattle.rikzord.proofs.Outcomes.{fails, passes}
@@ -70,7 +70,7 @@ use Rattle.rikzord.proofs.save.Code.Mir as code-mir
 abbrev R : RattleType
 R = T.the-row
 
-abbrev mach : Core → Val
+abbrev mach : CoreRecord → Val
 mach c = LL.tuple-val T.the-type T′.the-laws (T.the-type .to c)
 
 abbrev mach-after : After → Val
@@ -79,7 +79,7 @@ mach-after y = LL.tuple-val N.the-type N′.the-laws (N.the-type .to y)
 abbrev mach-semaphore : Semaphore → Val
 mach-semaphore p = LL.tuple-val P.the-type P′.the-laws (P.the-type .to p)
 
-abbrev Fine : Core → Type 0
+abbrev Fine : CoreRecord → Type 0
 Fine c = Is R c (mach c ∷ [])
 
 abbrev stayed : Stays (f.ended .signature .params) (f.ended .kept)
@@ -89,22 +89,22 @@ stayed = (stay-slice (0 ∷ []) tt (plain (λ _. R)), (stay-ref (1 ∷ []) tt (p
 abbrev PutOr : {M : Type 1} (𝓤 : URA M) (H : Heap 𝓤) (A : Atoms 𝓤) (at-mem : Memory → SProp 𝓤) (run : Routine → Fun 𝓤) → Contract 𝓤
 PutOr 𝓤 H A at-mem run = tripleOf 𝓤 H A put-or.signature (put-or.spec 𝓤 H A at-mem run)
 
-module _ {M : Type 1} (𝓤 : URA M) (H : Heap 𝓤) (A : Atoms 𝓤) (W : Given 𝓤 H A) (at-mem : Memory → SProp 𝓤) (run : Routine → Fun 𝓤) (κ : Lft) (q : Share) (b o : ℕ) (γ : GName) (ys : List Core) (room : Room R (length ys)) where
-  abbrev x : GName → List Core → RefT (List Core)
+module _ {M : Type 1} (𝓤 : URA M) (H : Heap 𝓤) (A : Atoms 𝓤) (W : Given 𝓤 H A) (at-mem : Memory → SProp 𝓤) (run : Routine → Fun 𝓤) (κ : Lft) (q : Share) (b o : ℕ) (γ : GName) (ys : List CoreRecord) (room : Room R (length ys)) where
+  abbrev x : GName → List CoreRecord → RefT (List CoreRecord)
   x δ l = record { ptr = (b, o); name = δ; now = l }
 
   abbrev s : Val
   s = sliceVal (b, o) (length ys)
 
   -- what the slice owns at the list l
-  abbrev Own : List Core → Fml
+  abbrev Own : List CoreRecord → Fml
   Own l = MutSlice (named 0) κ R .own (x γ l) (s ∷ [])
 
   -- what `put_or`'s triple binds outside: the slice lent again for the lifetime ν, under the name δ, at the list l
-  abbrev to-put : ℕ → GName → List Core → ℕ → Core → PutOr 𝓤 H A at-mem run .Ghost
+  abbrev to-put : ℕ → GName → List CoreRecord → ℕ → CoreRecord → PutOr 𝓤 H A at-mem run .Ghost
   to-put ν δ l i c = (((ν ∷ [], tt), (fullShare, tt), tt, (x δ l, (i, (c, tt))), (s ∷ [], (vint w64 i ∷ [], (mach c ∷ [], tt)))), tt)
 
-  goes-put : (ν : ℕ) (δ : GName) (l : List Core) (i : ℕ) (c : Core) → i < 2 ^ 64 → Fine c
+  goes-put : (ν : ℕ) (δ : GName) (l : List CoreRecord) (i : ℕ) (c : CoreRecord) → i < 2 ^ 64 → Fine c
       → ent 𝓤 (sep 𝓤 (A .lft (ν ∷ []) fullShare) (sem 𝓤 H A (MutSlice (named 0) (ν ∷ []) R .own (x δ l) (s ∷ [])))) (PutOr 𝓤 H A at-mem run .pre (to-put ν δ l i c))
   goes-put ν δ l i c i-fits c-is =
       qed W (‵ (flft (ν ∷ []) fullShare) ∷ ‵ (MutSlice (named 0) (ν ∷ []) R .own (x δ l) (s ∷ [])) ∷ []) ∵ nothing ! $ owned ! R (Is R) (LL.makes T.the-type T′.the-plain 𝓤 H A) c _ c-is $ fjoin ! $
@@ -112,7 +112,7 @@ module _ {M : Type 1} (𝓤 : URA M) (H : Heap 𝓤) (A : Atoms 𝓤) (W : Given
 
   module _ (C : Calls 𝓤 H) (Λ : Loops 𝓤 H) (fm : FmC 𝓤 H (W .laws) C) (known : Triple 𝓤 (C #rikzord·put-or) (PutOr 𝓤 H A at-mem run)) where
     -- one call of `put_or`: the slice is lent again, and comes back at the new list
-    stores : {Γ : List (Item 𝓤)} {E : Env 𝓤 H} {xs : List Operand} {d : Place} {rest : Body} {p : Kit.Post 𝓤 H} (l : List Core) → length l ≡ length ys → (i : ℕ) → i < 2 ^ 64 → (c : Core) → Fine c
+    stores : {Γ : List (Item 𝓤)} {E : Env 𝓤 H} {xs : List Operand} {d : Place} {rest : Body} {p : Kit.Post 𝓤 H} (l : List CoreRecord) → length l ≡ length ys → (i : ℕ) → i < 2 ^ 64 → (c : CoreRecord) → Fine c
         → ((ν : ℕ) (δ : GName) → Opds (Go {0}) W (raw (PutOr 𝓤 H A at-mem run .pre (to-put ν δ l i c)) ∷ ‵ (LentAgain R κ (ν ∷ []) q γ b o δ l) ∷ Γ) E xs (s ∷ vint w64 i ∷ mach c ∷ []))
         → ((w : Val) → Holds (hasTy tyUnit w) × WT w → Sq W (‵ (Own (set l i c)) ∷ ‵ (flft κ q) ∷ Γ) (lands C Λ E d w rest p))
         → Sq W (‵ (Own l) ∷ ‵ (flft κ q) ∷ Γ) (runs C Λ E (seq (call #rikzord·put-or xs d) rest) p)
@@ -123,12 +123,12 @@ module _ {M : Type 1} (𝓤 : URA M) (H : Heap 𝓤) (A : Atoms 𝓤) (W : Given
         move ! (2 ∷ 0 ∷ []) $ use2 W (raw (PutOr 𝓤 H A at-mem run .pre (to-put ν δ l i c))) (goes-put ν δ l i c i-fits c-is) $
         calls-at ! fm (PutOr 𝓤 H A at-mem run) known (to-put ν δ l i c) (os ν δ) (λ w.
         use1 W (later (some (λ (u : Unit {0}). ((‵ (flft (ν ∷ []) fullShare) ⊛ ‵ ftrue) ⊛ ‵ (Nothing .own u (w ∷ []))) ⊛ raw (ensured 𝓤 H A put-or.ended (put-or.clauses 𝓤 H A at-mem run) (ν ∷ [], tt) (x δ l, (i, (c, tt))) tt u)))) (id⊢ 𝓤 _) $ await ! tt $ pick ! (λ u.
-        split ! $ move ! (1 ∷ []) $ use1 W (some (λ (zs : List Core × (Unit {0} × (Unit {0} × Unit {0}))). ‵ (lasts put-or.ended (ν ∷ [], tt) (x δ l, (i, (c, tt))) zs) ⊛ raw (fact 𝓤 (zs .0 ≡ set l i c)))) (id⊢ 𝓤 _) $ pick ! (λ zs.
+        split ! $ move ! (1 ∷ []) $ use1 W (some (λ (zs : List CoreRecord × (Unit {0} × (Unit {0} × Unit {0}))). ‵ (lasts put-or.ended (ν ∷ [], tt) (x δ l, (i, (c, tt))) zs) ⊛ raw (fact 𝓤 (zs .0 ≡ set l i c)))) (id⊢ 𝓤 _) $ pick ! (λ zs.
         split ! $ move ! (1 ∷ []) $ heard ! (zs .0 ≡ set l i c) (λ e. fsplit ! $ fsplit ! $ move ! (1 ∷ []) $ feqL ! (λ len′.
         -- [the last list; …; the token and the result; what is kept while the slice is lent again; …]
         move ! (2 ∷ []) $ split ! $ move ! (1 ∷ []) $ feqL ! (λ eu. split ! $ lft-end ! tt $ move ! (0 ∷ 4 ∷ 2 ∷ []) $
         use3 W (later (‵ (MutSlice (named 0) κ R .own (x γ (zs .0)) (sliceVal (b, o) (length l) ∷ [])) ⊛ ‵ (flft κ q))) (comes-back R κ (ν ∷ []) q γ b o 𝓤 H A W (named 0) (named 0) l δ (zs .0) (subst (Room R) (sym len) room) len′) $ await ! tt $ split ! $
-        rewrite ! 0 (λ (m : ℕ). ‵ (MutSlice (named 0) κ R .own (x γ (zs .0)) (sliceVal (b, o) m ∷ []))) len refl $ rewrite ! 0 (λ (l′ : List Core). ‵ (Own l′)) e refl $
+        rewrite ! 0 (λ (m : ℕ). ‵ (MutSlice (named 0) κ R .own (x γ (zs .0)) (sliceVal (b, o) m ∷ []))) len refl $ rewrite ! 0 (λ (l′ : List CoreRecord). ‵ (Own l′)) e refl $
         move ! (2 ∷ []) $ drop ! $ move ! (2 ∷ []) $ drop ! $ k w (subst (λ (y : Val). Holds (hasTy tyUnit y) × WT y) (sym (ap only eu)) (tt, tt))))))))))
 
   module _ (κ′ : Lft) (q′ : Share) (b′ o′ : ℕ) (γ′ : GName) (p : Semaphore) (y : After) (y-is : Is N.the-row y (mach-after y ∷ [])) where
@@ -140,7 +140,7 @@ module _ {M : Type 1} (𝓤 : URA M) (H : Heap 𝓤) (A : Atoms 𝓤) (W : Given
     OwnSemaphore p′ = MutRef (named 1) κ′ P.the-row .own (semaphore p′) (vptr b′ o′ ∷ [])
 
     abbrev Arg : Type 0
-    Arg = RefT (List Core) × (RefT Semaphore × (After × Unit {0}))
+    Arg = RefT (List CoreRecord) × (RefT Semaphore × (After × Unit {0}))
 
     abbrev a : Arg
     a = (x γ ys, (semaphore p, (y, tt)))
@@ -149,16 +149,16 @@ module _ {M : Type 1} (𝓤 : URA M) (H : Heap 𝓤) (A : Atoms 𝓤) (W : Given
     at = (s ∷ [], (vptr b′ o′ ∷ [], (mach-after y ∷ [], tt)))
 
     -- the list after each store, and that each has the first's length
-    abbrev z₁ : List Core
+    abbrev z₁ : List CoreRecord
     z₁ = set ys 0 (y .a)
 
-    abbrev z₂ : List Core
+    abbrev z₂ : List CoreRecord
     z₂ = set z₁ 1 (y .b)
 
-    abbrev z₃ : List Core
+    abbrev z₃ : List CoreRecord
     z₃ = set z₂ 2 (y .c)
 
-    abbrev z₄ : List Core
+    abbrev z₄ : List CoreRecord
     z₄ = set z₃ 3 (y .d)
 
     n₁ : length z₁ ≡ length ys
@@ -183,7 +183,7 @@ module _ {M : Type 1} (𝓤 : URA M) (H : Heap 𝓤) (A : Atoms 𝓤) (W : Given
     abbrev Post : Val → SProp 𝓤
     Post = walkOf 𝓤 H A f.ended stayed (f.clauses 𝓤 H A at-mem run) .post (((κ, (κ′, tt)), (q, (q′, tt)), tt, a, at), tt)
 
-    exits : (r : ℕ) (zs : List Core) (p′ : Semaphore) → zs ≡ saved ys y → p′ ≡ savedSemaphore p y → r ≡ y .refusal → length zs ≡ length ys → r < 2 ^ 8
+    exits : (r : ℕ) (zs : List CoreRecord) (p′ : Semaphore) → zs ≡ saved ys y → p′ ≡ savedSemaphore p y → r ≡ y .refusal → length zs ≡ length ys → r < 2 ^ 8
         → ent 𝓤 (⋆ 𝓤 H A (‵ (Own zs) ∷ ‵ (flft κ q) ∷ ‵ (OwnSemaphore p′) ∷ ‵ (flft κ′ q′) ∷ [])) (Post (vint w8 r))
     exits r zs p′ e e′ er len fits =
         qed W (‵ (Own zs) ∷ ‵ (flft κ q) ∷ ‵ (OwnSemaphore p′) ∷ ‵ (flft κ′ q′) ∷ []) ∵

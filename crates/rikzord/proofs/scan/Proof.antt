@@ -47,10 +47,10 @@ use denote.Triple.Walked.{says, Stays, stay-none-slice, stay-none, walkOf, goes-
 use denote.Exit.{yes}
 use Rattle.snapshot.specs.Snapshot.{noRecord, placeAfter, recordMoves}
 use Rattle.rikzord.specs.Lent.{scanned}
-use Rattle.snapshot.specs.declared.Core.{Core}
+use Rattle.snapshot.specs.declared.CoreRecord.{CoreRecord}
 use Rattle.snapshot.specs.declared.Ring.{Ring}
-use Rattle.snapshot.proofs.Core as T
-use Rattle.snapshot.proofs.Core.Laws as T′
+use Rattle.snapshot.proofs.CoreRecord as T
+use Rattle.snapshot.proofs.CoreRecord.Laws as T′
 use Rattle.snapshot.proofs.Ring as Q
 use Rattle.snapshot.proofs.Ring.Laws as Q′
 use Rattle.rikzord.proofs.Outcomes.{holds, fails}
@@ -77,7 +77,7 @@ use Rattle.rikzord.proofs.scan.Code as code
 use Rattle.rikzord.proofs.scan.Code.Mir as code-mir
 
 abbrev Arg : Type 0
-Arg = RefT (List Core) × (Ring × Unit {0})
+Arg = RefT (List CoreRecord) × (Ring × Unit {0})
 
 abbrev stayed : Stays (f.ended .signature .params) (f.ended .kept)
 stayed = (stay-none-slice (0 ∷ []) tt (plain (λ _. R)) yes, (stay-none (λ _. Q.the-row) yes, tt))
@@ -104,10 +104,10 @@ module _ {M : Type 1} (𝓤 : URA M) (H : Heap 𝓤) (A : Atoms 𝓤) (at-mem : 
   place-of : (r : Ring) (i k : ℕ) → ent 𝓤 (ensured 𝓤 H A place-after.ended (place-after.clauses 𝓤 H A at-mem run) tt (r, (i, tt)) tt k) (fact 𝓤 (k ≡ placeAfter r i))
   place-of r i k = exE 𝓤 _ (λ ws. snd∗ 𝓤 (sem 𝓤 H A (lasts place-after.ended tt (r, (i, tt)) ws)) (fact 𝓤 (k ≡ placeAfter r i)))
 
-  moves-of : (r : Ring) (k : ℕ) (c : Core) (z : Bool) → ent 𝓤 (ensured 𝓤 H A moves.ended (moves.clauses 𝓤 H A at-mem run) tt (r, (k, (c, tt))) tt z) (fact 𝓤 (z ≡ recordMoves r k c))
+  moves-of : (r : Ring) (k : ℕ) (c : CoreRecord) (z : Bool) → ent 𝓤 (ensured 𝓤 H A moves.ended (moves.clauses 𝓤 H A at-mem run) tt (r, (k, (c, tt))) tt z) (fact 𝓤 (z ≡ recordMoves r k c))
   moves-of r k c z = exE 𝓤 _ (λ ws. snd∗ 𝓤 (sem 𝓤 H A (lasts moves.ended tt (r, (k, (c, tt))) ws)) (fact 𝓤 (z ≡ recordMoves r k c)))
 
-module _ {M : Type 1} (𝓤 : URA M) (H : Heap 𝓤) (A : Atoms 𝓤) (W : Given 𝓤 H A) (at-mem : Memory → SProp 𝓤) (run : Routine → Fun 𝓤) (κ : Lft) (q : Share) (b o : ℕ) (γ : GName) (ys : List Core) (r : Ring) (room : Room R (length ys)) (r-is : Is Q.the-row r (mach-ring r ∷ [])) where
+module _ {M : Type 1} (𝓤 : URA M) (H : Heap 𝓤) (A : Atoms 𝓤) (W : Given 𝓤 H A) (at-mem : Memory → SProp 𝓤) (run : Routine → Fun 𝓤) (κ : Lft) (q : Share) (b o : ℕ) (γ : GName) (ys : List CoreRecord) (r : Ring) (room : Room R (length ys)) (r-is : Is Q.the-row r (mach-ring r ∷ [])) where
   abbrev a : Arg
   a = (record { ptr = (b, o); name = γ; now = ys }, (r, tt))
 
@@ -140,10 +140,10 @@ module _ {M : Type 1} (𝓤 : URA M) (H : Heap 𝓤) (A : Atoms 𝓤) (W : Given
   goes-place i i-fits =
       qed W [] ∵ nothing ! $ owned ! u8 (Is u8) (uint-makes 𝓤 H A W w8) i _ (refl, i-fits) $ fjoin ! $ owned ! Q.the-row (Is Q.the-row) (LL.makes Q.the-type Q′.the-plain 𝓤 H A) r _ r-is $ fjoin ! $ nothing ! $ join ! $ frame ! $ done !
 
-  abbrev to-moves : ℕ → Core → Val → Moves 𝓤 H A at-mem run .Ghost
+  abbrev to-moves : ℕ → CoreRecord → Val → Moves 𝓤 H A at-mem run .Ghost
   to-moves k c v = ((tt, tt, tt, (r, (k, (c, tt))), (mach-ring r ∷ [], (vint w8 k ∷ [], (v ∷ [], tt)))), tt)
 
-  goes-moves : (k : ℕ) → k < 2 ^ 8 → (c : Core) (v : Val) → Is R c (v ∷ []) → ent 𝓤 (emp 𝓤) (Moves 𝓤 H A at-mem run .pre (to-moves k c v))
+  goes-moves : (k : ℕ) → k < 2 ^ 8 → (c : CoreRecord) (v : Val) → Is R c (v ∷ []) → ent 𝓤 (emp 𝓤) (Moves 𝓤 H A at-mem run .pre (to-moves k c v))
   goes-moves k k-fits c v c-is =
       qed W [] ∵ nothing ! $ owned ! R (Is R) (LL.makes T.the-type T′.the-plain 𝓤 H A) c _ c-is $ fjoin ! $ owned ! u8 (Is u8) (uint-makes 𝓤 H A W w8) k _ (refl, k-fits) $ fjoin ! $
       owned ! Q.the-row (Is Q.the-row) (LL.makes Q.the-type Q′.the-plain 𝓤 H A) r _ r-is $ fjoin ! $ nothing ! $ join ! $ frame ! $ done !
@@ -183,7 +183,7 @@ module _ {M : Type 1} (𝓤 : URA M) (H : Heap 𝓤) (A : Atoms 𝓤) (W : Given
     Left l₀ l₁ l₂ l₃ l₄ l₅ l₆ l₇ l₈ l₉ = afterBlock 𝓤 H (afterSeq 𝓤 H (Wp 𝓤 H (𝓣 .C) (𝓣 .Λ) (E l₀ l₁ l₂ l₃ l₄ l₅ l₆ l₇ l₈ l₉) code-mir.t-4 (atReturn 𝓤 H (E l₀ l₁ l₂ l₃ l₄ l₅ l₆ l₇ l₈ l₉) Post)) (atReturn 𝓤 H (E l₀ l₁ l₂ l₃ l₄ l₅ l₆ l₇ l₈ l₉) Post))
 
     -- a turn with a record left
-    more : (l₀ l₁ l₂ l₃ l₄ l₅ l₆ l₇ l₈ l₉ : ℕ) (n : Core) (u : Val) (en : n ≡ noRecord) (n-is : Is R n (u ∷ [])) (t : Turn ys r) → ltb (t .i) (r .cores) ≡ true → Sq W (I l₀ l₁ l₂ l₃ l₄ l₅ l₆ l₇ l₈ l₉ u t) (runs (𝓣 .C) (𝓣 .Λ) (E l₀ l₁ l₂ l₃ l₄ l₅ l₆ l₇ l₈ l₉) code-mir.turn-1 (anyQ (afterTurn 𝓤 H (Below 𝓤 H A sooner (I l₀ l₁ l₂ l₃ l₄ l₅ l₆ l₇ l₈ l₉ u) t) (Left l₀ l₁ l₂ l₃ l₄ l₅ l₆ l₇ l₈ l₉))))
+    more : (l₀ l₁ l₂ l₃ l₄ l₅ l₆ l₇ l₈ l₉ : ℕ) (n : CoreRecord) (u : Val) (en : n ≡ noRecord) (n-is : Is R n (u ∷ [])) (t : Turn ys r) → ltb (t .i) (r .cores) ≡ true → Sq W (I l₀ l₁ l₂ l₃ l₄ l₅ l₆ l₇ l₈ l₉ u t) (runs (𝓣 .C) (𝓣 .Λ) (E l₀ l₁ l₂ l₃ l₄ l₅ l₆ l₇ l₈ l₉) code-mir.turn-1 (anyQ (afterTurn 𝓤 H (Below 𝓤 H A sooner (I l₀ l₁ l₂ l₃ l₄ l₅ l₆ l₇ l₈ l₉ u) t) (Left l₀ l₁ l₂ l₃ l₄ l₅ l₆ l₇ l₈ l₉))))
     unfolding afterTurn
     more l₀ l₁ l₂ l₃ l₄ l₅ l₆ l₇ l₈ l₉ n u en n-is t e =
         assigns ! (bin ! (load ! (from ! (stop !)) (look ! 12 refl)) (load ! (from ! (fld ! refl (stop !))) (look-in ! 16 (sub ! 1 refl (whole !)))) tt) (from ! (stop !)) (init ! 6 refl (tt, tt)) $
@@ -214,7 +214,7 @@ module _ {M : Type 1} (𝓤 : URA M) (H : Heap 𝓤) (A : Atoms 𝓤) (W : Given
         again ! sooner (I l₀ l₁ l₂ l₃ l₄ l₅ l₆ l₇ l₈ l₉ u) t (turn-next ys r t k c z ek (from-none ys c n k en ec) ez (ltb-true _ _ e) (fails z passed)) (turn-less ys r t k c z ek (from-none ys c n k en ec) ez (ltb-true _ _ e) (fails z passed))))))))))))
 
     -- the turn that leaves the loop, and the rest of the body
-    ends : (l₀ l₁ l₂ l₃ l₄ l₅ l₆ l₇ l₈ l₉ : ℕ) (n : Core) (u : Val) (en : n ≡ noRecord) (n-is : Is R n (u ∷ [])) (t : Turn ys r) → ltb (t .i) (r .cores) ≡ false → Sq W (I l₀ l₁ l₂ l₃ l₄ l₅ l₆ l₇ l₈ l₉ u t) (runs (𝓣 .C) (𝓣 .Λ) (E l₀ l₁ l₂ l₃ l₄ l₅ l₆ l₇ l₈ l₉) code-mir.turn-1 (anyQ (afterTurn 𝓤 H (Below 𝓤 H A sooner (I l₀ l₁ l₂ l₃ l₄ l₅ l₆ l₇ l₈ l₉ u) t) (Left l₀ l₁ l₂ l₃ l₄ l₅ l₆ l₇ l₈ l₉))))
+    ends : (l₀ l₁ l₂ l₃ l₄ l₅ l₆ l₇ l₈ l₉ : ℕ) (n : CoreRecord) (u : Val) (en : n ≡ noRecord) (n-is : Is R n (u ∷ [])) (t : Turn ys r) → ltb (t .i) (r .cores) ≡ false → Sq W (I l₀ l₁ l₂ l₃ l₄ l₅ l₆ l₇ l₈ l₉ u t) (runs (𝓣 .C) (𝓣 .Λ) (E l₀ l₁ l₂ l₃ l₄ l₅ l₆ l₇ l₈ l₉) code-mir.turn-1 (anyQ (afterTurn 𝓤 H (Below 𝓤 H A sooner (I l₀ l₁ l₂ l₃ l₄ l₅ l₆ l₇ l₈ l₉ u) t) (Left l₀ l₁ l₂ l₃ l₄ l₅ l₆ l₇ l₈ l₉))))
     unfolding afterTurn
     ends l₀ l₁ l₂ l₃ l₄ l₅ l₆ l₇ l₈ l₉ n u en n-is t e =
         assigns ! (bin ! (load ! (from ! (stop !)) (look ! 12 refl)) (load ! (from ! (fld ! refl (stop !))) (look-in ! 16 (sub ! 1 refl (whole !)))) tt) (from ! (stop !)) (init ! 6 refl (tt, tt)) $
@@ -225,10 +225,10 @@ module _ {M : Type 1} (𝓤 : URA M) (H : Heap 𝓤) (A : Atoms 𝓤) (W : Given
         move ! (20 ∷ 21 ∷ []) $ free1 ! $ move ! (18 ∷ 19 ∷ []) $ free1 ! $ move ! (16 ∷ 17 ∷ []) $ free1 ! $ move ! (14 ∷ 15 ∷ []) $ free1 ! $ move ! (12 ∷ 13 ∷ []) $ free1 ! $ move ! (10 ∷ 11 ∷ []) $ free1 ! $ move ! (8 ∷ 9 ∷ []) $ free1 ! $ move ! (6 ∷ 7 ∷ []) $ free1 ! $ move ! (4 ∷ 5 ∷ []) $ free1 ! $ move ! (2 ∷ 3 ∷ []) $ free1 ! $ free0 ! $
         keep ! (0 ∷ 1 ∷ []) $ by ! (exits 255 (turn-last ys r t (ltb-false _ _ e)) (lit< tt))
 
-    turns : (l₀ l₁ l₂ l₃ l₄ l₅ l₆ l₇ l₈ l₉ : ℕ) (n : Core) (u : Val) (en : n ≡ noRecord) (n-is : Is R n (u ∷ [])) (t : Turn ys r) → Sq W (I l₀ l₁ l₂ l₃ l₄ l₅ l₆ l₇ l₈ l₉ u t) (runs (𝓣 .C) (𝓣 .Λ) (E l₀ l₁ l₂ l₃ l₄ l₅ l₆ l₇ l₈ l₉) code-mir.turn-1 (anyQ (afterTurn 𝓤 H (Below 𝓤 H A sooner (I l₀ l₁ l₂ l₃ l₄ l₅ l₆ l₇ l₈ l₉ u) t) (Left l₀ l₁ l₂ l₃ l₄ l₅ l₆ l₇ l₈ l₉))))
+    turns : (l₀ l₁ l₂ l₃ l₄ l₅ l₆ l₇ l₈ l₉ : ℕ) (n : CoreRecord) (u : Val) (en : n ≡ noRecord) (n-is : Is R n (u ∷ [])) (t : Turn ys r) → Sq W (I l₀ l₁ l₂ l₃ l₄ l₅ l₆ l₇ l₈ l₉ u t) (runs (𝓣 .C) (𝓣 .Λ) (E l₀ l₁ l₂ l₃ l₄ l₅ l₆ l₇ l₈ l₉) code-mir.turn-1 (anyQ (afterTurn 𝓤 H (Below 𝓤 H A sooner (I l₀ l₁ l₂ l₃ l₄ l₅ l₆ l₇ l₈ l₉ u) t) (Left l₀ l₁ l₂ l₃ l₄ l₅ l₆ l₇ l₈ l₉))))
     turns l₀ l₁ l₂ l₃ l₄ l₅ l₆ l₇ l₈ l₉ n u en n-is t = by-test (ltb (t .i) (r .cores)) (more l₀ l₁ l₂ l₃ l₄ l₅ l₆ l₇ l₈ l₉ n u en n-is t) (ends l₀ l₁ l₂ l₃ l₄ l₅ l₆ l₇ l₈ l₉ n u en n-is t)
 
-    looped : (l₀ l₁ l₂ l₃ l₄ l₅ l₆ l₇ l₈ l₉ : ℕ) (n : Core) (u : Val) → n ≡ noRecord → Is R n (u ∷ []) → ent 𝓤 (⋆ 𝓤 H A (I l₀ l₁ l₂ l₃ l₄ l₅ l₆ l₇ l₈ l₉ u (turn-first ys r))) (Wp 𝓤 H (𝓣 .C) (𝓣 .Λ) (E l₀ l₁ l₂ l₃ l₄ l₅ l₆ l₇ l₈ l₉) code-mir.t-3 (atReturn 𝓤 H (E l₀ l₁ l₂ l₃ l₄ l₅ l₆ l₇ l₈ l₉) Post))
+    looped : (l₀ l₁ l₂ l₃ l₄ l₅ l₆ l₇ l₈ l₉ : ℕ) (n : CoreRecord) (u : Val) → n ≡ noRecord → Is R n (u ∷ []) → ent 𝓤 (⋆ 𝓤 H A (I l₀ l₁ l₂ l₃ l₄ l₅ l₆ l₇ l₈ l₉ u (turn-first ys r))) (Wp 𝓤 H (𝓣 .C) (𝓣 .Λ) (E l₀ l₁ l₂ l₃ l₄ l₅ l₆ l₇ l₈ l₉) code-mir.t-3 (atReturn 𝓤 H (E l₀ l₁ l₂ l₃ l₄ l₅ l₆ l₇ l₈ l₉) Post))
     looped l₀ l₁ l₂ l₃ l₄ l₅ l₆ l₇ l₈ l₉ n u en n-is =
         qed W (I l₀ l₁ l₂ l₃ l₄ l₅ l₆ l₇ l₈ l₉ u (turn-first ys r)) ∵ exec ! (𝓣 .C) (𝓣 .Λ) (E l₀ l₁ l₂ l₃ l₄ l₅ l₆ l₇ l₈ l₉) code-mir.t-3 (atRet (E l₀ l₁ l₂ l₃ l₄ l₅ l₆ l₇ l₈ l₉) Post) $
         first ! $ blocks ! $ loops ! 𝓣 sooner sooner-ends (I l₀ l₁ l₂ l₃ l₄ l₅ l₆ l₇ l₈ l₉ u) (turns l₀ l₁ l₂ l₃ l₄ l₅ l₆ l₇ l₈ l₉ n u en n-is) (turn-first ys r)

@@ -42,17 +42,17 @@ use denote.Triple.Table.{entered, cited}
 use denote.Triple.Walked.{says, Stays, stay-ref, gave-slice, stay-none-slice, stay-none, walkOf, AllGo, goes-none, goes-ref, goes-gave-slice, goes-none-slice, Walks, ends-at, walked, walk-meets}
 use denote.Exit.{yes}
 use Rattle.protocol.specs.declared.Registers.{Registers}
-use Rattle.states.specs.declared.State.{State}
-use Rattle.runner.specs.declared.Ran.{Ran}
+use Rattle.states.specs.declared.Held.{Held}
+use Rattle.runner.specs.declared.RunAnswer.{RunAnswer}
 use Rattle.runner.specs.Runs.{leftAs}
 use Rattle.snapshot.specs.declared.Stepped.{Stepped}
 use Rattle.snapshot.specs.Snapshot.{registersAfter, stepRegisters}
 use Rattle.protocol.proofs.Registers as T
 use Rattle.protocol.proofs.Registers.Laws as T′
-use Rattle.states.proofs.State as S
-use Rattle.states.proofs.State.Laws as S′
-use Rattle.runner.proofs.Ran as N
-use Rattle.runner.proofs.Ran.Laws as N′
+use Rattle.states.proofs.Held as S
+use Rattle.states.proofs.Held.Laws as S′
+use Rattle.runner.proofs.RunAnswer as N
+use Rattle.runner.proofs.RunAnswer.Laws as N′
 use Rattle.snapshot.proofs.Stepped as Ans
 use Rattle.snapshot.proofs.Stepped.Laws as Ans′
 use Rattle.snapshot.proofs.step_with as step-with
@@ -70,10 +70,10 @@ R = T.the-row
 abbrev mach : Registers → Val
 mach r = LL.tuple-val T.the-type T′.the-laws (T.the-type .to r)
 
-abbrev mach-state : State → Val
+abbrev mach-state : Held → Val
 mach-state s = LL.tuple-val S.the-type S′.the-laws (S.the-type .to s)
 
-abbrev mach-ran : Ran → Val
+abbrev mach-ran : RunAnswer → Val
 mach-ran r = LL.tuple-val N.the-type N′.the-laws (N.the-type .to r)
 
 abbrev stayed : Stays (f.ended .signature .params) (f.ended .kept)
@@ -83,7 +83,7 @@ stayed = (stay-none-slice (0 ∷ []) tt (plain (λ _. u8)) yes, (stay-none-slice
 abbrev StepWith : {M : Type 1} (𝓤 : URA M) (H : Heap 𝓤) (A : Atoms 𝓤) (at-mem : Memory → SProp 𝓤) (run : Routine → Fun 𝓤) → Contract 𝓤
 StepWith 𝓤 H A at-mem run = tripleOf 𝓤 H A step-with.signature (step-with.spec 𝓤 H A at-mem run)
 
-module _ {M : Type 1} (𝓤 : URA M) (H : Heap 𝓤) (A : Atoms 𝓤) (W : Given 𝓤 H A) (at-mem : Memory → SProp 𝓤) (run : Routine → Fun 𝓤) (κ₀ κ₁ κ₂ κ₃ κ₄ : Lft) (q₀ q₁ q₂ q₃ q₄ : Share) (b-file o-file : ℕ) (γ-file : GName) (file : List ℕ) (b-trace o-trace : ℕ) (γ-trace : GName) (trace : List ℕ) (s : State) (b-registers o-registers : ℕ) (γ-registers : GName) (registers : Registers) (b-buffer o-buffer : ℕ) (γ-buffer : GName) (buffer : List ℕ) (b-shared o-shared : ℕ) (γ-shared : GName) (shared : List ℕ) (core : ℕ) (room-file : Room u8 (length file)) (room-trace : Room u8 (length trace)) (s-is : Is S.the-row s (mach-state s ∷ [])) (room-buffer : Room u8 (length buffer)) (room-shared : Room u8 (length shared)) (core-fits : core < 2 ^ 8) where
+module _ {M : Type 1} (𝓤 : URA M) (H : Heap 𝓤) (A : Atoms 𝓤) (W : Given 𝓤 H A) (at-mem : Memory → SProp 𝓤) (run : Routine → Fun 𝓤) (κ₀ κ₁ κ₂ κ₃ κ₄ : Lft) (q₀ q₁ q₂ q₃ q₄ : Share) (b-file o-file : ℕ) (γ-file : GName) (file : List ℕ) (b-trace o-trace : ℕ) (γ-trace : GName) (trace : List ℕ) (s : Held) (b-registers o-registers : ℕ) (γ-registers : GName) (registers : Registers) (b-buffer o-buffer : ℕ) (γ-buffer : GName) (buffer : List ℕ) (b-shared o-shared : ℕ) (γ-shared : GName) (shared : List ℕ) (core : ℕ) (room-file : Room u8 (length file)) (room-trace : Room u8 (length trace)) (s-is : Is S.the-row s (mach-state s ∷ [])) (room-buffer : Room u8 (length buffer)) (room-shared : Room u8 (length shared)) (core-fits : core < 2 ^ 8) where
   -- what is lent, and its machine values
   abbrev file-ref : RefT (List ℕ)
   file-ref = record { ptr = (b-file, o-file); name = γ-file; now = file }
@@ -122,7 +122,7 @@ module _ {M : Type 1} (𝓤 : URA M) (H : Heap 𝓤) (A : Atoms 𝓤) (W : Given
   shared-val = sliceVal (b-shared, o-shared) (length shared)
 
   abbrev Arg : Type 0
-  Arg = RefT (List ℕ) × (RefT (List ℕ) × (State × (RefT Registers × (RefT (List ℕ) × (RefT (List ℕ) × (ℕ × Unit {0}))))))
+  Arg = RefT (List ℕ) × (RefT (List ℕ) × (Held × (RefT Registers × (RefT (List ℕ) × (RefT (List ℕ) × (ℕ × Unit {0}))))))
 
   abbrev a : Arg
   a = (file-ref, (trace-ref, (s, (registers-ref, (buffer-ref, (shared-ref, (core, tt)))))))
@@ -146,7 +146,7 @@ module _ {M : Type 1} (𝓤 : URA M) (H : Heap 𝓤) (A : Atoms 𝓤) (W : Given
 
   -- what `step_with`'s triple binds outside, and that the caller has what it asks
   abbrev StepArg : Type 0
-  StepArg = RefT (List ℕ) × (RefT (List ℕ) × (State × (Registers × (RefT (List ℕ) × (RefT (List ℕ) × (ℕ × Unit {0}))))))
+  StepArg = RefT (List ℕ) × (RefT (List ℕ) × (Held × (Registers × (RefT (List ℕ) × (RefT (List ℕ) × (ℕ × Unit {0}))))))
 
   abbrev step-args : StepArg
   step-args = (file-ref, (trace-ref, (s, (registers, (buffer-ref, (shared-ref, (core, tt)))))))

@@ -13,7 +13,7 @@ use Rattle.records.specs.File.{cores}
 use Rattle.taskset.specs.Judge.{codeOf}
 use Rattle.taskset.proofs.Accepted.{core-facts}
 use Rattle.states.specs.declared.CoreTask.{CoreTask}
-use Rattle.states.specs.declared.State.{State}
+use Rattle.states.specs.declared.Held.{Held}
 use Rattle.states.specs.Machine.{noRegisters}
 use Rattle.states.specs.Set.{AcceptedSet}
 use Rattle.states.specs.Tasks.{coreTask}
@@ -56,24 +56,24 @@ module _ (f t : List ℕ) (k : ℕ) (task : CoreTask) (e : task ≡ coreTask f t
       }
 
   -- the rules, with what the task has of file and trace
-  abbrev freed : State → Bool
+  abbrev freed : Held → Bool
   freed s = freedFit (getD (s .cores) k noRegisters) (entry (s .places) k) (entry (s .offsets) k)
 
-  abbrev executes : State → Bool
+  abbrev executes : Held → Bool
   executes s = executionFit (lent f task) (task .size) (task .limit) (getD (s .cores) k noRegisters) (entry (s .places) k) (entry (s .offsets) k)
 
-  abbrev exchanges : State → Bool
+  abbrev exchanges : Held → Bool
   exchanges s = exchangesFit (task .reads) (task .writes) (task .count) (s .semaphore .holder) k (getD (s .cores) k noRegisters)
 
-  abbrev flagged : State → Bool
+  abbrev flagged : Held → Bool
   flagged s = ltb (getD (s .cores) k noRegisters .flags) flagBound
 
-  by-rules : (s : State) → both (executes s) (both (exchanges s) (both (freed s) (flagged s))) ≡ fitAt f t s k
+  by-rules : (s : Held) → both (executes s) (both (exchanges s) (both (freed s) (flagged s))) ≡ fitAt f t s k
   unfolding fitAt coreFit coreTask
   by-rules s = rw (code-is, e)
 
   -- in the order of the code
-  by-task : (s : State) → both (freed s) (both (executes s) (both (exchanges s) (flagged s))) ≡ fitAt f t s k
+  by-task : (s : Held) → both (freed s) (both (executes s) (both (exchanges s) (flagged s))) ≡ fitAt f t s k
   by-task s = third-first (executes s) (exchanges s) (freed s) (flagged s) ∙ by-rules s
 
 mul-r : tie.Need-mul-r
