@@ -184,14 +184,14 @@ fn bounds_in(code: &[u8]) -> Bounds
     let m = measure(code);
     if !m.rise {
         return Bounds {
-            refusal: 25,
+            refusal: verdict::NOT_ABOVE,
             count: 0,
             depth: 0,
         };
     }
     if 65535 < m.count {
         return Bounds {
-            refusal: 26,
+            refusal: verdict::OVER_COUNT,
             count: 0,
             depth: 0,
         };
@@ -277,13 +277,13 @@ fn output_refusal(answer: Taken, lengths: usize, counts: usize, depths: usize) -
         return answer.refusal;
     }
     if lengths < 3 {
-        return 21;
+        return verdict::BAD_LENGTHS;
     }
     if counts < answer.table {
-        return 21;
+        return verdict::BAD_LENGTHS;
     }
     if depths < answer.table {
-        return 21;
+        return verdict::BAD_LENGTHS;
     }
     0
 }

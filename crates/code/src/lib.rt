@@ -443,7 +443,7 @@ fn lay(profile: Profile, code: &[u8], marks: &mut [u8]) -> Laid
         let n = accepted_length(code, p);
         if n == 0 {
             return Laid {
-                refusal: 6,
+                refusal: verdict::BAD_INSTRUCTION,
                 last,
                 outside,
             };
@@ -454,7 +454,7 @@ fn lay(profile: Profile, code: &[u8], marks: &mut [u8]) -> Laid
         // Behind the target: the compiler joins the two matches on the code byte that come before, and no test stands between them.
         if !is_carried(profile, code, p) {
             return Laid {
-                refusal: 27,
+                refusal: verdict::WIDE_TYPE,
                 last,
                 outside,
             };
@@ -501,7 +501,7 @@ fn outside_refusal(outside: bool) -> u8
     ensures { λ r. ⌜ r ≡ pick outside 7 0 ⌝ }
 {
     if outside {
-        return 7;
+        return verdict::BAD_TARGET;
     }
     0
 }
@@ -517,10 +517,10 @@ fn judge_by_map(profile: Profile, code: &[u8], marks: &mut [u8]) -> u8
         return r;
     }
     if !all_met(marks) {
-        return 7;
+        return verdict::BAD_TARGET;
     }
     if 2 <= m.last {
-        return 7;
+        return verdict::BAD_TARGET;
     }
     0
 }

@@ -43,7 +43,7 @@ pub fn to_new(f: &[u8], out: &mut [u8]) -> Converted
     ensures { λ r. ⌜ _≡_ {A = ConversionLeft} (record { answer = r; output = now (out .exit) }) (toNewCall (now (f .entry)) (now (out .entry))) ⌝ }
 {
     if f.len() < 4 {
-        return refused(1);
+        return refused(verdict::CUT_FILE);
     }
     if !taskset::is_old(f) {
         return refused(MARK);
@@ -71,7 +71,7 @@ pub fn to_old(f: &[u8], out: &mut [u8]) -> Converted
     ensures { λ r. ⌜ _≡_ {A = ConversionLeft} (record { answer = r; output = now (out .exit) }) (toOldCall (now (f .entry)) (now (out .entry))) ⌝ }
 {
     if f.len() < 4 {
-        return refused(1);
+        return refused(verdict::CUT_FILE);
     }
     if !taskset::is_new(f) {
         return refused(MARK);

@@ -226,16 +226,16 @@ fn first_refusal(fits: bool, room: bool, held: u8, named: bool) -> u8
     ensures { λ r. ⌜ r ≡ next (unless (both fits room) 21) (next held (unless named 20)) ⌝ }
 {
     if !fits {
-        return 21; // lent memory
+        return verdict::BAD_LENGTHS; // lent memory
     }
     if !room {
-        return 21; // the order list
+        return verdict::BAD_LENGTHS; // the order list
     }
     if held != 0 {
         return held;
     }
     if !named {
-        return 20;
+        return verdict::NO_SUCH_CORE;
     }
     0
 }
@@ -342,7 +342,7 @@ pub fn next_core(file: &[u8], trace: &[u8], s: Held, given: u8) -> Next
         return Next::Refused(prepared.refusal);
     }
     if layout.cores <= given as usize {
-        return Next::Refused(20);
+        return Next::Refused(verdict::NO_SUCH_CORE);
     }
     let tasks = prepared.tasks;
     Next::Found(table::next_moving(file, trace, tasks, layout.cores, s, given))

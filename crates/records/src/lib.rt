@@ -313,7 +313,7 @@ fn overlap_refusal(f: &[u8], i: u8, m: u8) -> u8
     let mut j = i + 1;
     while j < m {
         if overlapping(f, p, record_place(f, j)) {
-            return 5;
+            return verdict::OVERLAPPING;
         }
         j = j + 1;
     }

@@ -304,7 +304,7 @@ pub fn rerun(
     }
     let layout = loaded.layout;
     if !machine::lent_fits(file, layout, buffer.len(), shared.len()) {
-        return refused(21);
+        return refused(verdict::BAD_LENGTHS);
     }
     let traces = taskset::load_trace(file, trace);
     if traces.refusal != 0 {

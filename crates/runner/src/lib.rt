@@ -18,6 +18,7 @@ ghost use Rattle.steps.specs.Bytes.{Ahead};
 ghost use Rattle.runner.specs.Going.{RunGiven};
 ghost use Rattle.runner.specs.Running.{stepsOn, AllOn, executingAt, bytesOn, RunStands, CarriesRun};
 ghost use Rattle.runner.specs.Executing.{ExecutionGiven, Executes};
+ghost use Rattle.protocol.specs.Modes.{executing};
 
 // What a call that moves the machine answers: the refusal number, 0 for none; how many takings it wrote; the state.
 pub struct RunAnswer {
@@ -166,8 +167,8 @@ fn run_core(
     offsets: &mut [u16; 64],
     buffer: &mut [u8],
 ) -> Reached
-    requires { ⌜ RunStands (now file) (now trace) (now order) from k before (now places) (now offsets) (now buffer) × (c ≡ coreTask (now file) (now trace) k) × (stepsOn (now order) from k ≡ true) × (before .mode ≡ 2) ⌝ }
-    ensures { λ x. ⌜ (from < x .step) × CarriesRun (now (file .entry)) (now (trace .entry)) (now (order .entry)) k from before (now (places .entry)) (now (offsets .entry)) (now (buffer .entry)) (x .step) (x .registers) (now (places .exit)) (now (offsets .exit)) (now (buffer .exit)) × (x .registers .mode ≡ 2 → (stepsOn (now (order .entry)) (x .step) k ≡ false) × (x .registers .count + from ≡ before .count + x .step)) ⌝ }
+    requires { ⌜ RunStands (now file) (now trace) (now order) from k before (now places) (now offsets) (now buffer) × (c ≡ coreTask (now file) (now trace) k) × (stepsOn (now order) from k ≡ true) × (before .mode ≡ executing) ⌝ }
+    ensures { λ x. ⌜ (from < x .step) × CarriesRun (now (file .entry)) (now (trace .entry)) (now (order .entry)) k from before (now (places .entry)) (now (offsets .entry)) (now (buffer .entry)) (x .step) (x .registers) (now (places .exit)) (now (offsets .exit)) (now (buffer .exit)) × (x .registers .mode ≡ executing → (stepsOn (now (order .entry)) (x .step) k ≡ false) × (x .registers .count + from ≡ before .count + x .step)) ⌝ }
 {
     let mut counter = before.counter;
     let mut offset = before.offset;
@@ -234,7 +235,7 @@ pub fn run_alone(
     buffer: &mut [u8],
 ) -> Registers
     requires { ⌜ ExecutionGiven (now file) (now trace) k before (now places) (now offsets) (now buffer) × (c ≡ coreTask (now file) (now trace) k) ⌝ }
-    ensures { λ r. ⌜ (r .mode ≢ 2) × Executes (now (file .entry)) (now (trace .entry)) k before (now (places .entry)) (now (offsets .entry)) (now (buffer .entry)) r (now (places .exit)) (now (offsets .exit)) (now (buffer .exit)) ⌝ }
+    ensures { λ r. ⌜ (r .mode ≢ executing) × Executes (now (file .entry)) (now (trace .entry)) k before (now (places .entry)) (now (offsets .entry)) (now (buffer .entry)) r (now (places .exit)) (now (offsets .exit)) (now (buffer .exit)) ⌝ }
 {
     let order = [k as u8; STRETCH];
     let mut r = before;

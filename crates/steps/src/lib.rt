@@ -21,6 +21,7 @@ ghost use Rattle.steps.specs.declared.Exchange.the-variants.{Joins, Writ
 ghost use Rattle.verdict.specs.Verdict.{pick};
 ghost use Rattle.steps.specs.Moving.{StepGiven, CursorAimed, ExchangeGiven};
 ghost use Rattle.steps.specs.Bytes.{Ahead, BytesMoved};
+ghost use Rattle.protocol.specs.Modes.{betweenCycles, readingExchange, executing, writingExchange};
 
 // What one step besides the instructions changes, apart from memory; the run applies it to the core in its table.
 pub enum Exchange {
@@ -83,7 +84,7 @@ fn begin_reading(
     d: &mut [u8],
     turn: bool,
 ) -> Exchange
-    requires { ⌜ StepGiven (now file) (now trace) k c r (now d) × (r .mode ≡ 0) ⌝ }
+    requires { ⌜ StepGiven (now file) (now trace) k c r (now d) × (r .mode ≡ betweenCycles) ⌝ }
     ensures { λ z. ⌜ ExchangesAlone (now (file .entry)) (now (trace .entry)) k r (now (d .entry)) turn z (now (d .exit)) ⌝ }
 {
     let cycles = r.cycles as usize;
@@ -108,7 +109,7 @@ fn read_byte(
     end: usize,
     cursor: Cursor,
 ) -> Exchange
-    requires { ⌜ StepGiven (now file) (now trace) k c r (now d) × (r .mode ≡ 1) × (length (now shared) ≡ 1024) × At (now file) (4 + k) (r .exchange) cursor × (end ≡ recordPlace (now file) (variables (now file))) ⌝ }
+    requires { ⌜ StepGiven (now file) (now trace) k c r (now d) × (r .mode ≡ readingExchange) × (length (now shared) ≡ 1024) × At (now file) (4 + k) (r .exchange) cursor × (end ≡ recordPlace (now file) (variables (now file))) ⌝ }
     ensures { λ z. ⌜ ExchangesOn (now (file .entry)) (now (trace .entry)) k r (now (d .entry)) (now (shared .entry)) z (now (d .exit)) (now (shared .entry)) ⌝ }
 {
     let x = r.exchange as usize;
@@ -124,7 +125,7 @@ fn read_byte(
 
 // Mode 2: one instruction; the limit is tried first.
 fn execute(r: Registers, k: usize, c: CoreTask, file: &[u8], trace: &[u8], d: &mut [u8]) -> Outcome
-    requires { ⌜ StepGiven (now file) (now trace) k c r (now d) × (r .mode ≡ 2) ⌝ }
+    requires { ⌜ StepGiven (now file) (now trace) k c r (now d) × (r .mode ≡ executing) ⌝ }
     ensures { λ o. ⌜ Instructs (now (file .entry)) (now (trace .entry)) k r (now (d .entry)) o (now (d .exit)) ⌝ }
 {
     if (r.count as usize) == c.limit {
@@ -157,7 +158,7 @@ fn write_byte(
     end: usize,
     cursor: Cursor,
 ) -> Exchange
-    requires { ⌜ StepGiven (now file) (now trace) k c r (now d) × (r .mode ≡ 4) × (length (now shared) ≡ 1024) × At (now file) k (r .exchange) cursor × (end ≡ recordPlace (now file) (variables (now file))) ⌝ }
+    requires { ⌜ StepGiven (now file) (now trace) k c r (now d) × (r .mode ≡ writingExchange) × (length (now shared) ≡ 1024) × At (now file) k (r .exchange) cursor × (end ≡ recordPlace (now file) (variables (now file))) ⌝ }
     ensures { λ z. ⌜ ExchangesOn (now (file .entry)) (now (trace .entry)) k r (now (d .entry)) (now (shared .entry)) z (now (d .entry)) (now (shared .exit)) ⌝ }
 {
     let x = r.exchange as usize;
@@ -184,7 +185,7 @@ fn exchange_in(
     cursor: Cursor,
     turn: bool,
 ) -> Exchange
-    requires { ⌜ StepGiven (now file) (now trace) k c r (now d) × (r .mode ≢ 2) × (length (now shared) ≡ 1024) × CursorAimed (now file) k r cursor × (end ≡ recordPlace (now file) (variables (now file))) ⌝ }
+    requires { ⌜ StepGiven (now file) (now trace) k c r (now d) × (r .mode ≢ executing) × (length (now shared) ≡ 1024) × CursorAimed (now file) k r cursor × (end ≡ recordPlace (now file) (variables (now file))) ⌝ }
     ensures { λ z. ⌜ Exchanges (now (file .entry)) (now (trace .entry)) k r (now (d .entry)) (now (shared .entry)) turn z (now (d .exit)) (now (shared .exit)) ⌝ }
 {
     let mode = r.mode;
@@ -208,7 +209,7 @@ pub fn instruction_of(
     trace: &[u8],
     buffer: &mut [u8],
 ) -> Outcome
-    requires { ⌜ StepGiven (now file) (now trace) k c r (getD (split (sizesOf (now file)) (now buffer)) k []) × (length (now buffer) ≡ total (sizesOf (now file))) × (r .mode ≡ 2) ⌝ }
+    requires { ⌜ StepGiven (now file) (now trace) k c r (getD (split (sizesOf (now file)) (now buffer)) k []) × (length (now buffer) ≡ total (sizesOf (now file))) × (r .mode ≡ executing) ⌝ }
     ensures { λ o. ⌜ InstructsIn (now (file .entry)) (now (trace .entry)) k r (now (buffer .entry)) o (now (buffer .exit)) ⌝ }
 {
     let a = c.base;
@@ -229,7 +230,7 @@ pub fn exchange_of(
     cursor: Cursor,
     turn: bool,
 ) -> Exchange
-    requires { ⌜ ExchangeGiven (now file) (now trace) k c r (now buffer) (now shared) end cursor × (r .mode ≢ 2) ⌝ }
+    requires { ⌜ ExchangeGiven (now file) (now trace) k c r (now buffer) (now shared) end cursor × (r .mode ≢ executing) ⌝ }
     ensures { λ z. ⌜ ExchangesIn (now (file .entry)) (now (trace .entry)) k r (now (buffer .entry)) (now (shared .entry)) turn z (now (buffer .exit)) (now (shared .exit)) ⌝ }
 {
     let a = c.base;

@@ -68,17 +68,17 @@ fn head_refusal(profile: Profile, f: &[u8]) -> u8
         return 1;
     }
     if !is_mark(f) {
-        return 2;
+        return verdict::NO_MARK;
     }
     if f.len() < 5 {
         return 1;
     }
     let n = f[4] as usize;
     if n < 1 {
-        return 3;
+        return verdict::BAD_CORE;
     }
     if 4 < n {
-        return 3;
+        return verdict::BAD_CORE;
     }
     records::cores_refusal(profile, f, n)
 }
@@ -93,7 +93,7 @@ fn variables_refusal(f: &[u8]) -> u8
     }
     let m = f[at];
     if 64 < m {
-        return 4;
+        return verdict::BAD_VARIABLE;
     }
     let each = records::variables_refusal(f, m);
     if each != 0 {
@@ -113,10 +113,10 @@ fn section_refusal(profile: Profile, f: &[u8], p: usize) -> u8
     }
     let n = memory::word_at(f, p);
     if n < 1 {
-        return 6;
+        return verdict::BAD_INSTRUCTION;
     }
     if 8192 < n {
-        return 6;
+        return verdict::BAD_INSTRUCTION;
     }
     let e = a + n;
     if f.len() < e {
@@ -155,10 +155,10 @@ fn pairs_refusal(f: &[u8], size: usize, p: usize) -> u8
         }
         let place = memory::word_at(f, at);
         if size <= place {
-            return 31;
+            return verdict::BAD_START;
         }
         if place < least {
-            return 31; // not above the one before
+            return verdict::BAD_START; // not above the one before
         }
         least = place + 1;
         i = i + 1;
