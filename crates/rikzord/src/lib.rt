@@ -30,7 +30,7 @@ ghost use Rattle.rikzord.specs.Lent.{loaded, saved, savedSemaphore, lent
 // ---- the lent table
 
 // Record i of a table; `other` past its end.
-pub fn get_or(t: &[CoreRecord], i: usize, other: CoreRecord) -> CoreRecord
+fn get_or(t: &[CoreRecord], i: usize, other: CoreRecord) -> CoreRecord
     ensures { λ r. ⌜ r ≡ getD (now (t .entry)) i other ⌝ }
 {
     if t.len() <= i {
@@ -40,7 +40,7 @@ pub fn get_or(t: &[CoreRecord], i: usize, other: CoreRecord) -> CoreRecord
 }
 
 // Record i of a table is set; past its end nothing changes.
-pub fn put_or(t: &mut [CoreRecord], i: usize, c: CoreRecord)
+fn put_or(t: &mut [CoreRecord], i: usize, c: CoreRecord)
     ensures { λ _. ⌜ now (t .exit) ≡ set (now (t .entry)) i c ⌝ }
 {
     if t.len() <= i {
@@ -50,7 +50,7 @@ pub fn put_or(t: &mut [CoreRecord], i: usize, c: CoreRecord)
 }
 
 // The table copied out.
-pub fn load(t: &[CoreRecord]) -> Table
+fn load(t: &[CoreRecord]) -> Table
     ensures { λ r. ⌜ r ≡ loaded (now (t .entry)) ⌝ }
 {
     let none = snapshot::no_core();
@@ -63,7 +63,7 @@ pub fn load(t: &[CoreRecord]) -> Table
 
 // The scan round the ring: of the lent table's records, from the one after the given core to that core's own, the first whose core can move;
 // 255 where there is none.
-pub fn scan(t: &[CoreRecord], r: Ring) -> u8
+fn scan(t: &[CoreRecord], r: Ring) -> u8
     ensures { λ x. ⌜ x ≡ scanned (now (t .entry)) r ⌝ }
 {
     let none = snapshot::no_core();
@@ -81,7 +81,7 @@ pub fn scan(t: &[CoreRecord], r: Ring) -> u8
 
 // What a call leaves is written back: the table's first four records, as far as it has them, and the semaphore. A refused call returns before
 // anything is stored. The answer is the refusal number.
-pub fn save(t: &mut [CoreRecord], semaphore: &mut Semaphore, x: After) -> u8
+fn save(t: &mut [CoreRecord], semaphore: &mut Semaphore, x: After) -> u8
     ensures { λ r. ⌜ (now (t .exit) ≡ saved (now (t .entry)) x) × ((now (semaphore .exit) ≡ savedSemaphore (now (semaphore .entry)) x) × (r ≡ x .refusal)) ⌝ }
 {
     if x.refusal != 0 {

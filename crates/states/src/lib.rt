@@ -61,13 +61,7 @@ fn no_task() -> CoreTask
 }
 
 // The task of core k, from what loading file and trace has found.
-pub fn core_task(
-    file: &[u8],
-    trace: &[u8],
-    layout: Layout,
-    traces: TraceLayout,
-    k: usize,
-) -> CoreTask
+fn core_task(file: &[u8], trace: &[u8], layout: Layout, traces: TraceLayout, k: usize) -> CoreTask
     requires { ⌜ AcceptedSet (now file) (now trace) × (layout ≡ layoutOf (now file)) × (traces ≡ traceLayout (now file) (now trace)) × (k < cores (now file)) ⌝ }
     ensures { λ r. ⌜ r ≡ coreTask (now (file .entry)) (now (trace .entry)) k ⌝ }
 {
@@ -407,7 +401,7 @@ fn line_fit(file: &[u8], trace: &[u8], tasks: [CoreTask; 4], n: usize, s: Held) 
 }
 
 // The refusal of a state of an accepted file with n cores, whose tasks on a sound trace are given; 0 where it is fit.
-pub fn state_refusal(file: &[u8], trace: &[u8], tasks: [CoreTask; 4], n: usize, s: Held) -> u8
+fn state_refusal(file: &[u8], trace: &[u8], tasks: [CoreTask; 4], n: usize, s: Held) -> u8
     requires { ⌜ AcceptedSet (now file) (now trace) × (tasks ≡ tasksOf (now file) (now trace)) × (n ≡ cores (now file)) ⌝ }
     ensures { λ r. ⌜ r ≡ stateRefusal (now (file .entry)) (now (trace .entry)) s ⌝ }
 {

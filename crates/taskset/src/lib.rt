@@ -126,7 +126,7 @@ fn section_refusal(profile: Profile, f: &[u8], p: usize) -> u8
 }
 
 // How many cores have start values in the file: all n, or none in a file of the old form.
-pub fn start_sections(f: &[u8], n: usize) -> usize
+fn start_sections(f: &[u8], n: usize) -> usize
     requires { ⌜ (4 ≤ length (now f)) × (n ≡ cores (now f)) ⌝ }
     ensures { λ r. ⌜ (r ≡ startSections (now (f .entry))) × (r ≤ n) ⌝ }
 {

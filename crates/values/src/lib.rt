@@ -104,7 +104,7 @@ pub fn lreal_in(v: Value) -> f64
 }
 
 // The float of a pattern. Those above infinity's are NaN.
-pub fn real_of(p: u32) -> f32
+fn real_of(p: u32) -> f32
     ensures { λ r. ⌜ r ≡ Ieee.ofBits binary32 p ⌝ }
 {
     if 0x7f80_0000 < p % 0x8000_0000 {
@@ -114,7 +114,7 @@ pub fn real_of(p: u32) -> f32
     }
 }
 
-pub fn lreal_of(p: u64) -> f64
+fn lreal_of(p: u64) -> f64
     ensures { λ r. ⌜ r ≡ Ieee.ofBits binary64 p ⌝ }
 {
     if 0x7ff0_0000_0000_0000 < p % 0x8000_0000_0000_0000 {
@@ -125,13 +125,13 @@ pub fn lreal_of(p: u64) -> f64
 }
 
 // The pattern of a float. Every NaN has the same.
-pub fn real_bits(x: f32) -> u32
+fn real_bits(x: f32) -> u32
     ensures { λ r. ⌜ r ≡ Ieee.toBits binary32 x ⌝ }
 {
     if x != x { 0x7fc0_0000 } else { f32::to_bits(x) }
 }
 
-pub fn lreal_bits(x: f64) -> u64
+fn lreal_bits(x: f64) -> u64
     ensures { λ r. ⌜ r ≡ Ieee.toBits binary64 x ⌝ }
 {
     if x != x {
@@ -142,7 +142,7 @@ pub fn lreal_bits(x: f64) -> u64
 }
 
 // The 64 bits of a signed number.
-pub fn bits_of(x: i64) -> u64
+fn bits_of(x: i64) -> u64
     ensures { λ r. ⌜ r ≡ pattern 64 x ⌝ }
 {
     if 0 <= x {
@@ -153,7 +153,7 @@ pub fn bits_of(x: i64) -> u64
 }
 
 // The low w bytes of p.
-pub fn low_bytes(w: usize, p: u64) -> u64
+fn low_bytes(w: usize, p: u64) -> u64
     requires { ⌜ w ≤ 8 ⌝ }
     ensures { λ r. ⌜ r ≡ p % 2 ^ (8 * w) ⌝ }
 {
@@ -177,7 +177,7 @@ fn below_zero(k: u64) -> i64
 }
 
 // The pattern p of w bytes, read in two's complement. Below eight bytes without a branch, so that a load extends the sign itself.
-pub fn signed_of(w: usize, p: u64) -> i64
+fn signed_of(w: usize, p: u64) -> i64
     requires { ⌜ (0 < w) × (w ≤ 8) × (p < 2 ^ (8 * w)) ⌝ }
     ensures { λ r. ⌜ r ≡ signed (8 * w) p ⌝ }
 {
@@ -193,7 +193,7 @@ pub fn signed_of(w: usize, p: u64) -> i64
 }
 
 // z brought into the range of w bytes.
-pub fn wrap_signed(w: usize, z: i64) -> i64
+fn wrap_signed(w: usize, z: i64) -> i64
     requires { ⌜ (0 < w) × (w ≤ 8) ⌝ }
     ensures { λ r. ⌜ r ≡ wrap (8 * w) z ⌝ }
 {
