@@ -3,7 +3,7 @@ use mathlib.Core.Path.{sym}
 use native.Mathlib.Omega.{arith}
 use Rattle.verdict.specs.Verdict.{pick}
 use Rattle.code.specs.Commands.{rowOf, lengthOf}
-use Rattle.code.specs.Instructions.{instructionAt}
+use Rattle.code.specs.Flow.{targetAt}
 use Rattle.code.proofs.Laws.{length-at}
 use Rattle.bounds.proofs.Bytes.{no-target-byte}
 use borrow.Author.Needs.{needs}
@@ -64,23 +64,23 @@ cast-result-5 : tie.Need-cast-result-5
 cast-result-5 c = search needs
 
 returns : tie.Need-returns
-unfolding instructionAt pick
+unfolding targetAt rowOf pick
 returns c = rw (c .before .match .keys1) (c .word .ensures)
 
 returns-2 : tie.Need-returns-2
-unfolding instructionAt pick
+unfolding targetAt rowOf pick
 returns-2 c = rw (c .before .match .keys2) (c .word2 .ensures)
 
 returns-3 : tie.Need-returns-3
-unfolding instructionAt pick
+unfolding targetAt rowOf pick
 returns-3 c = rw (c .before .match .keys3) (c .word3 .ensures)
 
 returns-4 : tie.Need-returns-4
-unfolding instructionAt pick
+unfolding targetAt rowOf pick
 returns-4 c = rw (c .before .match .keys4) (c .word4 .ensures)
 
 returns-5 : tie.Need-returns-5
-unfolding instructionAt pick
+unfolding targetAt rowOf pick
 returns-5 c = rw (c .before .match .keys5) (c .word5 .ensures)
 
 returns-6 : tie.Need-returns-6
