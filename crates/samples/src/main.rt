@@ -8,7 +8,6 @@ use runner::RunAnswer;
 use semaphore::Semaphore;
 use states::Held;
 use table::Moving;
-ghost use Rattle.protocol.specs.Modes.{betweenCycles, readingExchange, executing, waitingToWrite, writingExchange, stopped};
 
 const CHANGED: u8 = 99;
 
@@ -803,7 +802,7 @@ fn fit(label: &[u8], f: &[u8], t: &[u8], s: Held) {
 
 fn modes(f: &[u8], t: &[u8], s: Held) {
     let mut r = core_of(s, 0);
-    r.mode = stopped;
+    r.mode = 5;
     fit(b"mode 5", f, t, with_core(s, 0, r));
     r.mode = 6;
     unfit(b"mode 6", f, t, with_core(s, 0, r));
@@ -837,7 +836,7 @@ fn depths(f: &[u8], t: &[u8], s: Held) {
     let mut r = core_of(s, 0);
     r.depth = 1;
     unfit(b"depth 1 in mode 0", f, t, with_core(s, 0, r));
-    r.mode = executing;
+    r.mode = 2;
     r.depth = 16;
     fit(b"depth 16", f, t, with_core(s, 0, r));
     r.depth = 17;
@@ -858,7 +857,7 @@ fn exchanges(f: &[u8], t: &[u8], s: Held) {
     let mut r = core_of(s, 1);
     r.exchange = 1;
     unfit(b"exchange number 1 in mode 0", f, t, with_core(s, 1, r));
-    r.mode = readingExchange;
+    r.mode = 1;
     r.exchange = 2;
     fit(b"exchange number 2 of 2", f, t, with_core(held, 1, r));
     r.exchange = 3;
@@ -872,7 +871,7 @@ fn cycles(f: &[u8], t: &[u8], s: Held) {
     fit(b"cycles 2 of 2", f, t, with_core(s, 0, r));
     r.cycles = 3;
     unfit(b"cycles 3 of 2", f, t, with_core(s, 0, r));
-    r.mode = executing;
+    r.mode = 2;
     r.cycles = 2;
     unfit(b"cycles 2 of 2 in mode 2", f, t, with_core(s, 0, r));
 }
@@ -881,7 +880,7 @@ fn holders(f: &[u8], t: &[u8], s: Held) {
     let mut r = core_of(s, 0);
     unfit(b"held, no core in an exchange", f, t, with_holder(s, 1));
     unfit(b"held by core 2 of two", f, t, with_holder(s, 3));
-    r.mode = writingExchange;
+    r.mode = 4;
     let writing = with_core(s, 0, r);
     fit(b"held by core 0 in mode 4", f, t, with_holder(writing, 1));
     unfit(b"free, core 0 in mode 4", f, t, writing);
@@ -891,7 +890,7 @@ fn holders(f: &[u8], t: &[u8], s: Held) {
         t,
         with_holder(writing, 2),
     );
-    r.mode = readingExchange;
+    r.mode = 1;
     let both = with_core(writing, 1, r);
     unfit(b"two cores in mode 1 or 4", f, t, with_holder(both, 1));
 }
@@ -915,20 +914,20 @@ fn lines(f: &[u8], t: &[u8], s: Held) {
     unfit(b"five in line", f, t, with_line(s, 5, [0, 1, 0, 1]));
     let line = with_line(s, 1, [0, 0, 0, 0]);
     let mut r = core_of(s, 0);
-    r.mode = waitingToWrite;
+    r.mode = 3;
     fit(b"in line and waiting to write", f, t, with_core(line, 0, r));
-    r.mode = executing;
+    r.mode = 2;
     unfit(b"in line and executing", f, t, with_core(line, 0, r));
-    r.mode = stopped;
+    r.mode = 5;
     unfit(b"in line and stopped", f, t, with_core(line, 0, r));
-    r.mode = writingExchange;
+    r.mode = 4;
     unfit(
         b"in line and writing",
         f,
         t,
         with_core(with_holder(line, 1), 0, r),
     );
-    r.mode = betweenCycles;
+    r.mode = 0;
     r.cycles = 2;
     unfit(b"in line and out of records", f, t, with_core(line, 0, r));
 }
@@ -937,7 +936,7 @@ fn stacks(f: &[u8], t: &[u8], s: Held) {
     unfit(b"return place above the depth", f, t, with_entry(s, 6, 0));
     unfit(b"offset above the depth", f, t, with_entry(s, 0, 3));
     let mut r = core_of(s, 0);
-    r.mode = executing;
+    r.mode = 2;
     r.depth = 1;
     let open = with_core(s, 0, r);
     fit(b"return place 6, offset 3", f, t, with_entry(open, 6, 3));
@@ -1004,13 +1003,13 @@ fn next_cores(f: &[u8], t: &[u8], s: Held) {
     case(b"next after core 0", next_number(f, t, s, 0), 101);
     case(b"next after core 1", next_number(f, t, s, 1), 100);
     let mut r = core_of(s, 1);
-    r.mode = waitingToWrite;
+    r.mode = 3;
     case(
         b"next after core 0, core 1 waits",
         next_number(f, t, with_core(s, 1, r), 0),
         101,
     );
-    r.mode = stopped;
+    r.mode = 5;
     let one = with_core(s, 1, r);
     case(
         b"next after core 0, core 1 stopped",
@@ -1028,7 +1027,7 @@ fn next_cores(f: &[u8], t: &[u8], s: Held) {
 // only core 1 moves.
 fn next_held(f: &[u8], t: &[u8], s: Held) {
     let mut r = core_of(s, 0);
-    r.mode = writingExchange;
+    r.mode = 4;
     let held = with_core(with_holder(s, 1), 0, r);
     case(
         b"next after core 0, which writes",
@@ -1040,7 +1039,7 @@ fn next_held(f: &[u8], t: &[u8], s: Held) {
         next_number(f, t, with_line(held, 1, [1, 0, 0, 0]), 0),
         100,
     );
-    r.mode = waitingToWrite;
+    r.mode = 3;
     let both = with_core(held, 1, r);
     case(
         b"next after core 0, core 1 would write",
@@ -1103,9 +1102,9 @@ fn differs(a: Held, b: Held) -> u8 {
 // The bench case of a step in mode 3 against a held semaphore: the first such step joins, a second changes nothing.
 fn joins(f: &[u8], t: &[u8], s: Held) {
     let mut r = core_of(s, 0);
-    r.mode = writingExchange;
+    r.mode = 4;
     let held = with_core(with_holder(s, 1), 0, r);
-    r.mode = waitingToWrite;
+    r.mode = 3;
     let waiting = with_core(held, 1, r);
     let first = stepped(f, t, waiting);
     case(
@@ -1121,7 +1120,7 @@ fn joins(f: &[u8], t: &[u8], s: Held) {
     let free = with_line(s, 2, [1, 0, 7, 7]);
     let mut taking = core_of(stepped(f, t, free), 1);
     case(b"free and first: takes", taking.mode, 1);
-    taking.mode = betweenCycles;
+    taking.mode = 0;
     taking.time = 0;
     case(
         b"and leaves the line, with zeros past it",
