@@ -89,6 +89,11 @@ fn samples() {
         b"goes on",
         b"MCS1\x01\x01\x00\x00\x00\x01\x00\x00\x01\x00\x00\x00",
     );
+    precedence();
+}
+
+// What is judged first where two rules are broken.
+fn precedence() {
     // twice the same file, one after the other
     file(
         b"twice",

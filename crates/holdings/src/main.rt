@@ -35,6 +35,12 @@ fn case(label: &[u8], run: &[u8], span: u32, room: usize) {
 
 // 28, 29 and 30, each alone.
 fn refusals() {
+    spans();
+    places();
+    runs();
+}
+
+fn spans() {
     case(
         b"span 0",
         b"\x00\x00\x00\x00\xE4\x02\xE8\x03\x00\x00\xD0\x02\xD0\x07\x00\x00\xDA\x02",
@@ -65,6 +71,9 @@ fn refusals() {
         4294967295,
         16,
     );
+}
+
+fn places() {
     case(
         b"as many places as records",
         b"\x00\x00\x00\x00\xE4\x02\xE8\x03\x00\x00\xD0\x02\xD0\x07\x00\x00\xDA\x02",
@@ -84,6 +93,9 @@ fn refusals() {
         5,
     );
     case(b"no records and no places", b"", 5000, 0);
+}
+
+fn runs() {
     case(
         b"a time below the one before",
         b"\x00\x00\x00\x00\xE4\x02\xD0\x07\x00\x00\xD0\x02\xCF\x07\x00\x00\xDA\x02",
@@ -167,6 +179,11 @@ fn windows() {
         1,
         16,
     );
+    readings();
+}
+
+// Readings below zero, at the edges, and many.
+fn readings() {
     case(
         b"a repeat at the window's edge",
         b"\x00\x00\x00\x00\x03\x00\x00\x00\x00\x00\xFE\xFF\x00\x00\x00\x00\x08\x00\x05\x00\x00\x00\x06\x00",
