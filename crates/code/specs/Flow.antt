@@ -6,7 +6,7 @@ use Rattle.memory.specs.Memory.{byte, word}
 use Rattle.code.specs.Commands.{Operand, Address, CodePlace, Number, TypeByte, SizeByte, Kind, Returns, Jumps, Branches, Calls, Passes, Row, unknown, row, rowOf, rowOperands, placesOf}
 use Rattle.code.specs.Instructions.{instructionLength}
 
--- a code byte that is unknown leads nowhere: no accepted code has one
+-- the kind of a row; an unknown code byte, which no accepted code has, is told as one that goes on
 abbrev pub kindOf : Row → Kind
 kindOf unknown = Passes
 kindOf (row kind operands) = kind

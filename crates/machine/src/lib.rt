@@ -33,7 +33,7 @@ ghost use Rattle.machine.specs.Calls.{bufferSize, lentFits, setRefusal, 
 const SHARED: usize = 1024;
 
 // The flag byte of a fresh core: the cold-start bit.
-const COLD_START: u8 = 4;
+const FRESH_FLAGS: u8 = 4;
 
 // ---- checks
 
@@ -135,7 +135,7 @@ pub fn fresh_judged(file: &[u8], layout: Layout, buffer: &mut [u8], shared: &mut
     ensures { λ r. ⌜ leftAs r (now (buffer .exit)) (now (shared .exit)) [] ≡ freshCall (now (file .entry)) (now (buffer .entry)) (now (shared .entry)) ⌝ }
 {
     starts::fill(file, layout, buffer, shared);
-    answer(0, table_of(layout.cores as u8, COLD_START))
+    answer(0, table_of(layout.cores as u8, FRESH_FLAGS))
 }
 
 // The fresh state of a file that is loaded under a profile: memories zero but for the start values, mode 0, registers 0, flags 4, semaphore free, nobody in line. A refused call gives a table of no cores.
