@@ -291,7 +291,9 @@ module _ (f : List ℕ) (accepted : judge f ≡ 0) (m : ℕ) (s₀ s : List ℕ)
           upto = omega arith;
           size = ap length copied ∙ length-splice s (v .place) (part buffer (b + local w v) (v .width)) ∙ x .size;
           rest =
-              ap₂ (λ (l : List Variable) (t : List ℕ). withWritten (startData f) l t) (ap (listed (variableAt f) (m - (i + 1))) (add-one i)) (copied ∙ ap (splice s (v .place)) from-writer ∙ ap (λ (u : Variable). splice s (u .place) (part (startData f (writerOf u)) (local (writerOf u) u) (u .width))) same)
+              ap₂ (λ (l : List Variable) (t : List ℕ). withWritten (startData f) l t) (ap (listed (variableAt f) (m - (i + 1))) (add-one i))
+              (copied ∙ ap (splice s (v .place)) from-writer
+              ∙ ap (λ (u : Variable). splice s (u .place) (part (startData f (writerOf u)) (local (writerOf u) u) (u .width))) same)
               ∙ sym (ap (λ (c : ℕ). withWritten (startData f) (listed (variableAt f) c i) s) n)
               ∙ x .rest;
         }

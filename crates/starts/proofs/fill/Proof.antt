@@ -24,10 +24,16 @@ zero-requires-2 : tie.Need-zero-requires-2
 zero-requires-2 c κs = search needs
 
 is-new-requires : tie.Need-is-new-requires
-is-new-requires c κs = omega (arith, records-inside (c .before .before .before .before .before .before .before .before .before .before .before .args .f .now) (keeps-rules (c .before .before .before .before .before .before .before .before .before .before .before .args .f .now) (c .before .before .before .before .before .before .before .before .before .before .before .pre .0) .ends))
+is-new-requires c κs =
+    let start = c .before .before .before .before .before .before .before .before .before .before .before in
+    let f = start .args .f .now in
+    omega (arith, records-inside f (keeps-rules f (start .pre .0) .ends))
 
 write-data-requires : tie.Need-write-data-requires
-write-data-requires c κs = (c .before .before .before .before .before .before .before .before .before .before .before .before .before .before .pre .0, sym (c .before .before .is-new .ensures) ∙ c .before .if1 .taken, c .before .before .before .before .before .before .before .before .before .zero .ensures ∙ ap zeros (c .before .before .before .before .before .before .before .before .before .before .before .before .before .before .pre .2))
+write-data-requires c κs =
+    let after-zero = c .before .before .before .before .before .before .before .before .before in
+    let start = after-zero .before .before .before .before .before in
+    (start .pre .0, sym (c .before .before .is-new .ensures) ∙ c .before .if1 .taken, after-zero .zero .ensures ∙ ap zeros (start .pre .2))
 
 publish-requires : tie.Need-publish-requires
 publish-requires c κs = search needs
@@ -40,7 +46,14 @@ same-length-2 c = search needs
 
 returns : tie.Need-returns
 unfolding startShared
-returns c = (c .before .before .before .before .before .before .before .write-data .ensures, c .before .before .publish .ensures ∙ ap (withWritten (startData (c .before .before .before .before .before .before .before .before .before .before .before .before .before .before .before .before .before .before .before .before .before .before .args .f .now)) (variablesOf (c .before .before .before .before .before .before .before .before .before .before .before .before .before .before .before .before .before .before .before .before .before .before .args .f .now))) (c .before .before .before .before .before .before .before .before .before .before .before .before .before .zero2 .ensures ∙ ap zeros (c .before .before .before .before .before .before .before .before .before .before .before .before .before .before .before .before .before .before .before .before .before .before .pre .3)))
+returns c =
+    let after-write-data = c .before .before .before .before .before .before .before in
+    let after-zero2 = after-write-data .before .before .before .before .before .before in
+    let start = after-zero2 .before .before .before .before .before .before .before .before .before in
+    let f = start .args .f .now in (
+      after-write-data .write-data .ensures,
+      c .before .before .publish .ensures ∙ ap (withWritten (startData f) (variablesOf f)) (after-zero2 .zero2 .ensures ∙ ap zeros (start .pre .3)),
+    )
 
 same-length-3 : tie.Need-same-length-3
 same-length-3 c = search needs
@@ -49,7 +62,15 @@ same-length-4 : tie.Need-same-length-4
 same-length-4 c = search needs
 
 returns-2 : tie.Need-returns-2
-returns-2 c = (c .before .before .before .before .before .before .before .before .zero .ensures ∙ ap zeros (c .before .before .before .before .before .before .before .before .before .before .before .before .before .pre .2) ∙ sym (old-buffer (c .before .before .before .before .before .before .before .before .before .before .before .before .before .args .f .now) (sym (c .before .is-new .ensures) ∙ c .if1 .left)), c .before .before .before .before .zero2 .ensures ∙ ap zeros (c .before .before .before .before .before .before .before .before .before .before .before .before .before .pre .3) ∙ sym (old-shared (c .before .before .before .before .before .before .before .before .before .before .before .before .before .args .f .now) (sym (c .before .is-new .ensures) ∙ c .if1 .left)))
+returns-2 c =
+    let after-is-new = c .before in
+    let after-zero2 = after-is-new .before .before .before in
+    let after-zero = after-zero2 .before .before .before .before in
+    let start = after-zero .before .before .before .before .before in
+    let f = start .args .f .now in (
+      after-zero .zero .ensures ∙ ap zeros (start .pre .2) ∙ sym (old-buffer f (sym (after-is-new .is-new .ensures) ∙ c .if1 .left)),
+      after-zero2 .zero2 .ensures ∙ ap zeros (start .pre .3) ∙ sym (old-shared f (sym (after-is-new .is-new .ensures) ∙ c .if1 .left)),
+    )
 
 pub fill-spec : {M : Type 1} → statement M
 fill-spec =

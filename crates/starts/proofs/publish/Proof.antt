@@ -34,31 +34,82 @@ base-of-requires : tie.Need-base-of-requires Inv-loop μ-loop
 base-of-requires c κs = (c .before .before .before .before .before .before .pre .1, c .writer .ensures .1)
 
 local-place-requires : tie.Need-local-place-requires Inv-loop μ-loop
-local-place-requires c κs = (record-there (c .before .before .before .before .before .before .before .args .f .now) (c .before .before .before .before .before .before .before .pre .0) _ _ _ _ _ (c .before .before .before .loop .inv) (c .before .before .loop-test .taken), c .before .writer .ensures .1)
+local-place-requires c κs =
+    let turn = c .before .before .before in
+    let start = turn .before .before .before .before in
+    (record-there (start .args .f .now) (start .pre .0) _ _ _ _ _ (turn .loop .inv) (c .before .before .loop-test .taken), c .before .writer .ensures .1)
 
 cast-from : tie.Need-cast-from Inv-loop μ-loop
 cast-from c = search needs
 
 add-from : tie.Need-add-from Inv-loop μ-loop
-add-from c = omega (arith, buffer-fits (c .before .before .before .before .before .before .before .before .args .f .now) (c .before .before .before .before .before .before .before .before .pre .0) _ _ _ _ _ (c .before .before .before .before .loop .inv) (c .before .before .before .loop-test .taken) _ _ (c .before .before .writer .ensures .0) (c .before .base-of .ensures), c .local-place .ensures, length-buffer (c .before .before .before .before .before .before .before .before .args .f .now), ap length (c .before .before .before .before .before .before .before .before .pre .2))
+add-from c =
+    let tested = c .before .before .before in
+    let turn = tested .before in
+    let start = turn .before .before .before .before in
+    let f = start .args .f .now in
+    omega (
+      arith,
+      buffer-fits f (start .pre .0) _ _ _ _ _ (turn .loop .inv) (tested .loop-test .taken) _ _ (c .before .before .writer .ensures .0)
+          (c .before .base-of .ensures),
+      c .local-place .ensures,
+      length-buffer f,
+      ap length (start .pre .2),
+    )
 
 shared-place-requires : tie.Need-shared-place-requires Inv-loop μ-loop
-shared-place-requires c κs = record-there (c .before .before .before .before .before .before .before .before .args .f .now) (c .before .before .before .before .before .before .before .before .pre .0) _ _ _ _ _ (c .before .before .before .before .loop .inv) (c .before .before .before .loop-test .taken)
+shared-place-requires c κs =
+    let tested = c .before .before .before in
+    let turn = tested .before in
+    let start = turn .before .before .before .before in
+    record-there (start .args .f .now) (start .pre .0) _ _ _ _ _ (turn .loop .inv) (tested .loop-test .taken)
 
 cast-to : tie.Need-cast-to Inv-loop μ-loop
 cast-to c = search needs
 
 width-requires : tie.Need-width-requires Inv-loop μ-loop
-width-requires c κs = record-there (c .before .before .before .before .before .before .before .before .before .before .args .f .now) (c .before .before .before .before .before .before .before .before .before .before .pre .0) _ _ _ _ _ (c .before .before .before .before .before .before .loop .inv) (c .before .before .before .before .before .loop-test .taken)
+width-requires c κs =
+    let tested = c .before .before .before .before .before in
+    let turn = tested .before in
+    let start = turn .before .before .before .before in
+    record-there (start .args .f .now) (start .pre .0) _ _ _ _ _ (turn .loop .inv) (tested .loop-test .taken)
 
 cast-copy : tie.Need-cast-copy Inv-loop μ-loop
 cast-copy c = search needs
 
 copy-requires : tie.Need-copy-requires Inv-loop μ-loop
-copy-requires c κs = (omega (arith, shared-fits (c .before .before .before .before .before .before .before .before .before .before .before .args .f .now) (c .before .before .before .before .before .before .before .before .before .before .before .pre .0) _ _ _ _ _ (c .before .before .before .before .before .before .before .loop .inv) (c .before .before .before .before .before .before .loop-test .taken) _ _ (c .before .before .before .before .before .writer .ensures .0) (c .before .before .before .before .base-of .ensures), c .before .before .shared-place .ensures, c .width .ensures), omega (arith, buffer-fits (c .before .before .before .before .before .before .before .before .before .before .before .args .f .now) (c .before .before .before .before .before .before .before .before .before .before .before .pre .0) _ _ _ _ _ (c .before .before .before .before .before .before .before .loop .inv) (c .before .before .before .before .before .before .loop-test .taken) _ _ (c .before .before .before .before .before .writer .ensures .0) (c .before .before .before .before .base-of .ensures), c .before .before .before .local-place .ensures, c .width .ensures, length-buffer (c .before .before .before .before .before .before .before .before .before .before .before .args .f .now), ap length (c .before .before .before .before .before .before .before .before .before .before .before .pre .2)))
+copy-requires c κs =
+    let after-local-place = c .before .before .before in
+    let after-base-of = after-local-place .before in
+    let after-writer = after-base-of .before in
+    let tested = after-writer .before in
+    let turn = tested .before in
+    let start = turn .before .before .before .before in
+    let f = start .args .f .now in (
+      omega (
+        arith,
+        shared-fits f (start .pre .0) _ _ _ _ _ (turn .loop .inv) (tested .loop-test .taken) _ _ (after-writer .writer .ensures .0)
+            (after-base-of .base-of .ensures),
+        c .before .before .shared-place .ensures,
+        c .width .ensures,
+      ),
+      omega (
+        arith,
+        buffer-fits f (start .pre .0) _ _ _ _ _ (turn .loop .inv) (tested .loop-test .taken) _ _ (after-writer .writer .ensures .0)
+            (after-base-of .base-of .ensures),
+        after-local-place .local-place .ensures,
+        c .width .ensures,
+        length-buffer f,
+        ap length (start .pre .2),
+      ),
+    )
 
 add-p : tie.Need-add-p Inv-loop μ-loop
-add-p c = omega (arith, record-there (c .before .before .before .before .before .before .before .before .before .before .before .before .before .before .args .f .now) (c .before .before .before .before .before .before .before .before .before .before .before .before .before .before .pre .0) _ _ _ _ _ (c .before .before .before .before .before .before .before .before .before .before .loop .inv) (c .before .before .before .before .before .before .before .before .before .loop-test .taken))
+add-p c =
+    let tested = c .before .before .before .before .before .before .before .before .before in
+    let turn = tested .before in
+    let start = turn .before .before .before .before in
+    omega (arith, record-there (start .args .f .now) (start .pre .0) _ _ _ _ _ (turn .loop .inv) (tested .loop-test .taken))
 
 add-i : tie.Need-add-i Inv-loop μ-loop
 add-i c = omega (arith, c .before .before .before .before .before .before .before .before .before .before .loop .inv .all)
@@ -67,7 +118,19 @@ loop-less : tie.Need-loop-less Inv-loop μ-loop
 loop-less c = omega arith
 
 loop-again : tie.Need-loop-again Inv-loop μ-loop
-loop-again c = publishing-more (c .before .before .before .before .before .before .before .before .before .before .before .before .before .before .args .f .now) (c .before .before .before .before .before .before .before .before .before .before .before .before .before .before .pre .0) _ _ _ _ _ (c .before .before .before .before .before .before .before .before .before .before .loop .inv) (c .before .before .before .before .before .before .before .before .before .loop-test .taken) _ _ (c .before .before .before .before .before .before .before .before .writer .ensures .0) (c .before .before .before .before .before .before .before .base-of .ensures) _ _ (c .before .before .before .before .before .before .before .before .before .before .before .before .before .before .pre .2) (copied-as _ _ _ _ _ _ _ _ _ _ (c .before .before .copy .ensures) (c .before .before .before .before .before .shared-place .ensures) (c .before .before .before .before .before .before .local-place .ensures) (c .before .before .before .width .ensures))
+loop-again c =
+    let after-width = c .before .before .before in
+    let after-shared-place = after-width .before .before in
+    let after-local-place = after-shared-place .before in
+    let after-base-of = after-local-place .before in
+    let after-writer = after-base-of .before in
+    let tested = after-writer .before in
+    let turn = tested .before in
+    let start = turn .before .before .before .before in
+    publishing-more (start .args .f .now) (start .pre .0) _ _ _ _ _ (turn .loop .inv) (tested .loop-test .taken) _ _ (after-writer .writer .ensures .0)
+    (after-base-of .base-of .ensures) _ _ (start .pre .2)
+    (copied-as _ _ _ _ _ _ _ _ _ _ (c .before .before .copy .ensures) (after-shared-place .shared-place .ensures)
+    (after-local-place .local-place .ensures) (after-width .width .ensures))
 
 same-length : tie.Need-same-length Inv-loop μ-loop
 same-length c = c .before .loop .inv .size ∙ sym (c .before .before .before .before .before .pre .3)

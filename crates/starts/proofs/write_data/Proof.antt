@@ -45,46 +45,141 @@ word-at-requires : tie.Need-word-at-requires Inv-loop μ-loop
 word-at-requires c κs = search needs
 
 add-e : tie.Need-add-e Inv-loop μ-loop
-add-e c = omega (arith, room (c .before .before .before .before .before .before .before .args .f .now) _ _ _ _ (c .before .before .loop .inv) (omega (arith, c .before .before .before .before .byte-at .ensures, c .before .loop-test .taken)), c .word-at .ensures .0, filling-size (c .before .before .before .before .before .before .before .args .f .now) _ _ _ _ (c .before .before .loop .inv), ap length (c .before .before .before .before .before .before .before .pre .2), length-replicate {A = ℕ} (total (sizesOf (c .before .before .before .before .before .before .before .args .f .now))) 0)
+add-e c =
+    let turn = c .before .before in
+    let after-byte-at = turn .before .before in
+    let start = after-byte-at .before .before .before in
+    let f = start .args .f .now in
+    omega (
+      arith,
+      room f _ _ _ _ (turn .loop .inv) (omega (arith, after-byte-at .byte-at .ensures, c .before .loop-test .taken)),
+      c .word-at .ensures .0,
+      filling-size f _ _ _ _ (turn .loop .inv),
+      ap length (start .pre .2),
+      length-replicate {A = ℕ} (total (sizesOf f)) 0,
+    )
 
 word-at-requires-2 : tie.Need-word-at-requires-2 Inv-loop μ-loop
 word-at-requires-2 c κs = search needs
 
 add-write-pairs : tie.Need-add-write-pairs Inv-loop μ-loop
-add-write-pairs c = omega (arith, pairs-there (c .before .before .before .before .before .before .before .before .args .f .now) _ _ _ _ (c .before .before .before .loop .inv) (c .before .before .before .before .before .before .before .before .pre .0) (c .before .before .before .before .before .before .before .before .pre .1) _ _ _ (c .before .before .before .before .before .byte-at .ensures) (c .before .before .loop-test .taken) (ap (λ (y : ℕ). (c .before .before .before .loop .a) + y) (c .before .word-at .ensures .0)) (c .word-at2 .ensures .0))
+add-write-pairs c =
+    let turn = c .before .before .before in
+    let after-byte-at = turn .before .before in
+    let start = after-byte-at .before .before .before in
+    omega (
+      arith,
+      pairs-there (start .args .f .now) _ _ _ _ (turn .loop .inv) (start .pre .0) (start .pre .1) _ _ _ (after-byte-at .byte-at .ensures)
+          (c .before .before .loop-test .taken) (ap (λ (y : ℕ). (turn .loop .a) + y) (c .before .word-at .ensures .0)) (c .word-at2 .ensures .0),
+    )
 
 sub-write-pairs : tie.Need-sub-write-pairs Inv-loop μ-loop
-sub-write-pairs c = fits (c .before .before .before .before .before .before .before .before .args .f .now) _ _ _ _ (c .before .before .before .loop .inv) (c .before .before .before .before .before .before .before .before .pre .0) (c .before .before .before .before .before .before .before .before .pre .1) _ _ _ (c .before .before .before .before .before .byte-at .ensures) (c .before .before .loop-test .taken) (ap (λ (y : ℕ). (c .before .before .before .loop .a) + y) (c .before .word-at .ensures .0)) (c .word-at2 .ensures .0) .0
+sub-write-pairs c =
+    let turn = c .before .before .before in
+    let after-byte-at = turn .before .before in
+    let start = after-byte-at .before .before .before in
+    fits (start .args .f .now) _ _ _ _ (turn .loop .inv) (start .pre .0) (start .pre .1) _ _ _ (after-byte-at .byte-at .ensures)
+    (c .before .before .loop-test .taken) (ap (λ (y : ℕ). (turn .loop .a) + y) (c .before .word-at .ensures .0)) (c .word-at2 .ensures .0) .0
 
 part-write-pairs-start : tie.Need-part-write-pairs-start Inv-loop μ-loop
-part-write-pairs-start c = fits (c .before .before .before .before .before .before .before .before .args .f .now) _ _ _ _ (c .before .before .before .loop .inv) (c .before .before .before .before .before .before .before .before .pre .0) (c .before .before .before .before .before .before .before .before .pre .1) _ _ _ (c .before .before .before .before .before .byte-at .ensures) (c .before .before .loop-test .taken) (ap (λ (y : ℕ). (c .before .before .before .loop .a) + y) (c .before .word-at .ensures .0)) (c .word-at2 .ensures .0) .0
+part-write-pairs-start c =
+    let turn = c .before .before .before in
+    let after-byte-at = turn .before .before in
+    let start = after-byte-at .before .before .before in
+    fits (start .args .f .now) _ _ _ _ (turn .loop .inv) (start .pre .0) (start .pre .1) _ _ _ (after-byte-at .byte-at .ensures)
+    (c .before .before .loop-test .taken) (ap (λ (y : ℕ). (turn .loop .a) + y) (c .before .word-at .ensures .0)) (c .word-at2 .ensures .0) .0
 
 part-write-pairs-end : tie.Need-part-write-pairs-end Inv-loop μ-loop
-part-write-pairs-end c = fits (c .before .before .before .before .before .before .before .before .args .f .now) _ _ _ _ (c .before .before .before .loop .inv) (c .before .before .before .before .before .before .before .before .pre .0) (c .before .before .before .before .before .before .before .before .pre .1) _ _ _ (c .before .before .before .before .before .byte-at .ensures) (c .before .before .loop-test .taken) (ap (λ (y : ℕ). (c .before .before .before .loop .a) + y) (c .before .word-at .ensures .0)) (c .word-at2 .ensures .0) .1
+part-write-pairs-end c =
+    let turn = c .before .before .before in
+    let after-byte-at = turn .before .before in
+    let start = after-byte-at .before .before .before in
+    fits (start .args .f .now) _ _ _ _ (turn .loop .inv) (start .pre .0) (start .pre .1) _ _ _ (after-byte-at .byte-at .ensures)
+    (c .before .before .loop-test .taken) (ap (λ (y : ℕ). (turn .loop .a) + y) (c .before .word-at .ensures .0)) (c .word-at2 .ensures .0) .1
 
 write-pairs-requires : tie.Need-write-pairs-requires Inv-loop μ-loop
-write-pairs-requires c κs = (pairs-there (c .before .before .before .before .before .before .before .before .before .args .f .now) _ _ _ _ (c .before .before .before .before .loop .inv) (c .before .before .before .before .before .before .before .before .before .pre .0) (c .before .before .before .before .before .before .before .before .before .pre .1) _ _ _ (c .before .before .before .before .before .before .byte-at .ensures) (c .before .before .before .loop-test .taken) (ap (λ (y : ℕ). (c .before .before .before .before .loop .a) + y) (c .before .before .word-at .ensures .0)) (c .before .word-at2 .ensures .0), pairs-inside (c .before .before .before .before .before .before .before .before .before .args .f .now) _ _ _ _ (c .before .before .before .before .loop .inv) (c .before .before .before .before .before .before .before .before .before .pre .0) (c .before .before .before .before .before .before .before .before .before .pre .1) _ _ _ (c .before .before .before .before .before .before .byte-at .ensures) (c .before .before .before .loop-test .taken) (ap (λ (y : ℕ). (c .before .before .before .before .loop .a) + y) (c .before .before .word-at .ensures .0)) (c .before .word-at2 .ensures .0))
+write-pairs-requires c κs =
+    let after-word-at2 = c .before in
+    let after-word-at = after-word-at2 .before in
+    let tested = after-word-at .before in
+    let turn = tested .before in
+    let after-byte-at = turn .before .before in
+    let start = after-byte-at .before .before .before in
+    let f = start .args .f .now in (
+      pairs-there f _ _ _ _ (turn .loop .inv) (start .pre .0) (start .pre .1) _ _ _ (after-byte-at .byte-at .ensures) (tested .loop-test .taken)
+          (ap (λ (y : ℕ). (turn .loop .a) + y) (after-word-at .word-at .ensures .0)) (after-word-at2 .word-at2 .ensures .0),
+      pairs-inside f _ _ _ _ (turn .loop .inv) (start .pre .0) (start .pre .1) _ _ _ (after-byte-at .byte-at .ensures) (tested .loop-test .taken)
+          (ap (λ (y : ℕ). (turn .loop .a) + y) (after-word-at .word-at .ensures .0)) (after-word-at2 .word-at2 .ensures .0),
+    )
 
 add-p : tie.Need-add-p Inv-loop μ-loop
-add-p c = omega (arith, pairs-there (c .before .before .before .before .before .before .before .before .before .before .before .before .args .f .now) _ _ _ _ (c .before .before .before .before .before .before .before .loop .inv) (c .before .before .before .before .before .before .before .before .before .before .before .before .pre .0) (c .before .before .before .before .before .before .before .before .before .before .before .before .pre .1) _ _ _ (c .before .before .before .before .before .before .before .before .before .byte-at .ensures) (c .before .before .before .before .before .before .loop-test .taken) (ap (λ (y : ℕ). (c .before .before .before .before .before .before .before .loop .a) + y) (c .before .before .before .before .before .word-at .ensures .0)) (c .before .before .before .before .word-at2 .ensures .0))
+add-p c =
+    let after-word-at2 = c .before .before .before .before in
+    let after-word-at = after-word-at2 .before in
+    let tested = after-word-at .before in
+    let turn = tested .before in
+    let after-byte-at = turn .before .before in
+    let start = after-byte-at .before .before .before in
+    omega (
+      arith,
+      pairs-there (start .args .f .now) _ _ _ _ (turn .loop .inv) (start .pre .0) (start .pre .1) _ _ _ (after-byte-at .byte-at .ensures)
+          (tested .loop-test .taken) (ap (λ (y : ℕ). (turn .loop .a) + y) (after-word-at .word-at .ensures .0)) (after-word-at2 .word-at2 .ensures .0),
+    )
 
 mul-p : tie.Need-mul-p Inv-loop μ-loop
-mul-p c = omega (arith, pairs-there (c .before .before .before .before .before .before .before .before .before .before .before .before .args .f .now) _ _ _ _ (c .before .before .before .before .before .before .before .loop .inv) (c .before .before .before .before .before .before .before .before .before .before .before .before .pre .0) (c .before .before .before .before .before .before .before .before .before .before .before .before .pre .1) _ _ _ (c .before .before .before .before .before .before .before .before .before .byte-at .ensures) (c .before .before .before .before .before .before .loop-test .taken) (ap (λ (y : ℕ). (c .before .before .before .before .before .before .before .loop .a) + y) (c .before .before .before .before .before .word-at .ensures .0)) (c .before .before .before .before .word-at2 .ensures .0))
+mul-p c =
+    let after-word-at2 = c .before .before .before .before in
+    let after-word-at = after-word-at2 .before in
+    let tested = after-word-at .before in
+    let turn = tested .before in
+    let after-byte-at = turn .before .before in
+    let start = after-byte-at .before .before .before in
+    omega (
+      arith,
+      pairs-there (start .args .f .now) _ _ _ _ (turn .loop .inv) (start .pre .0) (start .pre .1) _ _ _ (after-byte-at .byte-at .ensures)
+          (tested .loop-test .taken) (ap (λ (y : ℕ). (turn .loop .a) + y) (after-word-at .word-at .ensures .0)) (after-word-at2 .word-at2 .ensures .0),
+    )
 
 add-p-2 : tie.Need-add-p-2 Inv-loop μ-loop
-add-p-2 c = omega (arith, pairs-there (c .before .before .before .before .before .before .before .before .before .before .before .before .args .f .now) _ _ _ _ (c .before .before .before .before .before .before .before .loop .inv) (c .before .before .before .before .before .before .before .before .before .before .before .before .pre .0) (c .before .before .before .before .before .before .before .before .before .before .before .before .pre .1) _ _ _ (c .before .before .before .before .before .before .before .before .before .byte-at .ensures) (c .before .before .before .before .before .before .loop-test .taken) (ap (λ (y : ℕ). (c .before .before .before .before .before .before .before .loop .a) + y) (c .before .before .before .before .before .word-at .ensures .0)) (c .before .before .before .before .word-at2 .ensures .0))
+add-p-2 c =
+    let after-word-at2 = c .before .before .before .before in
+    let after-word-at = after-word-at2 .before in
+    let tested = after-word-at .before in
+    let turn = tested .before in
+    let after-byte-at = turn .before .before in
+    let start = after-byte-at .before .before .before in
+    omega (
+      arith,
+      pairs-there (start .args .f .now) _ _ _ _ (turn .loop .inv) (start .pre .0) (start .pre .1) _ _ _ (after-byte-at .byte-at .ensures)
+          (tested .loop-test .taken) (ap (λ (y : ℕ). (turn .loop .a) + y) (after-word-at .word-at .ensures .0)) (after-word-at2 .word-at2 .ensures .0),
+    )
 
 add-k : tie.Need-add-k Inv-loop μ-loop
-add-k c = omega (arith, keeps-rules (c .before .before .before .before .before .before .before .before .before .before .before .before .args .f .now) (c .before .before .before .before .before .before .before .before .before .before .before .before .pre .0) .most-cores, c .before .before .before .before .before .before .before .before .before .byte-at .ensures)
+add-k c =
+    let after-byte-at = c .before .before .before .before .before .before .before .before .before in
+    let start = after-byte-at .before .before .before in
+    omega (arith, keeps-rules (start .args .f .now) (start .pre .0) .most-cores, after-byte-at .byte-at .ensures)
 
 loop-less : tie.Need-loop-less Inv-loop μ-loop
 loop-less c = omega arith
 
 loop-again : tie.Need-loop-again Inv-loop μ-loop
-loop-again c = filling-more (c .before .before .before .before .before .before .before .before .before .before .before .before .args .f .now) _ _ _ _ (c .before .before .before .before .before .before .before .loop .inv) (c .before .before .before .before .before .before .before .before .before .before .before .before .pre .0) (c .before .before .before .before .before .before .before .before .before .before .before .before .pre .1) _ _ _ (c .before .before .before .before .before .before .before .before .before .byte-at .ensures) (c .before .before .before .before .before .before .loop-test .taken) (ap (λ (y : ℕ). (c .before .before .before .before .before .before .before .loop .a) + y) (c .before .before .before .before .before .word-at .ensures .0)) (c .before .before .before .before .word-at2 .ensures .0) _ _ refl (c .before .before .write-pairs .ensures)
+loop-again c =
+    let after-word-at2 = c .before .before .before .before in
+    let after-word-at = after-word-at2 .before in
+    let tested = after-word-at .before in
+    let turn = tested .before in
+    let after-byte-at = turn .before .before in
+    let start = after-byte-at .before .before .before in
+    filling-more (start .args .f .now) _ _ _ _ (turn .loop .inv) (start .pre .0) (start .pre .1) _ _ _ (after-byte-at .byte-at .ensures)
+    (tested .loop-test .taken) (ap (λ (y : ℕ). (turn .loop .a) + y) (after-word-at .word-at .ensures .0)) (after-word-at2 .word-at2 .ensures .0) _ _ refl
+    (c .before .before .write-pairs .ensures)
 
 same-length : tie.Need-same-length Inv-loop μ-loop
-same-length c = filling-size (c .before .before .before .before .before .before .args .f .now) _ _ _ _ (c .before .loop .inv) ∙ sym (ap length (c .before .before .before .before .before .before .pre .2) ∙ length-replicate {A = ℕ} (total (sizesOf (c .before .before .before .before .before .before .args .f .now))) 0)
+same-length c =
+    let start = c .before .before .before .before .before .before in
+    let f = start .args .f .now in
+    filling-size f _ _ _ _ (c .before .loop .inv) ∙ sym (ap length (start .pre .2) ∙ length-replicate {A = ℕ} (total (sizesOf f)) 0)
 
 returns : tie.Need-returns Inv-loop μ-loop
 returns c = filling-done (c .before .before .before .before .before .before .args .f .now) _ _ _ _ (c .before .loop .inv) _ (c .before .before .before .byte-at .ensures) (c .loop-test .left)
