@@ -29,7 +29,10 @@ cast-total : tie.Need-cast-total Inv-loop μ-loop
 cast-total c = omega (arith, c .shared-slice-known2 .given (c .before .before .before .before .loop .place + 2))
 
 add-total-2 : tie.Need-add-total-2 Inv-loop μ-loop
-add-total-2 c = omega (arith, c .before .before .before .before .loop .inv .rest, bytes-few _ (c .before .before .before .before .before .before .args .bit) (c .before .before .before .before .before .before .pre .0), c .shared-slice-known2 .given (c .before .before .before .before .loop .place + 2))
+add-total-2 c =
+    let turn = c .before .before .before .before in
+    let start = turn .before .before in
+    omega (arith, turn .loop .inv .rest, bytes-few _ (start .args .bit) (start .pre .0), c .shared-slice-known2 .given (turn .loop .place + 2))
 
 add-place : tie.Need-add-place Inv-loop μ-loop
 add-place c = omega (arith, record-there _ (c .before .before .before .before .before .pre .0) (c .before .before .before .loop .inv .place) (omega arith))

@@ -81,10 +81,15 @@ copy-bytes-requires c κs =
 
 add-byte : tie.Need-add-byte Inv-loop μ-loop
 add-byte c =
-    let p = c .before .before .before .before .before .before .before .before .before .before .before .before .before .pre in
-    let w = c .before .before .before .before .before .before .before .before .before .loop .inv in
-    let l = left-some _ _ _ _ _ _ _ _ w (c .before .before .before .before .before .before .before .before .loop-test .taken) (p .6) in
-    omega (arith, c .before .before .before .before .before .before .smaller .ensures .0, at-chosen _ _ (w .at) l .1, c .before .before .before .before .before .before .before .before .before .before .before .before .shared-slice-known .given (c .before .before .before .before .before .before .before .before .before .loop .place + 2))
+    let after-smaller = c .before .before .before .before .before .before in
+    let tested = after-smaller .before .before in
+    let turn = tested .before in
+    let known = turn .before .before .before in
+    let start = known .before in
+    let p = start .pre in
+    let w = turn .loop .inv in
+    let l = left-some _ _ _ _ _ _ _ _ w (tested .loop-test .taken) (p .6) in
+    omega (arith, after-smaller .smaller .ensures .0, at-chosen _ _ (w .at) l .1, known .shared-slice-known .given (turn .loop .place + 2))
 
 sub-left : tie.Need-sub-left Inv-loop μ-loop
 sub-left c = omega (arith, c .before .before .before .before .before .before .smaller .ensures .1)
@@ -104,31 +109,47 @@ seek-requires c κs =
 
 loop-less : tie.Need-loop-less Inv-loop μ-loop
 loop-less c =
-    let p = c .before .before .before .before .before .before .before .before .before .before .before .before .before .before .before .pre in
-    let w = c .before .before .before .before .before .before .before .before .before .before .before .loop .inv in
-    let l = left-some _ _ _ _ _ _ _ _ w (c .before .before .before .before .before .before .before .before .before .before .loop-test .taken) (p .6) in
-    omega (arith, c .before .before .before .before .before .before .before .before .smaller .ensures .1, c .before .before .before .before .before .before .before .before .smaller .ensures .2 (omega (arith, at-chosen _ _ (w .at) l .1)) (c .before .before .before .before .before .before .before .before .before .before .loop-test .taken))
+    let after-smaller = c .before .before .before .before .before .before .before .before in
+    let tested = after-smaller .before .before in
+    let turn = tested .before in
+    let start = turn .before .before .before .before in
+    let p = start .pre in
+    let w = turn .loop .inv in
+    let l = left-some _ _ _ _ _ _ _ _ w (tested .loop-test .taken) (p .6) in
+    omega (arith, after-smaller .smaller .ensures .1, after-smaller .smaller .ensures .2 (omega (arith, at-chosen _ _ (w .at) l .1)) (tested .loop-test .taken))
 
 loop-again : tie.Need-loop-again Inv-loop μ-loop
 loop-again c =
-    let p = c .before .before .before .before .before .before .before .before .before .before .before .before .before .before .before .pre in
-    let w = c .before .before .before .before .before .before .before .before .before .before .before .loop .inv in
-    let some = c .before .before .before .before .before .before .before .before .before .before .loop-test .taken in
+    let after-copy-bytes = c .before .before .before .before in
+    let after-byte-place2 = after-copy-bytes .before .before in
+    let after-byte-place = after-byte-place2 .before in
+    let after-smaller = after-byte-place .before in
+    let tested = after-smaller .before .before in
+    let turn = tested .before in
+    let start = turn .before .before .before .before in
+    let p = start .pre in
+    let w = turn .loop .inv in
+    let some = tested .loop-test .taken in
     let l = left-some _ _ _ _ _ _ _ _ w some (p .6) in
-    let n = c .before .before .before .before .before .before .before .before .smaller .ensures .0 in
+    let n = after-smaller .smaller .ensures .0 in
     let chosen = at-chosen _ _ (w .at) l in
     let side = p .7 _ (at-place _ _ (w .at) l) (at-before _ _ (w .at) l) (chosen .0) in
-    under-on _ _ _ _ _ _ _ _ w some (p .6) _ (c .before .before .before .before .before .before .before .before .smaller .ensures .1) (omega (arith, n, chosen .1)) (c .before .before .before .before .before .before .before .byte-place .ensures) (c .before .before .before .before .before .before .byte-place2 .ensures)
-    (omega (arith, n, chosen .1, c .before .before .before .before .before .before .before .byte-place .ensures, side)) (c .before .before .before .before .copy-bytes .ensures)
+    under-on _ _ _ _ _ _ _ _ w some (p .6) _ (after-smaller .smaller .ensures .1) (omega (arith, n, chosen .1)) (after-byte-place .byte-place .ensures)
+    (after-byte-place2 .byte-place2 .ensures)
+    (omega (arith, n, chosen .1, after-byte-place .byte-place .ensures, side)) (after-copy-bytes .copy-bytes .ensures)
     (at-found _ _ (p .0) _ (place-next _ (at-place _ _ (w .at) l) (at-before _ _ (w .at) l)) (at-whole _ _ (w .at) l _ (c .before .if1 .taken)) (c .seek .ensures .0)
     (λ h. c .seek .ensures .1 (omega (arith, p .1))))
 
 loop-less-2 : tie.Need-loop-less-2 Inv-loop μ-loop
 loop-less-2 c =
-    let p = c .before .before .before .before .before .before .before .before .before .before .before .before .before .before .pre in
-    let w = c .before .before .before .before .before .before .before .before .before .before .loop .inv in
-    let l = left-some _ _ _ _ _ _ _ _ w (c .before .before .before .before .before .before .before .before .before .loop-test .taken) (p .6) in
-    omega (arith, c .before .before .before .before .before .before .before .smaller .ensures .1, c .before .before .before .before .before .before .before .smaller .ensures .2 (omega (arith, at-chosen _ _ (w .at) l .1)) (c .before .before .before .before .before .before .before .before .before .loop-test .taken))
+    let after-smaller = c .before .before .before .before .before .before .before in
+    let tested = after-smaller .before .before in
+    let turn = tested .before in
+    let start = turn .before .before .before .before in
+    let p = start .pre in
+    let w = turn .loop .inv in
+    let l = left-some _ _ _ _ _ _ _ _ w (tested .loop-test .taken) (p .6) in
+    omega (arith, after-smaller .smaller .ensures .1, after-smaller .smaller .ensures .2 (omega (arith, at-chosen _ _ (w .at) l .1)) (tested .loop-test .taken))
 
 loop-again-2 : tie.Need-loop-again-2 Inv-loop μ-loop
 loop-again-2 c =
