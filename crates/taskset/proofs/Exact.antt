@@ -20,7 +20,8 @@ use Rattle.records.specs.File.{cores, corePlace, dataSize, countPlace, variable
 use Rattle.records.specs.Records.{present, coreRefusal, variableRefusal, overlap, pairRefusal, overlapRefusal}
 use Rattle.records.specs.Rules.{CoreRulesFor, VariableRules, Apart}
 use Rattle.records.proofs.Exact.{core-rules, core-ok, variable-rules, variable-ok, apart, overlap-not}
-use Rattle.taskset.specs.Judge.{hasMark, isOld, isNew, isMark, headRefusal, variablesRefusal, codePlace, codeOf, codeRefusal, sectionRefusal, startSections, startPlace, pairPlace, startIn, leastIn, pairOk, startPairRefusal, pairsRefusal, startRefusal, fileEnd, startsRefusal, codesRefusal, judgeFor, judge}
+use Rattle.taskset.specs.Judge.{hasMark, isOld, isNew, isMark, headRefusal, variablesRefusal, codePlace, codeOf, codeRefusal, sectionRefusal, startSections, startPlace, pairPlace}
+use Rattle.taskset.specs.Judge.{startIn, leastIn, pairOk, startPairRefusal, pairsRefusal, startRefusal, fileEnd, startsRefusal, codesRefusal, judgeFor, judge}
 use Rattle.taskset.specs.Rules.{Mark, PairRules, WellFormedFor, WellFormed}
 
 -- ---- the mark

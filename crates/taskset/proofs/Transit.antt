@@ -21,7 +21,8 @@ use Rattle.code.specs.Code.{judgeCodeFor}
 use Rattle.protocol.specs.Variables.{Variable, local}
 use Rattle.records.specs.File.{cores, corePlace, dataSize, inputSize, countPlace, variables, recordPlace, variableAt}
 use Rattle.records.specs.Records.{present, coreOk, coreRefusal, placeOk, partOk, partsOk, variableOk, variableRefusal, overlap, pairRefusal, overlapRefusal}
-use Rattle.taskset.specs.Judge.{oldMark, newMark, hasMark, isNew, isMark, headRefusal, variablesRefusal, codePlace, codeRefusal, sectionRefusal, startSections, startPlace, pairPlace, leastIn, pairOk, startPairRefusal, pairsRefusal, startRefusal, fileEnd, startsRefusal, codesRefusal, judgeFor, judge}
+use Rattle.taskset.specs.Judge.{oldMark, newMark, hasMark, isNew, isMark, headRefusal, variablesRefusal, codePlace, codeRefusal, sectionRefusal, startSections, startPlace}
+use Rattle.taskset.specs.Judge.{pairPlace, leastIn, pairOk, startPairRefusal, pairsRefusal, startRefusal, fileEnd, startsRefusal, codesRefusal, judgeFor, judge}
 use Rattle.taskset.specs.Transit.{InTransitFor, InTransit}
 use Rattle.taskset.proofs.Laws.{records-present}
 

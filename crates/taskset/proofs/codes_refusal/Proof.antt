@@ -29,8 +29,13 @@ section-refusal-requires c κs = omega (arith, c .before .loop .inv .small, c .b
 
 returns : tie.Need-returns Inv-loop μ-loop
 unfolding codesRefusal
-returns c = rw (sym (c .before .before .before .before .before .pre .2))
-    (stop _ (going-stop _ _ _ _ _ (c .before .before .before .loop .inv .going) (c .before .before .loop-test .taken) (c .before .section-refusal .ensures ∙ ap (sectionRefusal (c .before .before .before .before .before .args .profile) (c .before .before .before .before .before .args .f .now)) (c .before .before .before .loop .inv .here)) (c .if1 .taken)) (c .if1 .taken))
+returns c =
+    let turn = c .before .before .before in
+    let start = turn .before .before in
+    rw (sym (start .pre .2))
+    (stop _ (going-stop _ _ _ _ _ (turn .loop .inv .going) (c .before .before .loop-test .taken)
+    (c .before .section-refusal .ensures ∙ ap (sectionRefusal (start .args .profile) (start .args .f .now)) (turn .loop .inv .here))
+    (c .if1 .taken)) (c .if1 .taken))
 
 add-p : tie.Need-add-p Inv-loop μ-loop
 add-p c = omega (arith, c .before .before .before .loop .inv .small, c .before .before .before .before .before .pre .1)
@@ -55,7 +60,14 @@ start-sections-requires c κs = (c .before .before .before .pre .0, c .before .b
 
 starts-refusal-requires : tie.Need-starts-refusal-requires Inv-loop μ-loop
 unfolding startPlace
-starts-refusal-requires c κs = (omega (arith, c .start-sections .ensures .1, c .before .before .before .before .pre .1), c .start-sections .ensures .0, sections-end _ _ _ _ _ (c .before .before .loop .inv) (c .before .loop-test .left) ∙ ap (codePlace (c .before .before .before .before .args .f .now)) (c .before .before .before .before .pre .2), omega (arith, c .before .before .loop .inv .small, c .before .before .loop .inv .upto, c .before .before .before .before .pre .1))
+starts-refusal-requires c κs =
+    let turn = c .before .before in
+    let start = turn .before .before in (
+      omega (arith, c .start-sections .ensures .1, start .pre .1),
+      c .start-sections .ensures .0,
+      sections-end _ _ _ _ _ (turn .loop .inv) (c .before .loop-test .left) ∙ ap (codePlace (start .args .f .now)) (start .pre .2),
+      omega (arith, turn .loop .inv .small, turn .loop .inv .upto, start .pre .1),
+    )
 
 returns-2 : tie.Need-returns-2 Inv-loop μ-loop
 unfolding codesRefusal

@@ -58,7 +58,22 @@ word-at-requires-4 c κs = search needs
 
 returns-2 : tie.Need-returns-2
 unfolding coreLayout pick
-returns-2 c = rw (sym (c .before .before .before .before .word-at .ensures .0), sym (c .before .before .before .word-at2 .ensures .0), sym (c .before .before .word-at3 .ensures .0), sym (c .before .base-place .ensures), sym (c .before .before .before .before .before .code-place .ensures .0), sym (c .word-at4 .ensures .0), sym (c .before .before .before .before .before .before .before .byte-at .ensures), lt-ltb _ _ (c .before .before .before .before .before .before .if1 .left))
+returns-2 c =
+    let after-word-at2 = c .before .before .before in
+    let after-word-at = after-word-at2 .before in
+    let after-code-place = after-word-at .before in
+    let else1 = after-code-place .before in
+    let after-byte-at = else1 .before in
+    rw (
+      sym (after-word-at .word-at .ensures .0),
+      sym (after-word-at2 .word-at2 .ensures .0),
+      sym (c .before .before .word-at3 .ensures .0),
+      sym (c .before .base-place .ensures),
+      sym (after-code-place .code-place .ensures .0),
+      sym (c .word-at4 .ensures .0),
+      sym (after-byte-at .byte-at .ensures),
+      lt-ltb _ _ (else1 .if1 .left),
+    )
 
 pub core-layout-spec : {M : Type 1} → statement M
 core-layout-spec =

@@ -31,18 +31,39 @@ cast-n c = omega (arith, c .before .before .before .before .before .shared-slice
 
 returns-4 : tie.Need-returns-4
 unfolding headRefusal
-returns-4 c = skip (yes _ _ (le-leb _ _ (c .before .before .before .before .before .if1 .left))) (skip (yes _ _ (sym (c .before .before .before .before .is-mark .ensures) ∙ not-false _ (c .before .before .before .if2 .left))) (skip (yes _ _ (le-leb _ _ (c .before .before .if3 .left))) (halt 2 _ (no _ _ (rw (lt-leb _ _ (c .if4 .taken)))))))
+returns-4 c =
+    let else2 = c .before .before .before in
+    let after-is-mark = else2 .before in
+    let else1 = after-is-mark .before in
+    skip (yes _ _ (le-leb _ _ (else1 .if1 .left)))
+    (skip (yes _ _ (sym (after-is-mark .is-mark .ensures) ∙ not-false _ (else2 .if2 .left)))
+    (skip (yes _ _ (le-leb _ _ (c .before .before .if3 .left))) (halt 2 _ (no _ _ (rw (lt-leb _ _ (c .if4 .taken)))))))
 
 returns-5 : tie.Need-returns-5
 unfolding headRefusal
-returns-5 c = skip (yes _ _ (le-leb _ _ (c .before .before .before .before .before .before .if1 .left))) (skip (yes _ _ (sym (c .before .before .before .before .before .is-mark .ensures) ∙ not-false _ (c .before .before .before .before .if2 .left))) (skip (yes _ _ (le-leb _ _ (c .before .before .before .if3 .left))) (halt 2 _ (no _ _ (rw (le-leb _ _ (c .before .if4 .left), lt-leb _ _ (c .if5 .taken)))))))
+returns-5 c =
+    let else3 = c .before .before .before in
+    let else2 = else3 .before in
+    let after-is-mark = else2 .before in
+    let else1 = after-is-mark .before in
+    skip (yes _ _ (le-leb _ _ (else1 .if1 .left)))
+    (skip (yes _ _ (sym (after-is-mark .is-mark .ensures) ∙ not-false _ (else2 .if2 .left)))
+    (skip (yes _ _ (le-leb _ _ (else3 .if3 .left))) (halt 2 _ (no _ _ (rw (le-leb _ _ (c .before .if4 .left), lt-leb _ _ (c .if5 .taken)))))))
 
 cores-refusal-requires : tie.Need-cores-refusal-requires
 cores-refusal-requires c κs = search needs
 
 returns-6 : tie.Need-returns-6
 unfolding headRefusal
-returns-6 c = skip (yes _ _ (le-leb _ _ (c .before .before .before .before .before .before .before .if1 .left))) (skip (yes _ _ (sym (c .before .before .before .before .before .before .is-mark .ensures) ∙ not-false _ (c .before .before .before .before .before .if2 .left))) (skip (yes _ _ (le-leb _ _ (c .before .before .before .before .if3 .left))) (skip (yes _ _ (rw (le-leb _ _ (c .before .before .if4 .left), le-leb _ _ (c .before .if5 .left)))) (c .cores-refusal .ensures))))
+returns-6 c =
+    let else3 = c .before .before .before .before in
+    let else2 = else3 .before in
+    let after-is-mark = else2 .before in
+    let else1 = after-is-mark .before in
+    skip (yes _ _ (le-leb _ _ (else1 .if1 .left)))
+    (skip (yes _ _ (sym (after-is-mark .is-mark .ensures) ∙ not-false _ (else2 .if2 .left)))
+    (skip (yes _ _ (le-leb _ _ (else3 .if3 .left)))
+    (skip (yes _ _ (rw (le-leb _ _ (c .before .before .if4 .left), le-leb _ _ (c .before .if5 .left)))) (c .cores-refusal .ensures))))
 
 pub head-refusal-spec : {M : Type 1} → statement M
 head-refusal-spec =

@@ -45,13 +45,30 @@ record-place-requires c κs = search needs
 
 codes-refusal-requires : tie.Need-codes-refusal-requires
 unfolding codePlace
-codes-refusal-requires c κs = let f = c .before .before .before .before .before .before .before .before .args .f .now in
-    let n = head-cores (c .before .before .before .before .before .before .before .before .args .profile) f (sym (c .before .before .before .before .before .before .head-refusal .ensures) ∙ c .before .before .before .before .before .if1 .left) in
-    (head-long (c .before .before .before .before .before .before .before .before .args .profile) f (sym (c .before .before .before .before .before .before .head-refusal .ensures) ∙ c .before .before .before .before .before .if1 .left), omega (arith, c .before .before .byte-at .ensures, n), c .before .before .byte-at .ensures, c .record-place .ensures .0 ∙ ap (recordPlace f) (c .before .byte-at2 .ensures ∙ ap (λ (k : ℕ). getD f (5 + 6 * k) 0) (c .before .before .byte-at .ensures)), omega (arith, c .record-place .ensures .1))
+codes-refusal-requires c κs =
+    let after-byte-at = c .before .before in
+    let else1 = after-byte-at .before .before .before in
+    let after-head-refusal = else1 .before in
+    let start = after-head-refusal .before .before in
+    let f = start .args .f .now in
+    let n = head-cores (start .args .profile) f (sym (after-head-refusal .head-refusal .ensures) ∙ else1 .if1 .left) in (
+      head-long (start .args .profile) f (sym (after-head-refusal .head-refusal .ensures) ∙ else1 .if1 .left),
+      omega (arith, after-byte-at .byte-at .ensures, n),
+      after-byte-at .byte-at .ensures,
+      c .record-place .ensures .0
+          ∙ ap (recordPlace f) (c .before .byte-at2 .ensures ∙ ap (λ (k : ℕ). getD f (5 + 6 * k) 0) (after-byte-at .byte-at .ensures)),
+      omega (arith, c .record-place .ensures .1),
+    )
 
 returns-3 : tie.Need-returns-3
 unfolding judgeFor
-returns-3 c = skip (sym (c .before .before .before .before .before .before .before .head-refusal .ensures) ∙ c .before .before .before .before .before .before .if1 .left) (skip (sym (c .before .before .before .before .before .variables-refusal .ensures) ∙ c .before .before .before .before .if2 .left) (c .codes-refusal .ensures))
+returns-3 c =
+    let else2 = c .before .before .before .before in
+    let after-variables-refusal = else2 .before in
+    let else1 = after-variables-refusal .before in
+    let after-head-refusal = else1 .before in
+    skip (sym (after-head-refusal .head-refusal .ensures) ∙ else1 .if1 .left)
+    (skip (sym (after-variables-refusal .variables-refusal .ensures) ∙ else2 .if2 .left) (c .codes-refusal .ensures))
 
 pub judge-file-for-spec : {M : Type 1} → statement M
 judge-file-for-spec =

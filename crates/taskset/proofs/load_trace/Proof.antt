@@ -36,7 +36,26 @@ first-of-requires-4 c κs = search needs
 
 returns : tie.Need-returns
 unfolding loadTraceOf pick
-returns c = rw (sym (c .before .before .before .before .before .before .before .before .before .judge-trace .ensures), eq-eqb _ _ (c .before .before .before .before .before .before .before .before .if1 .taken), c .before .before .before .before .count-of4 .ensures, c .before .before .before .before .before .count-of3 .ensures, c .before .before .before .before .before .before .count-of2 .ensures, c .before .before .before .before .before .before .before .count-of .ensures, c .first-of4 .ensures, c .before .first-of3 .ensures, c .before .before .first-of2 .ensures, c .before .before .before .first-of .ensures)
+returns c =
+    let after-first-of = c .before .before .before in
+    let after-count-of4 = after-first-of .before in
+    let after-count-of3 = after-count-of4 .before in
+    let after-count-of2 = after-count-of3 .before in
+    let after-count-of = after-count-of2 .before in
+    let then1 = after-count-of .before in
+    let after-judge-trace = then1 .before in
+    rw (
+      sym (after-judge-trace .judge-trace .ensures),
+      eq-eqb _ _ (then1 .if1 .taken),
+      after-count-of4 .count-of4 .ensures,
+      after-count-of3 .count-of3 .ensures,
+      after-count-of2 .count-of2 .ensures,
+      after-count-of .count-of .ensures,
+      c .first-of4 .ensures,
+      c .before .first-of3 .ensures,
+      c .before .before .first-of2 .ensures,
+      after-first-of .first-of .ensures,
+    )
 
 returns-2 : tie.Need-returns-2
 unfolding loadTraceOf pick

@@ -47,10 +47,26 @@ word-at-requires-2 : tie.Need-word-at-requires-2 Inv-loop μ-loop
 word-at-requires-2 c κs = search needs
 
 returns-3 : tie.Need-returns-3 Inv-loop μ-loop
-returns-3 c = pairs-stop _ _ _ _ _ _ (c .before .before .before .before .before .before .if1 .left) (c .before .before .before .before .before .word-at .ensures .0) (c .before .before .before .before .loop .inv) 31 (c .before .before .before .loop-test .taken) (pair-beyond _ _ _ _ (c .before .before .if2 .left) (omega (arith, c .before .word-at2 .ensures .0, c .if3 .taken))) (λ e. absurd (let y : ⊥ = omega arith in y))
+returns-3 c =
+    let tested = c .before .before .before in
+    let turn = tested .before in
+    let after-word-at = turn .before in
+    let else1 = after-word-at .before in
+    pairs-stop _ _ _ _ _ _ (else1 .if1 .left) (after-word-at .word-at .ensures .0) (turn .loop .inv) 31 (tested .loop-test .taken)
+    (pair-beyond _ _ _ _ (c .before .before .if2 .left) (omega (arith, c .before .word-at2 .ensures .0, c .if3 .taken)))
+    (λ e. absurd (let y : ⊥ = omega arith in y))
 
 returns-4 : tie.Need-returns-4 Inv-loop μ-loop
-returns-4 c = pairs-stop _ _ _ _ _ _ (c .before .before .before .before .before .before .before .if1 .left) (c .before .before .before .before .before .before .word-at .ensures .0) (c .before .before .before .before .before .loop .inv) 31 (c .before .before .before .before .loop-test .taken) (pair-falls _ _ _ _ (c .before .before .before .if2 .left) (omega (arith, c .before .before .word-at2 .ensures .0, c .before .if3 .left)) (omega (arith, c .before .before .word-at2 .ensures .0, c .if4 .taken, c .before .before .before .before .before .loop .inv .least-is))) (λ e. absurd (let y : ⊥ = omega arith in y))
+returns-4 c =
+    let after-word-at2 = c .before .before in
+    let else2 = after-word-at2 .before in
+    let tested = else2 .before in
+    let turn = tested .before in
+    let after-word-at = turn .before in
+    let else1 = after-word-at .before in
+    pairs-stop _ _ _ _ _ _ (else1 .if1 .left) (after-word-at .word-at .ensures .0) (turn .loop .inv) 31 (tested .loop-test .taken)
+    (pair-falls _ _ _ _ (else2 .if2 .left) (omega (arith, after-word-at2 .word-at2 .ensures .0, c .before .if3 .left))
+    (omega (arith, after-word-at2 .word-at2 .ensures .0, c .if4 .taken, turn .loop .inv .least-is))) (λ e. absurd (let y : ⊥ = omega arith in y))
 
 add-least : tie.Need-add-least Inv-loop μ-loop
 add-least c = omega (arith, c .before .before .word-at2 .ensures .1)
@@ -62,7 +78,14 @@ loop-less : tie.Need-loop-less Inv-loop μ-loop
 loop-less c = omega arith
 
 loop-again : tie.Need-loop-again Inv-loop μ-loop
-loop-again c = pairs-more _ _ _ _ _ _ _ (c .before .before .before .before .before .loop .inv) (c .before .before .before .before .loop-test .taken) (pair-fine _ _ _ _ (c .before .before .before .if2 .left) (omega (arith, c .before .before .word-at2 .ensures .0, c .before .if3 .left)) (omega (arith, c .before .before .word-at2 .ensures .0, c .if4 .left, c .before .before .before .before .before .loop .inv .least-is))) (c .before .before .word-at2 .ensures .0)
+loop-again c =
+    let after-word-at2 = c .before .before in
+    let else2 = after-word-at2 .before in
+    let tested = else2 .before in
+    let turn = tested .before in
+    pairs-more _ _ _ _ _ _ _ (turn .loop .inv) (tested .loop-test .taken)
+    (pair-fine _ _ _ _ (else2 .if2 .left) (omega (arith, after-word-at2 .word-at2 .ensures .0, c .before .if3 .left))
+    (omega (arith, after-word-at2 .word-at2 .ensures .0, c .if4 .left, turn .loop .inv .least-is))) (after-word-at2 .word-at2 .ensures .0)
 
 returns-5 : tie.Need-returns-5 Inv-loop μ-loop
 returns-5 c = pairs-end _ _ _ _ _ _ (c .before .before .before .if1 .left) (c .before .before .word-at .ensures .0) (c .before .loop .inv) (c .loop-test .left)

@@ -35,7 +35,12 @@ add-e c = search needs
 
 returns-4 : tie.Need-returns-4
 unfolding sectionRefusal
-returns-4 c = skip (yes _ _ (le-leb _ _ (c .before .before .before .before .if1 .left))) (skip (yes _ _ (rw (sym (c .before .before .before .word-at .ensures .0), le-leb _ _ (c .before .before .if2 .left), le-leb _ _ (c .before .if3 .left)))) (halt 0 _ (no _ _ (rw (sym (c .before .before .before .word-at .ensures .0), lt-leb _ _ (c .if4 .taken))))))
+returns-4 c =
+    let after-word-at = c .before .before .before in
+    let else1 = after-word-at .before in
+    skip (yes _ _ (le-leb _ _ (else1 .if1 .left)))
+    (skip (yes _ _ (rw (sym (after-word-at .word-at .ensures .0), le-leb _ _ (c .before .before .if2 .left), le-leb _ _ (c .before .if3 .left))))
+    (halt 0 _ (no _ _ (rw (sym (after-word-at .word-at .ensures .0), lt-leb _ _ (c .if4 .taken))))))
 
 sub-judge-code-for : tie.Need-sub-judge-code-for
 sub-judge-code-for c = search needs

@@ -34,7 +34,13 @@ pairs-refusal-requires : tie.Need-pairs-refusal-requires Inv-loop μ-loop
 pairs-refusal-requires c κs = omega (arith, c .before .before .loop .inv .small, c .before .before .before .before .pre .0)
 
 returns : tie.Need-returns Inv-loop μ-loop
-returns c = starts-stop (c .before .before .before .before .before .before .args .f .now) _ _ _ (c .before .before .before .before .before .before .pre .1) (c .before .before .before .before .loop .inv) _ (c .before .before .before .loop-test .taken) (c .before .pairs-refusal .ensures ∙ ap (λ (s : ℕ). pairsRefusal (c .before .before .before .before .before .before .args .f .now) s (c .before .before .before .before .loop .p)) (c .before .before .word-at .ensures .0)) (c .if1 .taken)
+returns c =
+    let tested = c .before .before .before in
+    let turn = tested .before in
+    let start = turn .before .before in
+    let f = start .args .f .now in
+    starts-stop f _ _ _ (start .pre .1) (turn .loop .inv) _ (tested .loop-test .taken)
+    (c .before .pairs-refusal .ensures ∙ ap (λ (s : ℕ). pairsRefusal f s (turn .loop .p)) (c .before .before .word-at .ensures .0)) (c .if1 .taken)
 
 add-p : tie.Need-add-p Inv-loop μ-loop
 add-p c = omega (arith, c .before .before .before .before .loop .inv .small, c .before .before .before .before .before .before .pre .0)
@@ -55,7 +61,15 @@ loop-less : tie.Need-loop-less Inv-loop μ-loop
 loop-less c = omega arith
 
 loop-again : tie.Need-loop-again Inv-loop μ-loop
-loop-again c = starting-more (c .before .before .before .before .before .before .before .args .f .now) _ _ _ _ (c .before .before .before .before .before .loop .inv) (c .before .before .before .before .loop-test .taken) (sym (ap (λ (s : ℕ). pairsRefusal (c .before .before .before .before .before .before .before .args .f .now) s (c .before .before .before .before .before .loop .p)) (c .before .before .before .word-at .ensures .0)) ∙ (sym (c .before .before .pairs-refusal .ensures) ∙ c .before .if1 .left)) (c .word-at2 .ensures .0) (c .word-at2 .ensures .1)
+loop-again c =
+    let after-word-at = c .before .before .before in
+    let tested = after-word-at .before in
+    let turn = tested .before in
+    let start = turn .before .before in
+    let f = start .args .f .now in
+    starting-more f _ _ _ _ (turn .loop .inv) (tested .loop-test .taken)
+    (sym (ap (λ (s : ℕ). pairsRefusal f s (turn .loop .p)) (after-word-at .word-at .ensures .0))
+    ∙ (sym (c .before .before .pairs-refusal .ensures) ∙ c .before .if1 .left)) (c .word-at2 .ensures .0) (c .word-at2 .ensures .1)
 
 returns-2 : tie.Need-returns-2 Inv-loop μ-loop
 returns-2 c = starts-done (c .before .before .before .before .args .f .now) _ _ _ (c .before .before .before .before .pre .1) (c .before .before .loop .inv) (c .before .loop-test .left) (c .if2 .taken)

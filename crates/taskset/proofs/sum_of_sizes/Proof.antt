@@ -31,7 +31,13 @@ add-result-3 c =
     rw (c .before .pre .1) (omega (arith, size-small (c .before .args .f .now) (c .before .pre .0) 0, size-small (c .before .args .f .now) (c .before .pre .0) 1, size-small (c .before .args .f .now) (c .before .pre .0) 2, size-small (c .before .args .f .now) (c .before .pre .0) 3))
 
 returns : tie.Need-returns
-returns c = rw (c .before .pre .1) (sizes-added (c .before .args .f .now) (keeps-rules (c .before .args .f .now) (c .before .pre .0) .most-cores), omega (arith, size-small (c .before .args .f .now) (c .before .pre .0) 0, size-small (c .before .args .f .now) (c .before .pre .0) 1, size-small (c .before .args .f .now) (c .before .pre .0) 2, size-small (c .before .args .f .now) (c .before .pre .0) 3))
+returns c =
+    let start = c .before in
+    let f = start .args .f .now in
+    rw (start .pre .1) (
+      sizes-added f (keeps-rules f (start .pre .0) .most-cores),
+      omega (arith, size-small f (start .pre .0) 0, size-small f (start .pre .0) 1, size-small f (start .pre .0) 2, size-small f (start .pre .0) 3),
+    )
 
 pub sum-of-sizes-spec : {M : Type 1} → statement M
 sum-of-sizes-spec =

@@ -55,7 +55,14 @@ overlaps-refusal-requires c κs = let f = c .before .before .before .before .bef
 
 returns-4 : tie.Need-returns-4
 unfolding variablesRefusal
-returns-4 c = rw (sym (c .before .before .before .before .before .before .byte-at .ensures)) (skip (yes _ _ (le-leb _ _ (c .before .before .before .before .before .if1 .left))) (skip (yes _ _ (le-leb _ _ (c .before .before .before .if2 .left))) (skip (sym (c .before .before .variables-refusal .ensures) ∙ c .before .if3 .left) (c .overlaps-refusal .ensures))))
+returns-4 c =
+    let else2 = c .before .before .before in
+    let else1 = else2 .before .before in
+    let after-byte-at = else1 .before in
+    rw (sym (after-byte-at .byte-at .ensures))
+    (skip (yes _ _ (le-leb _ _ (else1 .if1 .left)))
+    (skip (yes _ _ (le-leb _ _ (else2 .if2 .left)))
+    (skip (sym (c .before .before .variables-refusal .ensures) ∙ c .before .if3 .left) (c .overlaps-refusal .ensures))))
 
 pub variables-refusal-spec : {M : Type 1} → statement M
 variables-refusal-spec =
