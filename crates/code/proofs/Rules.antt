@@ -210,7 +210,10 @@ module _ (c : List ℕ) (p : ℕ) where
   typed-listed : From 16 37 (byte c p) → operandsOk (instructionAt c p) ≡ takes (byte c p) (byte c (p + 1))
   typed-listed h =
       ap operandsOk
-      (typed-left c p (other 0 (inl (omega arith))) (other 1 (inl (omega arith))) (other 2 (inl (omega arith))) (other 3 (inl (omega arith))) (other 4 (inl (omega arith))) (other 5 (inl (omega arith))) (other 6 (inl (omega arith))) (other 7 (inl (omega arith))) (other 8 (inl (omega arith))) (other 9 (inl (omega arith))) (other 41 (inr (omega arith))) (other 42 (inr (omega arith))) (other 43 (inr (omega arith))) (other 44 (inr (omega arith))) (other 45 (inr (omega arith))))
+      (typed-left c p (other 0 (inl (omega arith))) (other 1 (inl (omega arith))) (other 2 (inl (omega arith))) (other 3 (inl (omega arith)))
+      (other 4 (inl (omega arith))) (other 5 (inl (omega arith))) (other 6 (inl (omega arith))) (other 7 (inl (omega arith)))
+      (other 8 (inl (omega arith))) (other 9 (inl (omega arith)))
+      (other 41 (inr (omega arith))) (other 42 (inr (omega arith))) (other 43 (inr (omega arith))) (other 44 (inr (omega arith))) (other 45 (inr (omega arith))))
       ∙ typed-takes c p (omega arith)
     where
       other : (k : ℕ) → (k < 16) ⊎ (37 < k) → byte c p ≡ k → ⊥

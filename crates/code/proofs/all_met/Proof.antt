@@ -30,7 +30,14 @@ loop-less : tie.Need-loop-less Inv-loop μ-loop
 loop-less c = omega arith
 
 loop-again : tie.Need-loop-again Inv-loop μ-loop
-loop-again c = (omega arith, most-more (c .before .before .before .before .args .marks .now) (c .before .before .before .loop .i) (c .before .before .before .loop .most) (c .if1 .most) (c .before .before .before .loop .inv .1) (⊎-elim (λ w. omega arith) (λ w. omega arith) (c .if1 .came)) (⊎-elim (λ w. omega arith) (λ w. omega arith) (c .if1 .came)), λ f. ⊎-elim (λ w. omega (arith, f (c .before .before .before .loop .i))) (λ w. omega (arith, c .before .before .before .loop .inv .2 f)) (c .if1 .came))
+loop-again c =
+    let turn = c .before .before .before in
+    let start = turn .before in (
+      omega arith,
+      most-more (start .args .marks .now) (turn .loop .i) (turn .loop .most) (c .if1 .most) (turn .loop .inv .1)
+          (⊎-elim (λ w. omega arith) (λ w. omega arith) (c .if1 .came)) (⊎-elim (λ w. omega arith) (λ w. omega arith) (c .if1 .came)),
+      λ f. ⊎-elim (λ w. omega (arith, f (turn .loop .i))) (λ w. omega (arith, turn .loop .inv .2 f)) (c .if1 .came),
+    )
 
 returns : tie.Need-returns Inv-loop μ-loop
 returns c = most-end _ _ _ (c .loop-test .left) (c .before .loop .inv .1) (c .before .loop .inv .2)

@@ -38,7 +38,13 @@ returns-3 : tie.Need-returns-3
 returns-3 c = length-unlisted _ _ (c .before .before .before .before .before .before .before .before .pre .2 ∙ rw (sym (c .before .before .before .before .inside .ensures) ∙ not-false _ (c .before .before .before .if2 .left), sym (c .before .inside2 .ensures) ∙ not-true _ (c .if3 .taken)))
 
 returns-4 : tie.Need-returns-4
-returns-4 c = length-whole _ _ _ (c .before .before .before .before .before .before .before .before .pre .1) (omega arith) (omega arith) (c .before .before .before .before .before .before .before .before .pre .2 ∙ rw (sym (c .before .before .before .before .inside .ensures) ∙ not-false _ (c .before .before .before .if2 .left), sym (c .before .inside2 .ensures) ∙ not-false _ (c .if3 .left)))
+returns-4 c =
+    let else2 = c .before .before .before in
+    let after-inside = else2 .before in
+    let start = after-inside .before .before .before .before in
+    length-whole _ _ _ (start .pre .1) (omega arith) (omega arith)
+    (start .pre .2
+    ∙ rw (sym (after-inside .inside .ensures) ∙ not-false _ (else2 .if2 .left), sym (c .before .inside2 .ensures) ∙ not-false _ (c .if3 .left)))
 
 pub conversion-length-spec : {M : Type 1} → statement M
 conversion-length-spec =

@@ -31,10 +31,21 @@ element-ok-requires : tie.Need-element-ok-requires
 element-ok-requires c κs = search needs
 
 returns-2 : tie.Need-returns-2
-returns-2 c = length-whole _ _ _ (c .before .before .before .before .before .before .pre .1) (omega arith) (omega arith) (c .before .before .before .before .before .before .pre .2 ∙ ap (elementOk (byte (c .before .before .before .before .before .before .args .code .now) (c .before .before .before .before .before .before .args .p + 7))) (sym (c .before .before .word .ensures)) ∙ sym (c .before .element-ok .ensures) ∙ c .if2 .taken)
+returns-2 c =
+    let start = c .before .before .before .before .before .before in
+    length-whole _ _ _ (start .pre .1) (omega arith) (omega arith)
+    (start .pre .2
+    ∙ ap (elementOk (byte (start .args .code .now) (start .args .p + 7))) (sym (c .before .before .word .ensures))
+    ∙ sym (c .before .element-ok .ensures)
+    ∙ c .if2 .taken)
 
 returns-3 : tie.Need-returns-3
-returns-3 c = length-unlisted _ _ (c .before .before .before .before .before .before .pre .2 ∙ ap (elementOk (byte (c .before .before .before .before .before .before .args .code .now) (c .before .before .before .before .before .before .args .p + 7))) (sym (c .before .before .word .ensures)) ∙ sym (c .before .element-ok .ensures) ∙ c .if2 .left)
+returns-3 c =
+    let start = c .before .before .before .before .before .before in
+    length-unlisted _ _ (start .pre .2
+    ∙ ap (elementOk (byte (start .args .code .now) (start .args .p + 7))) (sym (c .before .before .word .ensures))
+    ∙ sym (c .before .element-ok .ensures)
+    ∙ c .if2 .left)
 
 pub element-length-spec : {M : Type 1} → statement M
 element-length-spec =

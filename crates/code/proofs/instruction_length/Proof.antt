@@ -30,7 +30,14 @@ cast-result : tie.Need-cast-result
 cast-result c = search needs
 
 add-result : tie.Need-add-result
-add-result c = omega (arith, c .before .before .before .before .before .pre .1 .right _ (c .before .before .before .before .shared-slice-known .given (c .before .before .before .before .before .args .p) .fits), short _ (c .before .before .before .before .shared-slice-known .given (c .before .before .before .before .before .args .p) .fits))
+add-result c =
+    let known = c .before .before .before .before in
+    let start = known .before in
+    omega (
+      arith,
+      start .pre .1 .right _ (known .shared-slice-known .given (start .args .p) .fits),
+      short _ (known .shared-slice-known .given (start .args .p) .fits),
+    )
 
 returns : tie.Need-returns
 unfolding instructionLength pick

@@ -23,28 +23,64 @@ add-is-wide : tie.Need-add-is-wide
 add-is-wide c = search needs
 
 shared-slice-read-is-wide : tie.Need-shared-slice-read-is-wide
-shared-slice-read-is-wide c = omega (arith, type-inside (c .before .before .before .before .before .before .args .code .now) (c .before .before .before .before .before .before .args .p) (c .before .before .before .before .before .before .pre .1) (c .before .before .before .if1 .left) (sym (c .before .before .inside .ensures) ∙ c .before .if2 .left))
+shared-slice-read-is-wide c =
+    let else1 = c .before .before .before in
+    let start = else1 .before .before .before in
+    omega (
+      arith,
+      type-inside (start .args .code .now) (start .args .p) (start .pre .1) (else1 .if1 .left)
+          (sym (c .before .before .inside .ensures) ∙ c .before .if2 .left),
+    )
 
 is-wide-requires : tie.Need-is-wide-requires
 is-wide-requires c κs = search needs
 
 returns-3 : tie.Need-returns-3
-returns-3 c = sym (types-wide _ _ (c .before .before .before .before .before .before .before .before .pre .1) (c .before .before .before .before .before .if1 .left) (sym (c .before .before .before .before .inside .ensures) ∙ c .before .before .before .if2 .left) (sym (c .before .is-wide .ensures) ∙ c .if3 .taken))
+returns-3 c =
+    let else2 = c .before .before .before in
+    let after-inside = else2 .before in
+    let else1 = after-inside .before in
+    let start = else1 .before .before .before in
+    sym (types-wide _ _ (start .pre .1) (else1 .if1 .left) (sym (after-inside .inside .ensures) ∙ else2 .if2 .left)
+    (sym (c .before .is-wide .ensures) ∙ c .if3 .taken))
 
 add-is-wide-2 : tie.Need-add-is-wide-2
 add-is-wide-2 c = search needs
 
 shared-slice-read-is-wide-2 : tie.Need-shared-slice-read-is-wide-2
-shared-slice-read-is-wide-2 c = omega (arith, type-inside (c .before .before .before .before .before .before .before .before .before .before .args .code .now) (c .before .before .before .before .before .before .before .before .before .before .args .p) (c .before .before .before .before .before .before .before .before .before .before .pre .1) (c .before .before .before .before .before .before .before .if1 .left) (sym (c .before .before .before .before .before .before .inside .ensures) ∙ c .before .before .before .before .before .if2 .left))
+shared-slice-read-is-wide-2 c =
+    let else2 = c .before .before .before .before .before in
+    let after-inside = else2 .before in
+    let else1 = after-inside .before in
+    let start = else1 .before .before .before in
+    omega (
+      arith,
+      type-inside (start .args .code .now) (start .args .p) (start .pre .1) (else1 .if1 .left) (sym (after-inside .inside .ensures) ∙ else2 .if2 .left),
+    )
 
 is-wide-requires-2 : tie.Need-is-wide-requires-2
 is-wide-requires-2 c κs = search needs
 
 returns-4 : tie.Need-returns-4
-returns-4 c = ap not (c .is-wide2 .ensures) ∙ sym (types-both _ _ (c .before .before .before .before .before .before .before .before .before .before .before .pre .1) (c .before .before .before .before .before .before .before .before .if1 .left) (sym (c .before .before .before .before .before .before .before .inside .ensures) ∙ c .before .before .before .before .before .before .if2 .left) (sym (c .before .before .before .before .is-wide .ensures) ∙ c .before .before .before .if3 .left) (c .before .before .if4 .taken))
+returns-4 c =
+    let else3 = c .before .before .before in
+    let after-is-wide = else3 .before in
+    let else2 = after-is-wide .before .before in
+    let after-inside = else2 .before in
+    let else1 = after-inside .before in
+    let start = else1 .before .before .before in
+    ap not (c .is-wide2 .ensures)
+    ∙ sym (types-both _ _ (start .pre .1) (else1 .if1 .left) (sym (after-inside .inside .ensures) ∙ else2 .if2 .left)
+    (sym (after-is-wide .is-wide .ensures) ∙ else3 .if3 .left) (c .before .before .if4 .taken))
 
 returns-5 : tie.Need-returns-5
-returns-5 c = sym (types-one _ _ (c .before .before .before .before .before .before .before .before .before .pre .1) (c .before .before .before .before .before .before .if1 .left) (sym (c .before .before .before .before .before .inside .ensures) ∙ c .before .before .before .before .if2 .left) (sym (c .before .before .is-wide .ensures) ∙ c .before .if3 .left) (c .if4 .left))
+returns-5 c =
+    let else2 = c .before .before .before .before in
+    let after-inside = else2 .before in
+    let else1 = after-inside .before in
+    let start = else1 .before .before .before in
+    sym (types-one _ _ (start .pre .1) (else1 .if1 .left) (sym (after-inside .inside .ensures) ∙ else2 .if2 .left)
+    (sym (c .before .before .is-wide .ensures) ∙ c .before .if3 .left) (c .if4 .left))
 
 pub is-small-spec : {M : Type 1} → statement M
 is-small-spec =

@@ -41,7 +41,14 @@ loop-less : tie.Need-loop-less Inv-loop μ-loop
 loop-less c = omega arith
 
 loop-again : tie.Need-loop-again Inv-loop μ-loop
-loop-again c = rw (c .before .before .instruction-length .ensures) (walking-more _ _ _ (c .before .before .before .before .before .loop .inv) (c .before .before .before .before .loop-test .taken) (omega arith) (λ z. c .before .if2 .left (c .before .before .instruction-length .ensures ∙ z)) (omega (arith, c .before .before .instruction-length .ensures)))
+loop-again c =
+    let after-instruction-length = c .before .before in
+    let tested = after-instruction-length .before .before in
+    let turn = tested .before in
+    rw (after-instruction-length .instruction-length .ensures)
+    (walking-more _ _ _ (turn .loop .inv) (tested .loop-test .taken) (omega arith)
+    (λ z. c .before .if2 .left (after-instruction-length .instruction-length .ensures ∙ z))
+    (omega (arith, after-instruction-length .instruction-length .ensures)))
 
 returns-4 : tie.Need-returns-4 Inv-loop μ-loop
 returns-4 c = sym (walking-end _ _ _ (c .before .loop .inv) (c .loop-test .left) (omega arith))

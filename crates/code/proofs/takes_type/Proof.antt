@@ -39,11 +39,41 @@ inside-requires-6 c κs = search needs
 
 returns-4 : tie.Need-returns-4
 unfolding takes pick
-returns-4 c = rw (sym (c .before .before .before .before .before .before .before .inside .ensures), c .before .before .before .before .before .before .if1 .left, sym (c .before .before .before .before .before .inside3 .ensures), c .before .before .before .before .if2 .left, ne-eqb _ _ (c .before .before .before .if3 .left), sym (c .before .before .inside6 .ensures), c .before .if4 .taken, lt-leb _ _ (c .if5 .taken))
+returns-4 c =
+    let else3 = c .before .before .before in
+    let else2 = else3 .before in
+    let after-inside3 = else2 .before in
+    let else1 = after-inside3 .before in
+    let after-inside = else1 .before in
+    rw (
+      sym (after-inside .inside .ensures),
+      else1 .if1 .left,
+      sym (after-inside3 .inside3 .ensures),
+      else2 .if2 .left,
+      ne-eqb _ _ (else3 .if3 .left),
+      sym (c .before .before .inside6 .ensures),
+      c .before .if4 .taken,
+      lt-leb _ _ (c .if5 .taken),
+    )
 
 returns-5 : tie.Need-returns-5
 unfolding takes pick
-returns-5 c = rw (sym (c .before .before .before .before .before .before .before .inside .ensures), c .before .before .before .before .before .before .if1 .left, sym (c .before .before .before .before .before .inside3 .ensures), c .before .before .before .before .if2 .left, ne-eqb _ _ (c .before .before .before .if3 .left), sym (c .before .before .inside6 .ensures), c .before .if4 .taken, le-leb _ _ (c .if5 .left))
+returns-5 c =
+    let else3 = c .before .before .before in
+    let else2 = else3 .before in
+    let after-inside3 = else2 .before in
+    let else1 = after-inside3 .before in
+    let after-inside = else1 .before in
+    rw (
+      sym (after-inside .inside .ensures),
+      else1 .if1 .left,
+      sym (after-inside3 .inside3 .ensures),
+      else2 .if2 .left,
+      ne-eqb _ _ (else3 .if3 .left),
+      sym (c .before .before .inside6 .ensures),
+      c .before .if4 .taken,
+      le-leb _ _ (c .if5 .left),
+    )
 
 inside-requires-7 : tie.Need-inside-requires-7
 inside-requires-7 c κs = search needs
@@ -53,22 +83,104 @@ inside-requires-8 c κs = search needs
 
 returns-6 : tie.Need-returns-6
 unfolding takes pick
-returns-6 c = rw (sym (c .before .before .before .before .before .before .before .before .before .before .inside .ensures), c .before .before .before .before .before .before .before .before .before .if1 .left, sym (c .before .before .before .before .before .before .before .before .inside3 .ensures), c .before .before .before .before .before .before .before .if2 .left, ne-eqb _ _ (c .before .before .before .before .before .before .if3 .left), sym (c .before .before .before .before .before .inside6 .ensures), c .before .before .before .before .if4 .left, sym (c .before .before .before .inside7 .ensures), c .before .before .if6 .taken, sym (c .before .inside8 .ensures) ∙ not-true _ (c .if7 .taken))
+returns-6 c =
+    let after-inside7 = c .before .before .before in
+    let else4 = after-inside7 .before in
+    let after-inside6 = else4 .before in
+    let else3 = after-inside6 .before in
+    let else2 = else3 .before in
+    let after-inside3 = else2 .before in
+    let else1 = after-inside3 .before in
+    let after-inside = else1 .before in
+    rw (
+      sym (after-inside .inside .ensures),
+      else1 .if1 .left,
+      sym (after-inside3 .inside3 .ensures),
+      else2 .if2 .left,
+      ne-eqb _ _ (else3 .if3 .left),
+      sym (after-inside6 .inside6 .ensures),
+      else4 .if4 .left,
+      sym (after-inside7 .inside7 .ensures),
+      c .before .before .if6 .taken,
+      sym (c .before .inside8 .ensures) ∙ not-true _ (c .if7 .taken),
+    )
 
 returns-7 : tie.Need-returns-7
 unfolding takes pick
-returns-7 c = rw (sym (c .before .before .before .before .before .before .before .before .before .before .inside .ensures), c .before .before .before .before .before .before .before .before .before .if1 .left, sym (c .before .before .before .before .before .before .before .before .inside3 .ensures), c .before .before .before .before .before .before .before .if2 .left, ne-eqb _ _ (c .before .before .before .before .before .before .if3 .left), sym (c .before .before .before .before .before .inside6 .ensures), c .before .before .before .before .if4 .left, sym (c .before .before .before .inside7 .ensures), c .before .before .if6 .taken, sym (c .before .inside8 .ensures) ∙ not-false _ (c .if7 .left))
+returns-7 c =
+    let after-inside7 = c .before .before .before in
+    let else4 = after-inside7 .before in
+    let after-inside6 = else4 .before in
+    let else3 = after-inside6 .before in
+    let else2 = else3 .before in
+    let after-inside3 = else2 .before in
+    let else1 = after-inside3 .before in
+    let after-inside = else1 .before in
+    rw (
+      sym (after-inside .inside .ensures),
+      else1 .if1 .left,
+      sym (after-inside3 .inside3 .ensures),
+      else2 .if2 .left,
+      ne-eqb _ _ (else3 .if3 .left),
+      sym (after-inside6 .inside6 .ensures),
+      else4 .if4 .left,
+      sym (after-inside7 .inside7 .ensures),
+      c .before .before .if6 .taken,
+      sym (c .before .inside8 .ensures) ∙ not-false _ (c .if7 .left),
+    )
 
 inside-requires-9 : tie.Need-inside-requires-9
 inside-requires-9 c κs = search needs
 
 returns-8 : tie.Need-returns-8
 unfolding takes pick
-returns-8 c = rw (sym (c .before .before .before .before .before .before .before .before .before .before .inside .ensures), c .before .before .before .before .before .before .before .before .before .if1 .left, sym (c .before .before .before .before .before .before .before .before .inside3 .ensures), c .before .before .before .before .before .before .before .if2 .left, ne-eqb _ _ (c .before .before .before .before .before .before .if3 .left), sym (c .before .before .before .before .before .inside6 .ensures), c .before .before .before .before .if4 .left, sym (c .before .before .before .inside7 .ensures), c .before .before .if6 .left, sym (c .before .inside9 .ensures), c .if8 .taken)
+returns-8 c =
+    let after-inside7 = c .before .before .before in
+    let else4 = after-inside7 .before in
+    let after-inside6 = else4 .before in
+    let else3 = after-inside6 .before in
+    let else2 = else3 .before in
+    let after-inside3 = else2 .before in
+    let else1 = after-inside3 .before in
+    let after-inside = else1 .before in
+    rw (
+      sym (after-inside .inside .ensures),
+      else1 .if1 .left,
+      sym (after-inside3 .inside3 .ensures),
+      else2 .if2 .left,
+      ne-eqb _ _ (else3 .if3 .left),
+      sym (after-inside6 .inside6 .ensures),
+      else4 .if4 .left,
+      sym (after-inside7 .inside7 .ensures),
+      c .before .before .if6 .left,
+      sym (c .before .inside9 .ensures),
+      c .if8 .taken,
+    )
 
 returns-9 : tie.Need-returns-9
 unfolding takes pick
-returns-9 c = rw (sym (c .before .before .before .before .before .before .before .before .before .before .inside .ensures), c .before .before .before .before .before .before .before .before .before .if1 .left, sym (c .before .before .before .before .before .before .before .before .inside3 .ensures), c .before .before .before .before .before .before .before .if2 .left, ne-eqb _ _ (c .before .before .before .before .before .before .if3 .left), sym (c .before .before .before .before .before .inside6 .ensures), c .before .before .before .before .if4 .left, sym (c .before .before .before .inside7 .ensures), c .before .before .if6 .left, sym (c .before .inside9 .ensures), c .if8 .left)
+returns-9 c =
+    let after-inside7 = c .before .before .before in
+    let else4 = after-inside7 .before in
+    let after-inside6 = else4 .before in
+    let else3 = after-inside6 .before in
+    let else2 = else3 .before in
+    let after-inside3 = else2 .before in
+    let else1 = after-inside3 .before in
+    let after-inside = else1 .before in
+    rw (
+      sym (after-inside .inside .ensures),
+      else1 .if1 .left,
+      sym (after-inside3 .inside3 .ensures),
+      else2 .if2 .left,
+      ne-eqb _ _ (else3 .if3 .left),
+      sym (after-inside6 .inside6 .ensures),
+      else4 .if4 .left,
+      sym (after-inside7 .inside7 .ensures),
+      c .before .before .if6 .left,
+      sym (c .before .inside9 .ensures),
+      c .if8 .left,
+    )
 
 pub takes-type-spec : {M : Type 1} → statement M
 takes-type-spec =
