@@ -34,7 +34,18 @@ word-at-requires-2 c κs = search needs
 
 returns-3 : tie.Need-returns-3
 unfolding coreOk
-returns-3 c = rw (sym (c .before .before .before .before .before .word-at .ensures .0), le-leb _ _ (c .before .before .before .before .if1 .left), sym (c .before .before .before .most-data .ensures), le-leb _ _ (c .before .before .if2 .left), sym (c .before .word-at2 .ensures .0), lt-leb _ _ (c .if3 .taken))
+returns-3 c =
+    let after-most-data = c .before .before .before in
+    let else1 = after-most-data .before in
+    let after-word-at = else1 .before in
+    rw (
+      sym (after-word-at .word-at .ensures .0),
+      le-leb _ _ (else1 .if1 .left),
+      sym (after-most-data .most-data .ensures),
+      le-leb _ _ (c .before .before .if2 .left),
+      sym (c .before .word-at2 .ensures .0),
+      lt-leb _ _ (c .if3 .taken),
+    )
 
 add-word-at-2 : tie.Need-add-word-at-2
 add-word-at-2 c = search needs
@@ -44,7 +55,20 @@ word-at-requires-3 c κs = search needs
 
 returns-4 : tie.Need-returns-4
 unfolding coreOk
-returns-4 c = rw (sym (c .before .before .before .before .before .before .word-at .ensures .0), le-leb _ _ (c .before .before .before .before .before .if1 .left), sym (c .before .before .before .before .most-data .ensures), le-leb _ _ (c .before .before .before .if2 .left), sym (c .before .before .word-at2 .ensures .0), le-leb _ _ (c .before .if3 .left), sym (c .word-at3 .ensures .0))
+returns-4 c =
+    let else2 = c .before .before .before in
+    let after-most-data = else2 .before in
+    let else1 = after-most-data .before in
+    let after-word-at = else1 .before in
+    rw (
+      sym (after-word-at .word-at .ensures .0),
+      le-leb _ _ (else1 .if1 .left),
+      sym (after-most-data .most-data .ensures),
+      le-leb _ _ (else2 .if2 .left),
+      sym (c .before .before .word-at2 .ensures .0),
+      le-leb _ _ (c .before .if3 .left),
+      sym (c .word-at3 .ensures .0),
+    )
 
 pub core-ok-spec : {M : Type 1} → statement M
 core-ok-spec =

@@ -24,7 +24,19 @@ meet-requires c κs = search needs
 
 returns : tie.Need-returns
 unfolding meetsIn
-returns c = rw (sym (c .before .before .before .before .before .local-place .ensures), sym (c .before .before .before .before .width .ensures), sym (c .before .before .before .local-place2 .ensures), sym (c .before .before .width2 .ensures), sym (c .before .meet .ensures) ∙ not-true _ (c .if1 .taken), both-none, both-none)
+returns c =
+    let after-local-place2 = c .before .before .before in
+    let after-width = after-local-place2 .before in
+    let after-local-place = after-width .before in
+    rw (
+      sym (after-local-place .local-place .ensures),
+      sym (after-width .width .ensures),
+      sym (after-local-place2 .local-place2 .ensures),
+      sym (c .before .before .width2 .ensures),
+      sym (c .before .meet .ensures) ∙ not-true _ (c .if1 .taken),
+      both-none,
+      both-none,
+    )
 
 is-named-requires : tie.Need-is-named-requires
 is-named-requires c κs = search needs
@@ -38,7 +50,22 @@ is-named-requires-2 c κs = search needs
 
 returns-3 : tie.Need-returns-3
 unfolding meetsIn
-returns-3 c = rw (sym (c .before .before .is-named .ensures) ∙ not-false _ (c .before .if2 .left), sym (c .is-named2 .ensures), sym (c .before .before .before .before .before .before .before .before .local-place .ensures), sym (c .before .before .before .before .before .before .before .width .ensures), sym (c .before .before .before .before .before .before .local-place2 .ensures), sym (c .before .before .before .before .before .width2 .ensures), sym (c .before .before .before .before .meet .ensures) ∙ not-false _ (c .before .before .before .if1 .left)) (sym (both-alone _))
+returns-3 c =
+    let else1 = c .before .before .before in
+    let after-meet = else1 .before in
+    let after-width2 = after-meet .before in
+    let after-local-place2 = after-width2 .before in
+    let after-width = after-local-place2 .before in
+    let after-local-place = after-width .before in
+    rw (
+      sym (c .before .before .is-named .ensures) ∙ not-false _ (c .before .if2 .left),
+      sym (c .is-named2 .ensures),
+      sym (after-local-place .local-place .ensures),
+      sym (after-width .width .ensures),
+      sym (after-local-place2 .local-place2 .ensures),
+      sym (after-width2 .width2 .ensures),
+      sym (after-meet .meet .ensures) ∙ not-false _ (else1 .if1 .left),
+    ) (sym (both-alone _))
 
 pub meet-in-spec : {M : Type 1} → statement M
 meet-in-spec =

@@ -33,7 +33,13 @@ overlapping-requires c κs = (omega (arith, c .before .before .before .record-pl
 
 returns : tie.Need-returns Inv-loop μ-loop
 unfolding overlapRefusal
-returns c = going-stop _ _ _ _ 5 (c .before .before .before .before .loop .inv) (omega (arith, c .before .before .before .before .before .before .before .pre .1)) (pair-five _ _ _ _ _ (c .before .before .before .before .before .record-place .ensures .0) (c .before .before .record-place2 .ensures .0) (sym (c .before .overlapping .ensures) ∙ c .if1 .taken)) (λ z. let y : ⊥ = omega arith in y)
+returns c =
+    let turn = c .before .before .before .before in
+    let after-record-place = turn .before in
+    let start = after-record-place .before .before in
+    going-stop _ _ _ _ 5 (turn .loop .inv) (omega (arith, start .pre .1))
+    (pair-five _ _ _ _ _ (after-record-place .record-place .ensures .0) (c .before .before .record-place2 .ensures .0)
+    (sym (c .before .overlapping .ensures) ∙ c .if1 .taken)) (λ z. let y : ⊥ = omega arith in y)
 
 add-j-2 : tie.Need-add-j-2 Inv-loop μ-loop
 add-j-2 c = omega arith
@@ -42,7 +48,13 @@ loop-less : tie.Need-loop-less Inv-loop μ-loop
 loop-less c = omega arith
 
 loop-again : tie.Need-loop-again Inv-loop μ-loop
-loop-again c = going-more _ _ _ _ (c .before .before .before .before .loop .inv) (omega (arith, c .before .before .before .before .before .before .before .pre .1)) (pair-none _ _ _ _ _ (c .before .before .before .before .before .record-place .ensures .0) (c .before .before .record-place2 .ensures .0) (sym (c .before .overlapping .ensures) ∙ c .if1 .left))
+loop-again c =
+    let turn = c .before .before .before .before in
+    let after-record-place = turn .before in
+    let start = after-record-place .before .before in
+    going-more _ _ _ _ (turn .loop .inv) (omega (arith, start .pre .1))
+    (pair-none _ _ _ _ _ (after-record-place .record-place .ensures .0) (c .before .before .record-place2 .ensures .0)
+    (sym (c .before .overlapping .ensures) ∙ c .if1 .left))
 
 returns-2 : tie.Need-returns-2 Inv-loop μ-loop
 unfolding overlapRefusal

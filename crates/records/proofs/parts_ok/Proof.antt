@@ -25,14 +25,31 @@ part-ok-requires-3 c κs = search needs
 
 returns-3 : tie.Need-returns-3
 unfolding partsOk
-returns-3 c = rw (sym (c .before .before .before .before .before .part-ok .ensures) ∙ not-false _ (c .before .before .before .before .if1 .left), sym (c .before .before .before .part-ok2 .ensures) ∙ not-false _ (c .before .before .if2 .left), sym (c .before .part-ok3 .ensures) ∙ not-true _ (c .if3 .taken))
+returns-3 c =
+    let after-part-ok2 = c .before .before .before in
+    let else1 = after-part-ok2 .before in
+    let after-part-ok = else1 .before in
+    rw (
+      sym (after-part-ok .part-ok .ensures) ∙ not-false _ (else1 .if1 .left),
+      sym (after-part-ok2 .part-ok2 .ensures) ∙ not-false _ (c .before .before .if2 .left),
+      sym (c .before .part-ok3 .ensures) ∙ not-true _ (c .if3 .taken),
+    )
 
 part-ok-requires-4 : tie.Need-part-ok-requires-4
 part-ok-requires-4 c κs = search needs
 
 returns-4 : tie.Need-returns-4
 unfolding partsOk
-returns-4 c = rw (sym (c .before .before .before .before .before .before .part-ok .ensures) ∙ not-false _ (c .before .before .before .before .before .if1 .left), sym (c .before .before .before .before .part-ok2 .ensures) ∙ not-false _ (c .before .before .before .if2 .left), sym (c .before .before .part-ok3 .ensures) ∙ not-false _ (c .before .if3 .left)) (c .part-ok4 .ensures)
+returns-4 c =
+    let else2 = c .before .before .before in
+    let after-part-ok2 = else2 .before in
+    let else1 = after-part-ok2 .before in
+    let after-part-ok = else1 .before in
+    rw (
+      sym (after-part-ok .part-ok .ensures) ∙ not-false _ (else1 .if1 .left),
+      sym (after-part-ok2 .part-ok2 .ensures) ∙ not-false _ (else2 .if2 .left),
+      sym (c .before .before .part-ok3 .ensures) ∙ not-false _ (c .before .if3 .left),
+    ) (c .part-ok4 .ensures)
 
 pub parts-ok-spec : {M : Type 1} → statement M
 parts-ok-spec =

@@ -52,7 +52,20 @@ word-at-requires-2 c κs = search needs
 
 returns-3 : tie.Need-returns-3
 unfolding placeOk
-returns-3 c = rw (sym (c .before .before .before .before .before .before .byte-at .ensures), lt-ltb _ _ (c .before .before .before .before .before .if1 .left), sym (c .before .before .before .before .local-place .ensures), sym (c .before .before .before .word-at .ensures .0), le-leb _ _ (c .before .before .if2 .left), sym (c .before .width .ensures), sym (c .word-at2 .ensures .0))
+returns-3 c =
+    let after-word-at = c .before .before .before in
+    let after-local-place = after-word-at .before in
+    let else1 = after-local-place .before in
+    let after-byte-at = else1 .before in
+    rw (
+      sym (after-byte-at .byte-at .ensures),
+      lt-ltb _ _ (else1 .if1 .left),
+      sym (after-local-place .local-place .ensures),
+      sym (after-word-at .word-at .ensures .0),
+      le-leb _ _ (c .before .before .if2 .left),
+      sym (c .before .width .ensures),
+      sym (c .word-at2 .ensures .0),
+    )
 
 pub place-ok-spec : {M : Type 1} → statement M
 place-ok-spec =
