@@ -114,7 +114,10 @@ module _ (code t : ℕ) (a b : Value) (n : ℕ) (k : takes code t ≡ true) (l :
       (λ n34. by-pick H (eqb code 35) _ _ (truth code t 35 _ refl)
       (λ n35. by-pick H (eqb code 36) _ _ (truth code t 36 _ refl)
       (λ n36. by-pick H (eqb code 37) _ _ (truth code t 37 _ refl)
-      (λ n37. absurd (eqb-false code 37 n37 (last-code code t k (eqb-false code 16 n16) (eqb-false code 17 n17) (eqb-false code 18 n18) (eqb-false code 19 n19) (eqb-false code 20 n20) (eqb-false code 24 n24) (eqb-false code 25 n25) (eqb-false code 26 n26) (eqb-false code 27 n27) (eqb-false code 28 n28) (eqb-false code 29 n29) (eqb-false code 30 n30) (eqb-false code 31 n31) (eqb-false code 32 n32) (eqb-false code 33 n33) (eqb-false code 34 n34) (eqb-false code 35 n35) (eqb-false code 36 n36))))))))))))))))))))))
+      (λ n37. absurd (eqb-false code 37 n37 (last-code code t k
+      (eqb-false code 16 n16) (eqb-false code 17 n17) (eqb-false code 18 n18) (eqb-false code 19 n19) (eqb-false code 20 n20)
+      (eqb-false code 24 n24) (eqb-false code 25 n25) (eqb-false code 26 n26) (eqb-false code 27 n27) (eqb-false code 28 n28) (eqb-false code 29 n29) (eqb-false code 30 n30) (eqb-false code 31 n31)
+      (eqb-false code 32 n32) (eqb-false code 33 n33) (eqb-false code 34 n34) (eqb-false code 35 n35) (eqb-false code 36 n36))))))))))))))))))))))
 
 -- ---- the bound
 

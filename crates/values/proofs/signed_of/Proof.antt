@@ -41,10 +41,20 @@ below-zero-requires : tie.Need-below-zero-requires
 below-zero-requires c κs = omega (arith, c .before .before .half-of .ensures, W.half-le (c .before .before .before .args .w) (c .before .before .before .pre .1), pow-pos (8 * c .before .before .before .args .w - 1))
 
 returns-2 : tie.Need-returns-2
-returns-2 c = toZ-pos w64 (omega (arith, c .before .before .half-of .ensures, W.half-le (c .before .before .before .args .w) (c .before .before .before .pre .1))) ∙ sym (W.signed-low (8 * c .before .before .before .args .w) (c .before .before .before .args .p) (omega (arith, c .before .before .half-of .ensures)))
+returns-2 c =
+    let after-half-of = c .before .before in
+    let start = after-half-of .before in
+    toZ-pos w64 (omega (arith, after-half-of .half-of .ensures, W.half-le (start .args .w) (start .pre .1)))
+    ∙ sym (W.signed-low (8 * start .args .w) (start .args .p) (omega (arith, after-half-of .half-of .ensures)))
 
 returns-3 : tie.Need-returns-3
-returns-3 c = read64 (c .below-zero .result) (c .below-zero .ok) ∙ c .below-zero .ensures ∙ ap negsuc (omega (arith, c .before .before .before .half-of .ensures, W.two-halves (c .before .before .before .before .args .w) (c .before .before .before .before .pre .0))) ∙ sym (W.signed-high (8 * c .before .before .before .before .args .w) (c .before .before .before .before .args .p) (omega (arith, c .before .before .before .half-of .ensures)))
+returns-3 c =
+    let after-half-of = c .before .before .before in
+    let start = after-half-of .before in
+    read64 (c .below-zero .result) (c .below-zero .ok)
+    ∙ c .below-zero .ensures
+    ∙ ap negsuc (omega (arith, after-half-of .half-of .ensures, W.two-halves (start .args .w) (start .pre .0)))
+    ∙ sym (W.signed-high (8 * start .args .w) (start .args .p) (omega (arith, after-half-of .half-of .ensures)))
 
 pub signed-of-spec : {M : Type 1} → statement M
 signed-of-spec =
