@@ -252,7 +252,9 @@ takes-write t k s e h q s′ ts (writesLast i g d) = absurd (omega arith)
 takes : (t : Task) (x : Taking) (s : State) → T (accepts t x (s .plant)) → s .semaphore .holder ≡ 0 → s .semaphore .line ≡ [] → takingOf t (who x) s ≡ x ∷ []
 unfolding accepts
 takes t (reading k) s a h q =
-    takes-read t k s (eqb→eq (at s k .registers .mode) 0 (both-0 (eqb (at s k .registers .mode) 0) (anyLeft (drop (at s k .registers .cycles) (t .samples k))) a)) (both-1 (eqb (at s k .registers .mode) 0) (anyLeft (drop (at s k .registers .cycles) (t .samples k))) a) h q (step t k s) (takingOf t k s) (view t k s)
+    let waits = eqb (at s k .registers .mode) 0 in
+    let sample = anyLeft (drop (at s k .registers .cycles) (t .samples k)) in
+    takes-read t k s (eqb→eq (at s k .registers .mode) 0 (both-0 waits sample a)) (both-1 waits sample a) h q (step t k s) (takingOf t k s) (view t k s)
 takes t (writing k) s a h q = takes-write t k s (eqb→eq (at s k .registers .mode) 3 a) h q (step t k s) (takingOf t k s) (view t k s)
 
 -- nothing is going on

@@ -79,7 +79,9 @@ faulting = measuring ++ (measuring ++ replicate 9 0)
 
 -- on an `unfolding` line: the task set, the lists and the machine compute
 computing : Unit {0}
-unfolding variables answer samples task start waiting mixed measuring recording faulting pick splice readsIt writesIt instructionBy applied limited advanced cycleEnded faulted withFlag warm step takingOf encoded readTaken readAcquired readNext byteCopied readDone readReleased writeTaken writeAcquired writeNext writeDone writeReleased wholeOne
+unfolding variables answer samples task start waiting mixed measuring recording faulting pick splice readsIt writesIt instructionBy applied limited advanced
+    cycleEnded faulted withFlag warm step takingOf encoded readTaken readAcquired readNext byteCopied readDone readReleased writeTaken writeAcquired writeNext
+    writeDone writeReleased wholeOne
 computing = tt
 
 -- core k after the steps ks
