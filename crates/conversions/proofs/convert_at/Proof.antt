@@ -24,20 +24,44 @@ returns c =
 
 read-value-requires : tie.Need-read-value-requires
 read-value-requires c κs =
-    let a = c .before .before .before .before .before .before .args in
-    (c .before .before .before .before .before .before .pre .0, source-in (length (a .d .now)) (a .destination) _ (a .source) _ (a .to) (a .from) _ (c .before .before .beyond .ensures) (c .before .before .before .before .width-of .ensures) (c .before .before .before .width-of2 .ensures) (c .before .if1 .left))
+    let after-width-of2 = c .before .before .before in
+    let after-width-of = after-width-of2 .before in
+    let start = after-width-of .before .before in
+    let a = start .args in (
+      start .pre .0,
+      source-in (length (a .d .now)) (a .destination) _ (a .source) _ (a .to) (a .from) _ (c .before .before .beyond .ensures)
+          (after-width-of .width-of .ensures) (after-width-of2 .width-of2 .ensures) (c .before .if1 .left),
+    )
 
 settle-requires : tie.Need-settle-requires
 settle-requires c κs =
-    let a = c .before .before .before .before .before .before .before .before .before .args in
-    (c .before .before .before .before .before .before .before .before .before .pre .1, to-in (length (a .d .now)) (a .destination) _ (a .source) _ (a .to) (a .from) _ (c .before .before .before .before .before .beyond .ensures) (c .before .before .before .before .before .before .before .width-of .ensures) (c .before .before .before .before .before .before .width-of2 .ensures) (c .before .before .before .before .if1 .left))
+    let else1 = c .before .before .before .before in
+    let after-beyond = else1 .before in
+    let after-width-of2 = after-beyond .before in
+    let after-width-of = after-width-of2 .before in
+    let start = after-width-of .before .before in
+    let a = start .args in (
+      start .pre .1,
+      to-in (length (a .d .now)) (a .destination) _ (a .source) _ (a .to) (a .from) _ (after-beyond .beyond .ensures) (after-width-of .width-of .ensures)
+          (after-width-of2 .width-of2 .ensures) (else1 .if1 .left),
+    )
 
 returns-2 : tie.Need-returns-2
 unfolding converting converted readValue
 returns-2 c =
-    let a = c .before .before .before .before .before .before .before .before .before .before .before .before .args in
-    was-tried (a .d .now) (a .destination) _ (a .source) _ (a .to) (a .from) _ (c .before .before .before .before .before .before .before .before .beyond .ensures) (c .before .before .before .before .before .before .before .before .before .before .width-of .ensures) (c .before .before .before .before .before .before .before .before .before .width-of2 .ensures) (converted (a .from) (a .to) (readLE (a .d .now) (a .source) (widthOf (a .from)))) (c .before .before .before .before .before .before .before .if1 .left) _ _
-    (c .before .before .settle .ensures ∙ ap (λ (x : Converted). settled (a .to) (a .d .now) (a .destination) (resultAs (a .to) x)) (c .before .before .before .convert .ensures ∙ ap (toType (a .to)) (c .before .before .before .before .before .read-value .ensures)))
+    let after-convert = c .before .before .before in
+    let after-read-value = after-convert .before .before in
+    let else1 = after-read-value .before .before in
+    let after-beyond = else1 .before in
+    let after-width-of2 = after-beyond .before in
+    let after-width-of = after-width-of2 .before in
+    let start = after-width-of .before .before in
+    let a = start .args in
+    was-tried (a .d .now) (a .destination) _ (a .source) _ (a .to) (a .from) _ (after-beyond .beyond .ensures) (after-width-of .width-of .ensures)
+    (after-width-of2 .width-of2 .ensures) (converted (a .from) (a .to) (readLE (a .d .now) (a .source) (widthOf (a .from)))) (else1 .if1 .left) _ _
+    (c .before .before .settle .ensures
+    ∙ ap (λ (x : Converted). settled (a .to) (a .d .now) (a .destination) (resultAs (a .to) x))
+    (after-convert .convert .ensures ∙ ap (toType (a .to)) (after-read-value .read-value .ensures)))
 
 pub convert-at-spec : {M : Type 1} → statement M
 convert-at-spec =

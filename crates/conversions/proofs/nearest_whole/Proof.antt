@@ -42,14 +42,20 @@ nearest-scaled-requires c κs =
 
 returns-3 : tie.Need-returns-3
 returns-3 c =
+    let else2 = c .before .before .before in
+    let after-shift-of = else2 .before in
     let s = c .before .before .before .before .before .before in
     let x = s .args .x in
     let p = Ieee.toBits binary64 x in
-    let ej = c .before .before .before .before .shift-of .ensures in
-    let h : shiftIn binary64 p ≤ 1085 = subst (λ (j : ℕ). j ≤ 1085) ej (c .before .before .before .if2 .left) in
+    let ej = after-shift-of .shift-of .ensures in
+    let h : shiftIn binary64 p ≤ 1085 = subst (λ (j : ℕ). j ≤ 1085) ej (else2 .if2 .left) in
     c .held-at .ensures
-    ∙ ap (λ (n : ℕ). heldIn (s .args .signed) (s .args .w) (withSign (leb (2 ^ 63) p) n)) (c .before .nearest-scaled .ensures ∙ ap (λ (d : ℕ). closest (d * 2 ^ c .before .before .before .before .shift-of .result) (2 ^ 1074)) (c .before .before .digits-of .ensures) ∙ ap (λ (j : ℕ). closest (digitsIn binary64 p * 2 ^ j) (2 ^ 1074)) ej)
-    ∙ H.nearest-of (s .args .signed) (s .args .w) x (leb (2 ^ 63) p) (digitsIn binary64 p * 2 ^ shiftIn binary64 p) 1074 (H.by-pattern x (ofBits-toBits binary64 x (passes _ (s .good .1 .1 .0 .1))) h)
+    ∙ ap (λ (n : ℕ). heldIn (s .args .signed) (s .args .w) (withSign (leb (2 ^ 63) p) n))
+    (c .before .nearest-scaled .ensures
+    ∙ ap (λ (d : ℕ). closest (d * 2 ^ after-shift-of .shift-of .result) (2 ^ 1074)) (c .before .before .digits-of .ensures)
+    ∙ ap (λ (j : ℕ). closest (digitsIn binary64 p * 2 ^ j) (2 ^ 1074)) ej)
+    ∙ H.nearest-of (s .args .signed) (s .args .w) x (leb (2 ^ 63) p) (digitsIn binary64 p * 2 ^ shiftIn binary64 p) 1074
+    (H.by-pattern x (ofBits-toBits binary64 x (passes _ (s .good .1 .1 .0 .1))) h)
 
 pub nearest-whole-spec : {M : Type 1} → statement M
 nearest-whole-spec =

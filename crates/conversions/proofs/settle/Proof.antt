@@ -20,8 +20,9 @@ pattern-of-requires c κs = width-small (c .before .before .before .before .befo
 
 store-pattern-requires : tie.Need-store-pattern-requires
 store-pattern-requires c κs =
+    let start = c .before .before .before .before .before .before .before in
     let e = c .before .before .width-of .ensures in
-    (subst Width (sym e) (width-ok (c .before .before .before .before .before .before .before .args .t) (c .before .before .before .before .before .before .before .pre .0)), subst (λ (n : ℕ). c .before .before .before .before .before .before .before .args .to + n ≤ length (c .before .before .before .before .before .before .before .args .d .now)) (sym e) (c .before .before .before .before .before .before .before .pre .1))
+    (subst Width (sym e) (width-ok (start .args .t) (start .pre .0)), subst (λ (n : ℕ). start .args .to + n ≤ length (start .args .d .now)) (sym e) (start .pre .1))
 
 returns : tie.Need-returns
 unfolding stored
