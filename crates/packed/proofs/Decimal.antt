@@ -3,7 +3,8 @@ use Rattle.verdict.specs.Verdict.{pick}
 use mathlib.Core.Path.{_≡_, sym, ap, _∙_, subst}
 use mathlib.Core.Bool.{Bool, true, false, _&&_}
 use Prim.Native.Nat.{ℕ, zero, suc, _+_, _-_, _*_, _/_, _%_, _^_, _≤_, _<_}
-use native.Mathlib.Nat.{suc-mul, mul-zero, mul-suc, mul-le-mul-left, one-le-pow, le-trans, le-of-eq, lt-of-lt-of-le, zero-lt-suc, mul-comm, mul-assoc, mul-add, mul-le-mul-right, mod-lt, mod-eq-of-lt, mod-add-div, div-eq-of-lt, div-div-eq-div-mul, div-lt-iff-lt-mul, add-mul-div-left, add-mul-mod-self-left, pow-zero, pow-suc, pow-succ'}
+use native.Mathlib.Nat.{suc-mul, mul-zero, mul-suc, mul-le-mul-left, one-le-pow, le-trans, le-of-eq, lt-of-lt-of-le, zero-lt-suc, mul-comm, mul-assoc, mul-add, mul-le-mul-right, mod-lt}
+use native.Mathlib.Nat.{mod-eq-of-lt, mod-add-div, div-eq-of-lt, div-div-eq-div-mul, div-lt-iff-lt-mul, add-mul-div-left, add-mul-mod-self-left, pow-zero, pow-suc, pow-succ'}
 use native.Mathlib.Omega.{arith}
 use lib.Dec.{T, ltb, ltb→lt, lt→ltb}
 use lib.Pow.{pow-add, pow-mono}

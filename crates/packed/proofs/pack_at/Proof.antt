@@ -38,18 +38,32 @@ to-packed-requires c κs = width-small (c .before .before .before .before .befor
 
 settle-requires : tie.Need-settle-requires
 settle-requires c κs =
-    let a = c .before .before .before .before .before .before .before .before .args in
-    (c .before .before .before .before .before .before .before .before .pre .0, to-in (length (a .d .now)) (a .destination) _ (a .source) _ (a .t) (a .t) _ (c .before .before .before .before .before .beyond .ensures) (c .before .before .before .before .before .before .width-of .ensures) (c .before .before .before .before .before .before .width-of .ensures) (c .before .before .before .before .if1 .left))
+    let else1 = c .before .before .before .before in
+    let after-beyond = else1 .before in
+    let after-width-of = after-beyond .before in
+    let start = after-width-of .before .before in
+    let a = start .args in (
+      start .pre .0,
+      to-in (length (a .d .now)) (a .destination) _ (a .source) _ (a .t) (a .t) _ (after-beyond .beyond .ensures) (after-width-of .width-of .ensures)
+          (after-width-of .width-of .ensures) (else1 .if1 .left),
+    )
 
 returns-2 : tie.Need-returns-2
 unfolding packing packed
 returns-2 c =
-    let a = c .before .before .before .before .before .before .before .before .before .before .before .args in
-    let w = c .before .before .before .before .before .before .before .before .before .width-of .ensures in
-    was-tried (a .d .now) (a .destination) _ (a .source) _ (a .t) (a .t) _ (c .before .before .before .before .before .before .before .before .beyond .ensures) w w (packed (a .t) (readLE (a .d .now) (a .source) (widthOf (a .t)))) (c .before .before .before .before .before .before .before .if1 .left) _ _
+    let after-to-packed = c .before .before .before in
+    let after-load = after-to-packed .before .before in
+    let else1 = after-load .before .before in
+    let after-beyond = else1 .before in
+    let after-width-of = after-beyond .before in
+    let start = after-width-of .before .before in
+    let a = start .args in
+    let w = after-width-of .width-of .ensures in
+    was-tried (a .d .now) (a .destination) _ (a .source) _ (a .t) (a .t) _ (after-beyond .beyond .ensures) w w
+    (packed (a .t) (readLE (a .d .now) (a .source) (widthOf (a .t)))) (else1 .if1 .left) _ _
     (c .before .before .settle .ensures
     ∙ ap (λ (x : Converted). settled (a .t) (a .d .now) (a .destination) (resultAs (a .t) x))
-    (c .before .before .before .to-packed .ensures ∙ ap (packedAt (c .before .before .before .before .before .before .before .before .before .width-of .result)) (c .before .before .before .before .before .load .ensures .0) ∙ ap (λ (n : ℕ). packedAt n (readLE (a .d .now) (a .source) n)) w))
+    (after-to-packed .to-packed .ensures ∙ ap (packedAt (after-width-of .width-of .result)) (after-load .load .ensures .0) ∙ ap (λ (n : ℕ). packedAt n (readLE (a .d .now) (a .source) n)) w))
 
 pub pack-at-spec : {M : Type 1} → statement M
 pack-at-spec =
