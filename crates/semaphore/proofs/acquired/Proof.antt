@@ -30,7 +30,11 @@ array-write-standing : tie.Need-array-write-standing
 array-write-standing c = search needs
 
 returns : tie.Need-returns
-returns c = acquired-is (c .before .before .before .before .before .before .pre .0) _ (c .before .before .before .before .before .before .pre .1) (c .before .before .before .before .before .before .pre .2) (c .before .before .before .before .before .before .pre .3) (add-one _) (⊎-elim (λ w. w .1) (λ w. omega (arith, w .0, w .1)) (c .before .before .before .before .if1 .came)) refl refl
+returns c =
+    let joined1 = c .before .before .before .before in
+    let start = joined1 .before .before in
+    acquired-is (start .pre .0) _ (start .pre .1) (start .pre .2) (start .pre .3) (add-one _)
+    (⊎-elim (λ w. w .1) (λ w. omega (arith, w .0, w .1)) (joined1 .if1 .came)) refl refl
 
 pub acquired-spec : {M : Type 1} → statement M
 acquired-spec =

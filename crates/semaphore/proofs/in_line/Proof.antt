@@ -18,6 +18,10 @@ Inv-loop from k m i₀ i = inLine k (drop from (semaphoreOf m .line)) ≡ inLine
 abbrev μ-loop : tie.MeasureT-loop
 μ-loop from k m i₀ i = 4 - i
 
+-- the line has four places
+four-places : (start : tie.Start Inv-loop μ-loop) → length (start .args .t1 .line) ≡ 4
+four-places start = search needs
+
 loop-holds : tie.Need-loop-holds Inv-loop μ-loop
 loop-holds c = refl
 
@@ -32,7 +36,16 @@ element-copy-out-if2 c = search needs
 
 returns-2 : tie.Need-returns-2 Inv-loop μ-loop
 unfolding pick
-returns-2 c = (let n : length (c .before .before .before .before .before .args .t1 .line) ≡ 4 = search needs in sym (c .before .before .before .before .loop .inv ∙ rw (line-entry (c .before .before .before .before .before .args .t1 .line) (c .before .before .before .before .before .args .t1 .waiting) (c .before .before .before .before .loop .i) (omega (arith, c .before .before .if1 .left)) (omega (arith, n, c .before .before .before .loop-test .taken)), eq-eqb _ _ (c .if2 .taken))))
+returns-2 c =
+    let tested = c .before .before .before in
+    let turn = tested .before in
+    let start = turn .before in
+    sym (turn .loop .inv
+    ∙ rw (
+      line-entry (start .args .t1 .line) (start .args .t1 .waiting) (turn .loop .i) (omega (arith, c .before .before .if1 .left))
+          (omega (arith, four-places start, tested .loop-test .taken)),
+      eq-eqb _ _ (c .if2 .taken),
+    ))
 
 add-i : tie.Need-add-i Inv-loop μ-loop
 add-i c = search needs
@@ -42,10 +55,21 @@ loop-less c = search needs
 
 loop-again : tie.Need-loop-again Inv-loop μ-loop
 unfolding pick
-loop-again c = (let n : length (c .before .before .before .before .before .args .t1 .line) ≡ 4 = search needs in c .before .before .before .before .loop .inv ∙ rw (line-entry (c .before .before .before .before .before .args .t1 .line) (c .before .before .before .before .before .args .t1 .waiting) (c .before .before .before .before .loop .i) (omega (arith, c .before .before .if1 .left)) (omega (arith, n, c .before .before .before .loop-test .taken)), ne-eqb _ _ (c .if2 .left)))
+loop-again c =
+    let tested = c .before .before .before in
+    let turn = tested .before in
+    let start = turn .before in
+    turn .loop .inv
+    ∙ rw (
+      line-entry (start .args .t1 .line) (start .args .t1 .waiting) (turn .loop .i) (omega (arith, c .before .before .if1 .left))
+          (omega (arith, four-places start, tested .loop-test .taken)),
+      ne-eqb _ _ (c .if2 .left),
+    )
 
 returns-3 : tie.Need-returns-3 Inv-loop μ-loop
-returns-3 c = (let n : length (c .before .before .args .t1 .line) ≡ 4 = search needs in sym (c .before .loop .inv ∙ rw (line-past (c .before .before .args .t1 .line) (c .before .before .args .t1 .waiting) (c .before .loop .i) (omega (arith, n, c .loop-test .left)))))
+returns-3 c =
+    let start = c .before .before in
+    sym (c .before .loop .inv ∙ rw (line-past (start .args .t1 .line) (start .args .t1 .waiting) (c .before .loop .i) (omega (arith, four-places start, c .loop-test .left))))
 
 pub in-line-spec : {M : Type 1} → statement M
 in-line-spec =

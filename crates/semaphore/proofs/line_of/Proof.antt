@@ -34,7 +34,24 @@ in-line-requires-4 c κs = search needs
 
 returns : tie.Need-returns
 unfolding lineOf
-returns c = rw (c .before .before .before .before .before .before .before .before .cores-in-line .ensures, c .before .before .before .before .before .before .before .entry .ensures, c .before .before .before .before .before .before .entry2 .ensures, c .before .before .before .before .before .entry3 .ensures, c .before .before .before .before .entry4 .ensures, c .before .before .before .in-line .ensures, c .before .before .in-line2 .ensures, c .before .in-line3 .ensures, c .in-line4 .ensures) refl
+returns c =
+    let after-in-line = c .before .before .before in
+    let after-entry4 = after-in-line .before in
+    let after-entry3 = after-entry4 .before in
+    let after-entry2 = after-entry3 .before in
+    let after-entry = after-entry2 .before in
+    let after-cores-in-line = after-entry .before in
+    rw (
+      after-cores-in-line .cores-in-line .ensures,
+      after-entry .entry .ensures,
+      after-entry2 .entry2 .ensures,
+      after-entry3 .entry3 .ensures,
+      after-entry4 .entry4 .ensures,
+      after-in-line .in-line .ensures,
+      c .before .before .in-line2 .ensures,
+      c .before .in-line3 .ensures,
+      c .in-line4 .ensures,
+    ) refl
 
 pub line-of-spec : {M : Type 1} → statement M
 line-of-spec =
