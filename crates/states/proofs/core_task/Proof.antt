@@ -58,10 +58,16 @@ element-copy-out-t25 : tie.Need-element-copy-out-t25
 element-copy-out-t25 c = search needs
 
 cast-t26 : tie.Need-cast-t26
-cast-t26 c = record { fits = omega (arith, count-at _ _ (c .before .before .before .before .before .before .before .before .pre .0) _ (c .before .before .before .before .before .before .before .before .pre .3) _ (c .before .before .before .before .before .before .before .before .pre .2), c .before .before .before .before .before .before .before .before .pre .0 .counts (c .before .before .before .before .before .before .before .before .args .k)) }
+cast-t26 c =
+    let start = c .before .before .before .before .before .before .before .before in
+    record { fits = omega (arith, count-at _ _ (start .pre .0) _ (start .pre .3) _ (start .pre .2), start .pre .0 .counts (start .args .k)) }
 
 returns : tie.Need-returns
-returns c = task-is _ _ (c .before .before .before .before .before .before .before .before .pre .0) _ (c .before .before .before .before .before .before .before .before .pre .3) _ _ _ _ (c .before .before .before .before .before .before .before .before .pre .1) (c .before .before .before .before .before .before .before .before .pre .2) (c .before .before .before .bytes .ensures .0) (c .before .before .bytes2 .ensures .0)
+returns c =
+    let after-bytes = c .before .before .before in
+    let start = after-bytes .before .before .before .before .before in
+    task-is _ _ (start .pre .0) _ (start .pre .3) _ _ _ _ (start .pre .1) (start .pre .2) (after-bytes .bytes .ensures .0)
+    (c .before .before .bytes2 .ensures .0)
 
 pub core-task-spec : {M : Type 1} → statement M
 core-task-spec =

@@ -30,14 +30,29 @@ depth-fit-requires c κs = search needs
 
 returns-4 : tie.Need-returns-4
 unfolding executionFit
-returns-4 c = passes (le-leb _ _ (c .before .before .before .before .before .before .if1 .left)) (admits (c .before .before .before .before .before .places-fit .ensures) (c .before .before .before .before .if2 .left) (admits (c .before .before .before .offsets-fit .ensures) (c .before .before .if3 .left) (rejects _ (c .before .depth-fit .ensures) (c .if4 .taken))))
+returns-4 c =
+    let after-offsets-fit = c .before .before .before in
+    let else2 = after-offsets-fit .before in
+    let after-places-fit = else2 .before in
+    let else1 = after-places-fit .before in
+    passes (le-leb _ _ (else1 .if1 .left)) (admits (after-places-fit .places-fit .ensures) (else2 .if2 .left)
+    (admits (after-offsets-fit .offsets-fit .ensures) (c .before .before .if3 .left) (rejects _ (c .before .depth-fit .ensures) (c .if4 .taken))))
 
 cast-result : tie.Need-cast-result
 cast-result c = search needs
 
 returns-5 : tie.Need-returns-5
 unfolding executionFit
-returns-5 c = passes (le-leb _ _ (c .before .before .before .before .before .before .before .before .if1 .left)) (admits (c .before .before .before .before .before .before .before .places-fit .ensures) (c .before .before .before .before .before .before .if2 .left) (admits (c .before .before .before .before .before .offsets-fit .ensures) (c .before .before .before .before .if3 .left) (admits (c .before .before .before .depth-fit .ensures) (c .before .before .if4 .left) refl)))
+returns-5 c =
+    let after-depth-fit = c .before .before .before in
+    let else3 = after-depth-fit .before in
+    let after-offsets-fit = else3 .before in
+    let else2 = after-offsets-fit .before in
+    let after-places-fit = else2 .before in
+    let else1 = after-places-fit .before in
+    passes (le-leb _ _ (else1 .if1 .left)) (admits (after-places-fit .places-fit .ensures) (else2 .if2 .left)
+    (admits (after-offsets-fit .offsets-fit .ensures) (else3 .if3 .left)
+    (admits (after-depth-fit .depth-fit .ensures) (c .before .before .if4 .left) refl)))
 
 pub execution-fit-spec : {M : Type 1} → statement M
 execution-fit-spec =

@@ -36,14 +36,29 @@ add-in-line c = record { fits = omega (arith, c .before .loop-test .taken, c .be
 in-line-requires : tie.Need-in-line-requires Inv-loop μ-loop
 in-line-requires c κs = search needs
 
+-- the line has four places
+four-places : (start : tie.Start Inv-loop μ-loop) → length (start .args .t5 .semaphore .line) ≡ 4
+four-places start = search needs
+
 returns-2 : tie.Need-returns-2 Inv-loop μ-loop
-returns-2 c = (let n : length (c .before .before .before .before .before .before .before .before .before .args .t5 .semaphore .line) ≡ 4 = search needs in fitting-stop _ _ _ (c .before .before .before .before .loop .i) (c .before .before .before .before .loop .inv) (c .before .before .before .loop-test .taken) n (fails _ (ap not (sym (c .before .in-line .ensures) ∙ c .if2 .taken))))
+returns-2 c =
+    let tested = c .before .before .before in
+    let turn = tested .before in
+    let start = turn .before .before .before .before .before in
+    fitting-stop _ _ _ (turn .loop .i) (turn .loop .inv) (tested .loop-test .taken) (four-places start)
+    (fails _ (ap not (sym (c .before .in-line .ensures) ∙ c .if2 .taken)))
 
 cast-core : tie.Need-cast-core Inv-loop μ-loop
 cast-core c = search needs
 
 returns-3 : tie.Need-returns-3 Inv-loop μ-loop
-returns-3 c = (let n : length (c .before .before .before .before .before .before .before .before .before .before .args .t5 .semaphore .line) ≡ 4 = search needs in fitting-stop _ _ _ (c .before .before .before .before .before .loop .i) (c .before .before .before .before .before .loop .inv) (c .before .before .before .before .loop-test .taken) n (passes (ap not (sym (c .before .before .in-line .ensures) ∙ c .before .if2 .left)) (fails _ (le-ltb _ _ (rw (c .before .before .before .before .before .before .before .before .before .before .pre .2) at (c .if3 .taken))))))
+returns-3 c =
+    let tested = c .before .before .before .before in
+    let turn = tested .before in
+    let start = turn .before .before .before .before .before in
+    fitting-stop _ _ _ (turn .loop .i) (turn .loop .inv) (tested .loop-test .taken) (four-places start)
+    (passes (ap not (sym (c .before .before .in-line .ensures) ∙ c .before .if2 .left))
+    (fails _ (le-ltb _ _ (rw (start .pre .2) at (c .if3 .taken)))))
 
 mul-may-wait : tie.Need-mul-may-wait Inv-loop μ-loop
 mul-may-wait c = search needs
@@ -61,7 +76,19 @@ may-wait-requires : tie.Need-may-wait-requires Inv-loop μ-loop
 may-wait-requires c κs = search needs
 
 returns-4 : tie.Need-returns-4 Inv-loop μ-loop
-returns-4 c = (let n : length (c .before .before .before .before .before .before .before .before .before .before .before .before .before .args .t5 .semaphore .line) ≡ 4 = search needs in fitting-stop _ _ _ (c .before .before .before .before .before .before .before .before .loop .i) (c .before .before .before .before .before .before .before .before .loop .inv) (c .before .before .before .before .before .before .before .loop-test .taken) n (passes (ap not (sym (c .before .before .before .before .before .in-line .ensures) ∙ c .before .before .before .before .if2 .left)) (passes (lt-ltb _ _ (rw (c .before .before .before .before .before .before .before .before .before .before .before .before .before .pre .2) at (c .before .before .before .if3 .left))) (rejects _ (c .before .may-wait .ensures ∙ may-by _ _ _ _ _ (tasks-at _ _ (c .before .before .before .before .before .before .before .before .before .before .before .before .before .pre .0) _ (c .before .before .before .before .before .before .before .before .before .before .before .before .before .pre .1) _ (rw (c .before .before .before .before .before .before .before .before .before .before .before .before .before .pre .2) at (c .before .before .before .if3 .left)))) (c .if4 .taken)))))
+returns-4 c =
+    let else3 = c .before .before .before in
+    let else2 = else3 .before in
+    let after-in-line = else2 .before in
+    let tested = after-in-line .before .before in
+    let turn = tested .before in
+    let start = turn .before .before .before .before .before in
+    fitting-stop _ _ _ (turn .loop .i) (turn .loop .inv) (tested .loop-test .taken) (four-places start)
+    (passes (ap not (sym (after-in-line .in-line .ensures) ∙ else2 .if2 .left))
+    (passes (lt-ltb _ _ (rw (start .pre .2) at (else3 .if3 .left)))
+    (rejects _ (c .before .may-wait .ensures
+    ∙ may-by _ _ _ _ _ (tasks-at _ _ (start .pre .0) _ (start .pre .1) _ (rw (start .pre .2) at (else3 .if3 .left))))
+    (c .if4 .taken))))
 
 add-i : tie.Need-add-i Inv-loop μ-loop
 add-i c = record { fits = omega (arith, c .before .before .before .before .before .before .before .loop-test .taken, c .before .before .before .before .before .before .before .before .loop .inv .few) }
@@ -70,7 +97,19 @@ loop-less : tie.Need-loop-less Inv-loop μ-loop
 loop-less c = omega (arith, c .before .before .before .before .before .before .before .loop-test .taken)
 
 loop-again : tie.Need-loop-again Inv-loop μ-loop
-loop-again c = (let n : length (c .before .before .before .before .before .before .before .before .before .before .before .before .before .args .t5 .semaphore .line) ≡ 4 = search needs in fitting-more _ _ _ (c .before .before .before .before .before .before .before .before .loop .i) (c .before .before .before .before .before .before .before .before .loop .inv) (c .before .before .before .before .before .before .before .loop-test .taken) n (passes (ap not (sym (c .before .before .before .before .before .in-line .ensures) ∙ c .before .before .before .before .if2 .left)) (passes (lt-ltb _ _ (rw (c .before .before .before .before .before .before .before .before .before .before .before .before .before .pre .2) at (c .before .before .before .if3 .left))) (admits (c .before .may-wait .ensures ∙ may-by _ _ _ _ _ (tasks-at _ _ (c .before .before .before .before .before .before .before .before .before .before .before .before .before .pre .0) _ (c .before .before .before .before .before .before .before .before .before .before .before .before .before .pre .1) _ (rw (c .before .before .before .before .before .before .before .before .before .before .before .before .before .pre .2) at (c .before .before .before .if3 .left)))) (c .if4 .left) refl))))
+loop-again c =
+    let else3 = c .before .before .before in
+    let else2 = else3 .before in
+    let after-in-line = else2 .before in
+    let tested = after-in-line .before .before in
+    let turn = tested .before in
+    let start = turn .before .before .before .before .before in
+    fitting-more _ _ _ (turn .loop .i) (turn .loop .inv) (tested .loop-test .taken) (four-places start)
+    (passes (ap not (sym (after-in-line .in-line .ensures) ∙ else2 .if2 .left))
+    (passes (lt-ltb _ _ (rw (start .pre .2) at (else3 .if3 .left)))
+    (admits (c .before .may-wait .ensures
+    ∙ may-by _ _ _ _ _ (tasks-at _ _ (start .pre .0) _ (start .pre .1) _ (rw (start .pre .2) at (else3 .if3 .left))))
+    (c .if4 .left) refl)))
 
 returns-5 : tie.Need-returns-5 Inv-loop μ-loop
 returns-5 c = fitting-end _ _ _ (c .before .loop .i) (c .before .loop .inv) (c .loop-test .left)

@@ -43,7 +43,13 @@ below-requires-2 c κs = search needs
 
 returns-2 : tie.Need-returns-2 Inv-loop μ-loop
 unfolding offsetsFit
-returns-2 c = admits (c .before .before .before .before .before .before .below .ensures) (c .before .before .before .before .before .if1 .left) (passing-stop _ 16 _ (c .before .before .before .before .loop .inv) (c .before .before .before .loop-test .taken) (sym (c .before .below2 .ensures) ∙ not-true _ (c .if2 .taken)))
+returns-2 c =
+    let tested = c .before .before .before in
+    let turn = tested .before in
+    let else1 = turn .before in
+    let after-below = else1 .before in
+    admits (after-below .below .ensures) (else1 .if1 .left)
+    (passing-stop _ 16 _ (turn .loop .inv) (tested .loop-test .taken) (sym (c .before .below2 .ensures) ∙ not-true _ (c .if2 .taken)))
 
 add-i : tie.Need-add-i Inv-loop μ-loop
 add-i c = omega arith

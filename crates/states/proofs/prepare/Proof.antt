@@ -15,24 +15,46 @@ no-task-requires : tie.Need-no-task-requires
 no-task-requires c κs = search needs
 
 returns : tie.Need-returns
-returns c = rw (c .no-task .ensures) (prepared-refused (c .before .before .before .before .before .before .args .file .now) (c .before .before .before .before .before .before .args .trace .now) _ (c .before .before .before .load-trace .ensures) (c .before .before .before .before .before .before .args .s) (c .before .if1 .taken))
+returns c =
+    let after-load-trace = c .before .before .before in
+    let start = after-load-trace .before .before .before in
+    rw (c .no-task .ensures)
+    (prepared-refused (start .args .file .now) (start .args .trace .now) _ (after-load-trace .load-trace .ensures) (start .args .s) (c .before .if1 .taken))
 
 core-tasks-requires : tie.Need-core-tasks-requires
-core-tasks-requires c κs = (
-  accepted-set (c .before .before .before .before .before .args .file .now) (c .before .before .before .before .before .args .trace .now) (λ i. omega (arith, c .before .before .before .before .shared-slice-known .given i)) (λ i. omega (arith, c .before .before .before .shared-slice-known2 .given i)) (c .before .before .before .before .before .pre .0) (trace-sound (c .before .before .before .before .before .args .file .now) (c .before .before .before .before .before .args .trace .now) _ (c .before .before .load-trace .ensures) (c .if1 .left)),
-  c .before .before .before .before .before .pre .1,
-  trace-laid (c .before .before .before .before .before .args .file .now) (c .before .before .before .before .before .args .trace .now) _ (c .before .before .load-trace .ensures) (c .if1 .left),
-)
+core-tasks-requires c κs =
+    let after-load-trace = c .before .before in
+    let known2 = after-load-trace .before in
+    let known = known2 .before in
+    let start = known .before in
+    let file = start .args .file .now in
+    let trace = start .args .trace .now in (
+      accepted-set file trace (λ i. omega (arith, known .shared-slice-known .given i)) (λ i. omega (arith, known2 .shared-slice-known2 .given i))
+          (start .pre .0) (trace-sound file trace _ (after-load-trace .load-trace .ensures) (c .if1 .left)),
+      start .pre .1,
+      trace-laid file trace _ (after-load-trace .load-trace .ensures) (c .if1 .left),
+    )
 
 state-refusal-requires : tie.Need-state-refusal-requires
-state-refusal-requires c κs = (
-  accepted-set (c .before .before .before .before .before .before .args .file .now) (c .before .before .before .before .before .before .args .trace .now) (λ i. omega (arith, c .before .before .before .before .before .shared-slice-known .given i)) (λ i. omega (arith, c .before .before .before .before .shared-slice-known2 .given i)) (c .before .before .before .before .before .before .pre .0) (trace-sound (c .before .before .before .before .before .before .args .file .now) (c .before .before .before .before .before .before .args .trace .now) _ (c .before .before .before .load-trace .ensures) (c .before .if1 .left)),
-  c .core-tasks .ensures,
-  ap (λ (l : Layout). l .cores) (c .before .before .before .before .before .before .pre .1),
-)
+state-refusal-requires c κs =
+    let after-load-trace = c .before .before .before in
+    let known2 = after-load-trace .before in
+    let known = known2 .before in
+    let start = known .before in
+    let file = start .args .file .now in
+    let trace = start .args .trace .now in (
+      accepted-set file trace (λ i. omega (arith, known .shared-slice-known .given i)) (λ i. omega (arith, known2 .shared-slice-known2 .given i))
+          (start .pre .0) (trace-sound file trace _ (after-load-trace .load-trace .ensures) (c .before .if1 .left)),
+      c .core-tasks .ensures,
+      ap (λ (l : Layout). l .cores) (start .pre .1),
+    )
 
 returns-2 : tie.Need-returns-2
-returns-2 c = prepared-sound (c .before .before .before .before .before .before .before .args .file .now) (c .before .before .before .before .before .before .before .args .trace .now) _ (c .before .before .before .before .load-trace .ensures) (c .before .before .before .before .before .before .before .args .s) (c .before .before .if1 .left) _ _ (c .state-refusal .ensures) (c .before .core-tasks .ensures)
+returns-2 c =
+    let after-load-trace = c .before .before .before .before in
+    let start = after-load-trace .before .before .before in
+    prepared-sound (start .args .file .now) (start .args .trace .now) _ (after-load-trace .load-trace .ensures) (start .args .s) (c .before .before .if1 .left) _ _
+    (c .state-refusal .ensures) (c .before .core-tasks .ensures)
 
 pub prepare-spec : {M : Type 1} → statement M
 prepare-spec = tie.close (tie.spec load-trace-requires no-task-requires returns core-tasks-requires state-refusal-requires returns-2)

@@ -42,11 +42,26 @@ array-copy-out-core-fit : tie.Need-array-copy-out-core-fit Inv-loop μ-loop
 array-copy-out-core-fit c = omega (arith, c .before .before .before .before .before .before .before .before .pre .2, c .before .before .before .before .before .before .before .before .pre .0 .few)
 
 core-fit-requires : tie.Need-core-fit-requires Inv-loop μ-loop
-core-fit-requires c κs = (c .before .before .before .before .before .before .before .before .before .pre .0, rw (c .before .before .before .before .before .before .before .before .before .pre .2) at (c .before .loop-test .taken), tasks-at _ _ (c .before .before .before .before .before .before .before .before .before .pre .0) _ (c .before .before .before .before .before .before .before .before .before .pre .1) _ (rw (c .before .before .before .before .before .before .before .before .before .pre .2) at (c .before .loop-test .taken)))
+core-fit-requires c κs =
+    let tested = c .before in
+    let start = tested .before .before .before .before .before .before .before .before in (
+      start .pre .0,
+      rw (start .pre .2) at (tested .loop-test .taken),
+      tasks-at _ _ (start .pre .0) _ (start .pre .1) _ (rw (start .pre .2) at (tested .loop-test .taken)),
+    )
 
 returns-3 : tie.Need-returns-3 Inv-loop μ-loop
 unfolding stateRefusal stateFit
-returns-3 c = sym (no _ 23 (sym (passes (eq-eqb _ _ (c .before .before .before .before .before .before .before .if1 .left ∙ c .before .before .before .before .before .before .before .before .before .before .before .pre .2)) (passes (le-leb _ _ (rw (c .before .before .before .before .before .before .before .before .before .before .before .pre .2) at (c .before .before .before .before .before .if2 .left))) (fails _ (sym (passing-stop _ _ _ (c .before .before .before .before .loop .inv) (rw (c .before .before .before .before .before .before .before .before .before .before .before .pre .2) at (c .before .before .before .loop-test .taken)) (sym (c .before .core-fit .ensures) ∙ not-true _ (c .if3 .taken)))))))))
+returns-3 c =
+    let tested = c .before .before .before in
+    let turn = tested .before in
+    let else2 = turn .before in
+    let else1 = else2 .before .before in
+    let start = else1 .before .before .before .before in
+    sym (no _ 23 (sym (passes (eq-eqb _ _ (else1 .if1 .left ∙ start .pre .2))
+    (passes (le-leb _ _ (rw (start .pre .2) at (else2 .if2 .left)))
+    (fails _ (sym (passing-stop _ _ _ (turn .loop .inv) (rw (start .pre .2) at (tested .loop-test .taken))
+    (sym (c .before .core-fit .ensures) ∙ not-true _ (c .if3 .taken)))))))))
 
 add-k : tie.Need-add-k Inv-loop μ-loop
 add-k c = omega arith
@@ -62,11 +77,27 @@ line-fit-requires c κs = search needs
 
 returns-4 : tie.Need-returns-4 Inv-loop μ-loop
 unfolding stateRefusal stateFit
-returns-4 c = sym (no _ 23 (sym (passes (eq-eqb _ _ (c .before .before .before .before .before .before .if1 .left ∙ c .before .before .before .before .before .before .before .before .before .before .pre .2)) (passes (le-leb _ _ (rw (c .before .before .before .before .before .before .before .before .before .before .pre .2) at (c .before .before .before .before .if2 .left))) (passes (sym (passing-end _ _ _ (c .before .before .before .loop .inv) (rw (c .before .before .before .before .before .before .before .before .before .before .pre .2) at (c .before .before .loop-test .left)))) (sym (not-true _ (c .if4 .taken)) ∙ c .before .line-fit .ensures))))))
+returns-4 c =
+    let turn = c .before .before .before in
+    let else2 = turn .before in
+    let else1 = else2 .before .before in
+    let start = else1 .before .before .before .before in
+    sym (no _ 23 (sym (passes (eq-eqb _ _ (else1 .if1 .left ∙ start .pre .2))
+    (passes (le-leb _ _ (rw (start .pre .2) at (else2 .if2 .left)))
+    (passes (sym (passing-end _ _ _ (turn .loop .inv) (rw (start .pre .2) at (c .before .before .loop-test .left))))
+    (sym (not-true _ (c .if4 .taken)) ∙ c .before .line-fit .ensures))))))
 
 returns-5 : tie.Need-returns-5 Inv-loop μ-loop
 unfolding stateRefusal stateFit
-returns-5 c = sym (yes _ 23 (sym (passes (eq-eqb _ _ (c .before .before .before .before .before .before .if1 .left ∙ c .before .before .before .before .before .before .before .before .before .before .pre .2)) (passes (le-leb _ _ (rw (c .before .before .before .before .before .before .before .before .before .before .pre .2) at (c .before .before .before .before .if2 .left))) (passes (sym (passing-end _ _ _ (c .before .before .before .loop .inv) (rw (c .before .before .before .before .before .before .before .before .before .before .pre .2) at (c .before .before .loop-test .left)))) (sym (not-false _ (c .if4 .left)) ∙ c .before .line-fit .ensures))))))
+returns-5 c =
+    let turn = c .before .before .before in
+    let else2 = turn .before in
+    let else1 = else2 .before .before in
+    let start = else1 .before .before .before .before in
+    sym (yes _ 23 (sym (passes (eq-eqb _ _ (else1 .if1 .left ∙ start .pre .2))
+    (passes (le-leb _ _ (rw (start .pre .2) at (else2 .if2 .left)))
+    (passes (sym (passing-end _ _ _ (turn .loop .inv) (rw (start .pre .2) at (c .before .before .loop-test .left))))
+    (sym (not-false _ (c .if4 .left)) ∙ c .before .line-fit .ensures))))))
 
 pub state-refusal-spec : {M : Type 1} → statement M
 state-refusal-spec =
