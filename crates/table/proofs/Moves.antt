@@ -69,7 +69,10 @@ module _ (t : Task) (k : ℕ) (s : State) where
   resting z (suc (suc zero)) e = absurd (z .still .1 e)
   resting z (suc (suc (suc zero))) e = absurd (z .no-write e)
   resting z (suc (suc (suc (suc zero)))) e = absurd (z .still .2 e)
-  resting z (suc (suc (suc (suc (suc m))))) e = sym (other-modes (suc (suc (suc (suc (suc m))))) (servedOrJoins (s .semaphore) k) (length (t .samples k)) (at s k .registers .cycles) (λ q. let y : ⊥ = omega arith in y) (λ q. let y : ⊥ = omega arith in y)) ∙ le-ltb (suc (suc (suc (suc (suc m))))) 5 (omega arith)
+  resting z (suc (suc (suc (suc (suc m))))) e =
+      sym (other-modes (suc (suc (suc (suc (suc m))))) (servedOrJoins (s .semaphore) k) (length (t .samples k)) (at s k .registers .cycles)
+      (λ q. let y : ⊥ = omega arith in y) (λ q. let y : ⊥ = omega arith in y))
+      ∙ le-ltb (suc (suc (suc (suc (suc m))))) 5 (omega arith)
 
   -- a core that waits: it joins, or it stands in line and nothing changes
   some-left : drop (at s k .registers .cycles) (t .samples k) ≢ [] → ltb (at s k .registers .cycles) (length (t .samples k)) ≡ true

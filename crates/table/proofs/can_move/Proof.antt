@@ -34,7 +34,11 @@ returns-3 c = rw (c .before .if3 .taken) (c .goes-on2 .ensures)
 
 returns-4 : tie.Need-returns-4
 unfolding canMove
-returns-4 c = other-modes (c .before .before .before .before .before .args .r .mode) (servedOrJoins (semaphoreOf (c .before .before .before .before .before .args .m)) (c .before .before .before .before .before .args .k)) (c .before .before .before .before .before .args .count) (c .before .before .before .before .before .args .r .cycles) (c .before .before .before .if1 .left) (c .before .if3 .left)
+returns-4 c =
+    let else1 = c .before .before .before in
+    let start = else1 .before .before in
+    other-modes (start .args .r .mode) (servedOrJoins (semaphoreOf (start .args .m)) (start .args .k)) (start .args .count) (start .args .r .cycles)
+    (else1 .if1 .left) (c .before .if3 .left)
 
 pub can-move-spec : {M : Type 1} → statement M
 can-move-spec =

@@ -44,7 +44,12 @@ cast-t23 : tie.Need-cast-t23 Inv-loop μ-loop
 cast-t23 c = omega (arith, inside-four _ _ (c .before .before .before .before .before .before .before .before .args .t5) _ _ _ (c .before .before .before .before .before .before .before .before .pre) (c .before .before .before .before .loop .i))
 
 returns : tie.Need-returns Inv-loop μ-loop
-returns c = scan-named _ _ (c .before .before .before .before .before .before .before .before .args .t5) _ _ _ (c .before .before .before .before .before .before .before .before .pre) (c .before .before .before .before .loop .i) _ (c .before .before .before .before .loop .inv) (omega (arith, c .before .before .before .loop-test .taken)) (c .before .can-move .ensures) (c .if1 .taken)
+returns c =
+    let tested = c .before .before .before in
+    let turn = tested .before in
+    let start = turn .before .before .before .before in
+    scan-named _ _ (start .args .t5) _ _ _ (start .pre) (turn .loop .i) _ (turn .loop .inv) (omega (arith, tested .loop-test .taken))
+    (c .before .can-move .ensures) (c .if1 .taken)
 
 add-i : tie.Need-add-i Inv-loop μ-loop
 add-i c = omega (arith, c .before .before .before .before .before .before .before .before .pre .0 .few, c .before .before .before .before .before .before .before .before .pre .2)
@@ -53,7 +58,12 @@ loop-less : tie.Need-loop-less Inv-loop μ-loop
 loop-less c = omega arith
 
 loop-again : tie.Need-loop-again Inv-loop μ-loop
-loop-again c = scan-more _ _ (c .before .before .before .before .before .before .before .before .args .t5) _ _ _ (c .before .before .before .before .before .before .before .before .pre) (c .before .before .before .before .loop .i) _ (c .before .before .before .before .loop .inv) (omega (arith, c .before .before .before .loop-test .taken)) (c .before .can-move .ensures) (c .if1 .left)
+loop-again c =
+    let tested = c .before .before .before in
+    let turn = tested .before in
+    let start = turn .before .before .before .before in
+    scan-more _ _ (start .args .t5) _ _ _ (start .pre) (turn .loop .i) _ (turn .loop .inv) (omega (arith, tested .loop-test .taken))
+    (c .before .can-move .ensures) (c .if1 .left)
 
 returns-2 : tie.Need-returns-2 Inv-loop μ-loop
 returns-2 c = scan-none _ _ (c .before .before .before .before .before .args .t5) _ _ _ (c .before .before .before .before .before .pre) (c .before .loop .i) (c .before .loop .inv) (omega (arith, c .loop-test .left))
