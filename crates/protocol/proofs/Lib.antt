@@ -14,6 +14,11 @@ pub mod Commute
 pub mod Order
 pub mod Cycles
 pub mod Tests
+pub mod Line
+pub mod Lined
 pub mod Fair
 pub mod Attained
+pub mod Legal
+pub mod Settling
+pub mod Produced
 pub mod Rerun

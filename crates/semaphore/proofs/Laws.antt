@@ -17,7 +17,7 @@ use Rattle.verdict.proofs.Truth.{fails, tested}
 use Rattle.protocol.specs.State.{Semaphore}
 use Rattle.protocol.specs.Step.{inLine, turnIn, turn, acquiredBy, released, joined, joinedBy}
 use Rattle.protocol.specs.Fair.{Once}
-use Rattle.protocol.proofs.Fair.{leaves}
+use Rattle.protocol.proofs.Lined.{leaves}
 use Rattle.semaphore.specs.declared.Semaphore.{Semaphore as HeldSemaphore}
 use Rattle.semaphore.specs.declared.Line.{Line}
 use Rattle.semaphore.specs.Line.{semaphoreOf, semaphoreBack, waitsAt, standingIn, lineOf, Lined}

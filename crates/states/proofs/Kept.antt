@@ -23,7 +23,7 @@ use Rattle.protocol.specs.Instruction.{Executed, backFrom, appliedBy, applied, 
 use Rattle.protocol.specs.Variables.{readsOf, writesOf}
 use Rattle.protocol.specs.Laws.{Laws, SemaphoreHeld}
 use Rattle.protocol.specs.Fair.{FitLine}
-use Rattle.protocol.proofs.Fair.{Lined, fit-step}
+use Rattle.protocol.proofs.Lined.{Lined, fit-step}
 use Rattle.protocol.proofs.View.{after, at, readByte, writeByte, Moves, rests, waits, takesRead, readsOn, readsLast, runs, takesWrite, writesOn, writesLast, view, inside}
 use Rattle.protocol.proofs.Steps.{each, lengths, SameLengths, held-step}
 use Rattle.protocol.proofs.Copy.{copy-length}

@@ -13,7 +13,7 @@ use lib.Seq.{drop-cons, getD-take}
 use Rattle.protocol.specs.declared.Registers.{Registers}
 use Rattle.protocol.specs.Step.{inLine}
 use Rattle.protocol.specs.Fair.{Once}
-use Rattle.protocol.proofs.Fair.{line-here, line-on, line-cases}
+use Rattle.protocol.proofs.Line.{line-here, line-on, line-cases}
 use Rattle.verdict.specs.Verdict.{both}
 use Rattle.semaphore.specs.Line.{semaphoreOf}
 use Rattle.semaphore.proofs.Laws.{line-end, line-entry}

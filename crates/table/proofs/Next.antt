@@ -16,7 +16,7 @@ use Rattle.protocol.specs.State.{Core as Whole, State, absent, mode}
 use Rattle.protocol.specs.Step.{inLine, turn, step}
 use Rattle.protocol.specs.Laws.{Holding}
 use Rattle.protocol.proofs.View.{at, inside}
-use Rattle.protocol.proofs.Fair.{line-here}
+use Rattle.protocol.proofs.Line.{line-here}
 use Rattle.records.specs.File.{cores}
 use Rattle.taskset.specs.Task.{sampleAt, samplesOf}
 use Rattle.taskset.specs.Trace.{recordCount}
