@@ -3,8 +3,8 @@ use mathlib.Core.Path.{sym, _∙_}
 use native.Mathlib.Omega.{arith}
 use borrow.Author.Needs.{needs}
 use Rattle.code.proofs.Laws.{length-whole, length-cut, length-unlisted}
-use Rattle.code.proofs.packed_length.Statement.{statement}
-use Rattle.code.proofs.packed_length.Tie as tie
+use Rattle.code.proofs.accepted_lengths.packed_length.Statement.{statement}
+use Rattle.code.proofs.accepted_lengths.packed_length.Tie as tie
 
 returns : tie.Need-returns
 returns c = length-cut _ _ _ (c .before .before .pre .1) (omega arith)

@@ -10,8 +10,8 @@ use Rattle.code.specs.Commands.{rowOf, lengthOf}
 use Rattle.code.specs.Instructions.{typedAt, instructionAt, instructionLength}
 use Rattle.code.specs.Code.{operandsOk}
 use Rattle.code.proofs.Laws.{typed-left, typed-takes, typed-sized}
-use Rattle.code.proofs.accepted_length.Statement.{statement}
-use Rattle.code.proofs.accepted_length.Tie as tie
+use Rattle.code.proofs.accepted_lengths.accepted_length.Statement.{statement}
+use Rattle.code.proofs.accepted_lengths.accepted_length.Tie as tie
 
 shared-slice-read-b : tie.Need-shared-slice-read-b
 shared-slice-read-b c = search needs

@@ -4,8 +4,8 @@ use native.Mathlib.Omega.{arith}
 use borrow.Author.Tests.{not-true, not-false}
 use borrow.Author.Needs.{needs}
 use Rattle.code.proofs.Laws.{length-whole, length-cut, length-unlisted}
-use Rattle.code.proofs.conversion_length.Statement.{statement}
-use Rattle.code.proofs.conversion_length.Tie as tie
+use Rattle.code.proofs.accepted_lengths.conversion_length.Statement.{statement}
+use Rattle.code.proofs.accepted_lengths.conversion_length.Tie as tie
 
 sub-if1 : tie.Need-sub-if1
 sub-if1 c = search needs

@@ -2,8 +2,8 @@
 use native.Mathlib.Omega.{arith}
 use borrow.Author.Needs.{needs}
 use Rattle.code.proofs.Laws.{length-whole, length-cut}
-use Rattle.code.proofs.plain_length.Statement.{statement}
-use Rattle.code.proofs.plain_length.Tie as tie
+use Rattle.code.proofs.accepted_lengths.plain_length.Statement.{statement}
+use Rattle.code.proofs.accepted_lengths.plain_length.Tie as tie
 
 sub-if1 : tie.Need-sub-if1
 sub-if1 c = search needs

@@ -2,8 +2,8 @@
 use mathlib.Core.Path.{sym, _∙_}
 use borrow.Author.Tests.{not-true, not-false}
 use borrow.Author.Needs.{needs}
-use Rattle.code.proofs.is_packable.Statement.{statement}
-use Rattle.code.proofs.is_packable.Tie as tie
+use Rattle.code.proofs.accepted_lengths.is_packable.Statement.{statement}
+use Rattle.code.proofs.accepted_lengths.is_packable.Tie as tie
 
 returns : tie.Need-returns
 returns c = rw (sym (c .before .inside .ensures) ∙ not-true _ (c .if1 .taken))

@@ -6,8 +6,8 @@ use borrow.Author.Needs.{needs}
 use Rattle.memory.specs.Memory.{byte}
 use Rattle.code.specs.Code.{elementOk}
 use Rattle.code.proofs.Laws.{length-whole, length-cut, length-unlisted}
-use Rattle.code.proofs.element_length.Statement.{statement}
-use Rattle.code.proofs.element_length.Tie as tie
+use Rattle.code.proofs.accepted_lengths.element_length.Statement.{statement}
+use Rattle.code.proofs.accepted_lengths.element_length.Tie as tie
 
 sub-if1 : tie.Need-sub-if1
 sub-if1 c = search needs

@@ -3,8 +3,8 @@ use mathlib.Core.Path.{sym, _∙_}
 use native.Mathlib.Omega.{arith}
 use borrow.Author.Needs.{needs}
 use Rattle.code.proofs.Laws.{length-whole, length-cut, length-unlisted}
-use Rattle.code.proofs.typed_length.Statement.{statement}
-use Rattle.code.proofs.typed_length.Tie as tie
+use Rattle.code.proofs.accepted_lengths.typed_length.Statement.{statement}
+use Rattle.code.proofs.accepted_lengths.typed_length.Tie as tie
 
 sub-if1 : tie.Need-sub-if1
 sub-if1 c = search needs

@@ -5,8 +5,8 @@ use native.Mathlib.Omega.{arith}
 use borrow.Author.Needs.{needs}
 use borrow.Author.Tests.{not-true, not-false}
 use Rattle.code.proofs.Laws.{constant-short, constant-cut, constant-unlisted, constant-whole}
-use Rattle.code.proofs.constant_length.Statement.{statement}
-use Rattle.code.proofs.constant_length.Tie as tie
+use Rattle.code.proofs.accepted_lengths.constant_length.Statement.{statement}
+use Rattle.code.proofs.accepted_lengths.constant_length.Tie as tie
 
 sub-left : tie.Need-sub-left
 sub-left c = search needs
