@@ -4,6 +4,7 @@ pub mod Ordered
 pub mod Accepted
 pub mod Records
 pub mod Traced
+pub mod Kept
 pub mod Transit
 pub mod Sizes
 pub mod Narrowed

@@ -3,10 +3,10 @@ use mathlib.Core.Path.{sym, _∙_}
 use native.Mathlib.Omega.{arith}
 use Rattle.verdict.proofs.Verdict.{pick-true, pick-false}
 use borrow.Author.Needs.{needs}
-use Rattle.taskset.proofs.start_sections.Statement.{statement}
-use Rattle.taskset.proofs.start_sections.Tie as tie
-use Rattle.taskset.proofs.start_sections.Reads as reads
-use Rattle.taskset.proofs.start_sections.Lts as lts
+use Rattle.taskset.proofs.refusals.start_sections.Statement.{statement}
+use Rattle.taskset.proofs.refusals.start_sections.Tie as tie
+use Rattle.taskset.proofs.refusals.start_sections.Reads as reads
+use Rattle.taskset.proofs.refusals.start_sections.Lts as lts
 use Rattle.taskset.proofs.is_new.Reads as is-new-reads
 
 is-new-requires : tie.Need-is-new-requires

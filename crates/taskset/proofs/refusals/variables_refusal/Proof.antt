@@ -11,8 +11,8 @@ use Rattle.verdict.proofs.Verdict.{skip, stop, halt, yes, no}
 use Rattle.taskset.specs.Judge.{variablesRefusal}
 use Rattle.taskset.proofs.Laws.{records-present}
 use borrow.Author.Needs.{needs}
-use Rattle.taskset.proofs.variables_refusal.Statement.{statement}
-use Rattle.taskset.proofs.variables_refusal.Tie as tie
+use Rattle.taskset.proofs.refusals.variables_refusal.Statement.{statement}
+use Rattle.taskset.proofs.refusals.variables_refusal.Tie as tie
 
 byte-at-requires : tie.Need-byte-at-requires
 byte-at-requires c κs = search needs

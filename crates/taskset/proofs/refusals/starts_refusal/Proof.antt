@@ -5,12 +5,12 @@ use native.Mathlib.Omega.{arith}
 use borrow.Author.Needs.{needs}
 use Rattle.taskset.specs.Judge.{pairsRefusal}
 use Rattle.taskset.proofs.Laws.{Starting, starting-none, starting-more, starts-stop, starts-done, starts-followed}
-use Rattle.taskset.proofs.starts_refusal.Statement.{statement}
-use Rattle.taskset.proofs.starts_refusal.Tie as tie
-use Rattle.taskset.proofs.starts_refusal.Reads as reads
-use Rattle.taskset.proofs.starts_refusal.Lts as lts
+use Rattle.taskset.proofs.refusals.starts_refusal.Statement.{statement}
+use Rattle.taskset.proofs.refusals.starts_refusal.Tie as tie
+use Rattle.taskset.proofs.refusals.starts_refusal.Reads as reads
+use Rattle.taskset.proofs.refusals.starts_refusal.Lts as lts
 use Rattle.memory.proofs.word_at.Reads as word-at-reads
-use Rattle.taskset.proofs.pairs_refusal.Reads as pairs-refusal-reads
+use Rattle.taskset.proofs.refusals.pairs_refusal.Reads as pairs-refusal-reads
 
 abbrev Inv-loop : tie.InvT-loop
 Inv-loop f n from p₀ k₀ p k = Starting f n p k

@@ -6,14 +6,14 @@ use borrow.Author.Needs.{needs}
 use Rattle.verdict.proofs.Verdict.{skip, stop, going-stop, going-end}
 use Rattle.taskset.specs.Judge.{codePlace, sectionRefusal, startPlace, codesRefusal}
 use Rattle.taskset.proofs.Laws.{Sections, sections-none, sections-more, sections-end}
-use Rattle.taskset.proofs.codes_refusal.Statement.{statement}
-use Rattle.taskset.proofs.codes_refusal.Tie as tie
-use Rattle.taskset.proofs.codes_refusal.Reads as reads
-use Rattle.taskset.proofs.codes_refusal.Lts as lts
+use Rattle.taskset.proofs.refusals.codes_refusal.Statement.{statement}
+use Rattle.taskset.proofs.refusals.codes_refusal.Tie as tie
+use Rattle.taskset.proofs.refusals.codes_refusal.Reads as reads
+use Rattle.taskset.proofs.refusals.codes_refusal.Lts as lts
 use Rattle.memory.proofs.word_at.Reads as word-at-reads
-use Rattle.taskset.proofs.section_refusal.Reads as section-refusal-reads
-use Rattle.taskset.proofs.start_sections.Reads as start-sections-reads
-use Rattle.taskset.proofs.starts_refusal.Reads as starts-refusal-reads
+use Rattle.taskset.proofs.refusals.section_refusal.Reads as section-refusal-reads
+use Rattle.taskset.proofs.refusals.start_sections.Reads as start-sections-reads
+use Rattle.taskset.proofs.refusals.starts_refusal.Reads as starts-refusal-reads
 
 abbrev Inv-loop : tie.InvT-loop
 Inv-loop profile f n from p₀ k₀ p k = Sections profile f n p k

@@ -5,8 +5,8 @@ use borrow.Author.Tests.{le-leb, lt-leb, not-true, not-false}
 use Rattle.verdict.proofs.Verdict.{skip, halt, yes, no}
 use Rattle.taskset.specs.Judge.{headRefusal}
 use borrow.Author.Needs.{needs}
-use Rattle.taskset.proofs.head_refusal.Statement.{statement}
-use Rattle.taskset.proofs.head_refusal.Tie as tie
+use Rattle.taskset.proofs.refusals.head_refusal.Statement.{statement}
+use Rattle.taskset.proofs.refusals.head_refusal.Tie as tie
 
 returns : tie.Need-returns
 unfolding headRefusal

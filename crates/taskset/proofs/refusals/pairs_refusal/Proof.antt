@@ -6,10 +6,10 @@ use borrow.Author.Tests.{lt-leb}
 use Rattle.verdict.proofs.Verdict.{halt, no}
 use Rattle.taskset.specs.Judge.{pairsRefusal}
 use Rattle.taskset.proofs.Laws.{Pairs, pairs-none, pairs-more, pair-cut, pair-beyond, pair-falls, pair-fine, pairs-stop, pairs-end}
-use Rattle.taskset.proofs.pairs_refusal.Statement.{statement}
-use Rattle.taskset.proofs.pairs_refusal.Tie as tie
-use Rattle.taskset.proofs.pairs_refusal.Reads as reads
-use Rattle.taskset.proofs.pairs_refusal.Lts as lts
+use Rattle.taskset.proofs.refusals.pairs_refusal.Statement.{statement}
+use Rattle.taskset.proofs.refusals.pairs_refusal.Tie as tie
+use Rattle.taskset.proofs.refusals.pairs_refusal.Reads as reads
+use Rattle.taskset.proofs.refusals.pairs_refusal.Lts as lts
 use Rattle.memory.proofs.word_at.Reads as word-at-reads
 
 abbrev Inv-loop : tie.InvT-loop

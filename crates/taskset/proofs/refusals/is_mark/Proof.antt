@@ -1,10 +1,10 @@
 -- One of the two marks.
 use mathlib.Core.Path.{sym, _∙_}
 use borrow.Author.Needs.{needs}
-use Rattle.taskset.proofs.is_mark.Statement.{statement}
-use Rattle.taskset.proofs.is_mark.Tie as tie
-use Rattle.taskset.proofs.is_mark.Reads as reads
-use Rattle.taskset.proofs.is_mark.Lts as lts
+use Rattle.taskset.proofs.refusals.is_mark.Statement.{statement}
+use Rattle.taskset.proofs.refusals.is_mark.Tie as tie
+use Rattle.taskset.proofs.refusals.is_mark.Reads as reads
+use Rattle.taskset.proofs.refusals.is_mark.Lts as lts
 use Rattle.taskset.proofs.is_new.Reads as is-new-reads
 use Rattle.taskset.proofs.is_old.Reads as is-old-reads
 

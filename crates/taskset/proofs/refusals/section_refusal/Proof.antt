@@ -9,8 +9,8 @@ use Rattle.memory.specs.Memory.{word, part}
 use Rattle.code.specs.Code.{judgeCodeFor}
 use Rattle.taskset.specs.Judge.{sectionRefusal}
 use borrow.Author.Needs.{needs}
-use Rattle.taskset.proofs.section_refusal.Statement.{statement}
-use Rattle.taskset.proofs.section_refusal.Tie as tie
+use Rattle.taskset.proofs.refusals.section_refusal.Statement.{statement}
+use Rattle.taskset.proofs.refusals.section_refusal.Tie as tie
 
 add-a : tie.Need-add-a
 add-a c = search needs
