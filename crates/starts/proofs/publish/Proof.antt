@@ -1,5 +1,5 @@
 -- `Publishing`: the variables before number i are written, and those left make of shared memory what all make of it at entry. Assumes nothing.
-use Prim.Native.Nat.{_-_}
+use Prim.Native.Nat.{_+_, _-_, _≤_}
 use mathlib.Core.Path.{sym, ap, _∙_}
 use native.Mathlib.Omega.{arith}
 use lib.ListN.{length}
@@ -27,17 +27,21 @@ abbrev μ-loop : tie.MeasureT-loop
 loop-holds : tie.Need-loop-holds Inv-loop μ-loop
 loop-holds c = publishing-none _ _ _ _ (ap (λ (l : Layout). l .variables) (c .before .before .before .pre .1)) (ap (λ (l : Layout). l .first) (c .before .before .before .pre .1)) (c .before .before .before .pre .3)
 
+-- the record of the turn's variable lies in the file
+record-here : (c : tie.In-loop Inv-loop μ-loop) → c .before .loop .p + 12 ≤ length (c .before .before .before .before .before .args .f .now)
+record-here c =
+    let turn = c .before in
+    let start = turn .before .before .before .before in
+    record-there (start .args .f .now) (start .pre .0) _ _ _ _ _ (turn .loop .inv) (c .loop-test .taken)
+
 writer-requires : tie.Need-writer-requires Inv-loop μ-loop
-writer-requires c κs = record-there (c .before .before .before .before .before .args .f .now) (c .before .before .before .before .before .pre .0) _ _ _ _ _ (c .before .loop .inv) (c .loop-test .taken)
+writer-requires c κs = record-here c
 
 base-of-requires : tie.Need-base-of-requires Inv-loop μ-loop
 base-of-requires c κs = (c .before .before .before .before .before .before .pre .1, c .writer .ensures .1)
 
 local-place-requires : tie.Need-local-place-requires Inv-loop μ-loop
-local-place-requires c κs =
-    let turn = c .before .before .before in
-    let start = turn .before .before .before .before in
-    (record-there (start .args .f .now) (start .pre .0) _ _ _ _ _ (turn .loop .inv) (c .before .before .loop-test .taken), c .before .writer .ensures .1)
+local-place-requires c κs = (record-here (c .before .before), c .before .writer .ensures .1)
 
 cast-from : tie.Need-cast-from Inv-loop μ-loop
 cast-from c = search needs
@@ -58,21 +62,13 @@ add-from c =
     )
 
 shared-place-requires : tie.Need-shared-place-requires Inv-loop μ-loop
-shared-place-requires c κs =
-    let tested = c .before .before .before in
-    let turn = tested .before in
-    let start = turn .before .before .before .before in
-    record-there (start .args .f .now) (start .pre .0) _ _ _ _ _ (turn .loop .inv) (tested .loop-test .taken)
+shared-place-requires c κs = record-here (c .before .before .before)
 
 cast-to : tie.Need-cast-to Inv-loop μ-loop
 cast-to c = search needs
 
 width-requires : tie.Need-width-requires Inv-loop μ-loop
-width-requires c κs =
-    let tested = c .before .before .before .before .before in
-    let turn = tested .before in
-    let start = turn .before .before .before .before in
-    record-there (start .args .f .now) (start .pre .0) _ _ _ _ _ (turn .loop .inv) (tested .loop-test .taken)
+width-requires c κs = record-here (c .before .before .before .before .before)
 
 cast-copy : tie.Need-cast-copy Inv-loop μ-loop
 cast-copy c = search needs
@@ -105,11 +101,7 @@ copy-requires c κs =
     )
 
 add-p : tie.Need-add-p Inv-loop μ-loop
-add-p c =
-    let tested = c .before .before .before .before .before .before .before .before .before in
-    let turn = tested .before in
-    let start = turn .before .before .before .before in
-    omega (arith, record-there (start .args .f .now) (start .pre .0) _ _ _ _ _ (turn .loop .inv) (tested .loop-test .taken))
+add-p c = omega (arith, record-here (c .before .before .before .before .before .before .before .before .before))
 
 add-i : tie.Need-add-i Inv-loop μ-loop
 add-i c = omega (arith, c .before .before .before .before .before .before .before .before .before .before .loop .inv .all)

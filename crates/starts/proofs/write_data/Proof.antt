@@ -1,5 +1,5 @@
 -- `Filling`: the data of the first k cores are written, and zeros follow. Assumes nothing.
-use Prim.Native.Nat.{ℕ, _+_, _-_}
+use Prim.Native.Nat.{ℕ, _+_, _-_, _*_, _≤_}
 use mathlib.Core.Path.{refl, sym, ap, _∙_}
 use native.Mathlib.Omega.{arith}
 use lib.ListN.{length, length-replicate}
@@ -62,40 +62,39 @@ add-e c =
 word-at-requires-2 : tie.Need-word-at-requires-2 Inv-loop μ-loop
 word-at-requires-2 c κs = search needs
 
-add-write-pairs : tie.Need-add-write-pairs Inv-loop μ-loop
-add-write-pairs c =
-    let turn = c .before .before .before in
+-- the start values of core k lie in the file, and the stretch of its data in the buffer
+pairs-here : (c : tie.After-word-at2 Inv-loop μ-loop)
+    → c .before .before .before .loop .p + 2 + 3 * c .word-at2 .result ≤ length (c .before .before .before .before .before .before .before .before .args .f .now)
+pairs-here c =
+    let tested = c .before .before in
+    let turn = tested .before in
     let after-byte-at = turn .before .before in
     let start = after-byte-at .before .before .before in
-    omega (
-      arith,
-      pairs-there (start .args .f .now) _ _ _ _ (turn .loop .inv) (start .pre .0) (start .pre .1) _ _ _ (after-byte-at .byte-at .ensures)
-          (c .before .before .loop-test .taken) (ap (λ (y : ℕ). (turn .loop .a) + y) (c .before .word-at .ensures .0)) (c .word-at2 .ensures .0),
-    )
+    pairs-there (start .args .f .now) _ _ _ _ (turn .loop .inv) (start .pre .0) (start .pre .1) _ _ _ (after-byte-at .byte-at .ensures)
+    (tested .loop-test .taken) (ap (λ (y : ℕ). turn .loop .a + y) (c .before .word-at .ensures .0)) (c .word-at2 .ensures .0)
+
+fits-here : (c : tie.After-word-at2 Inv-loop μ-loop)
+    → (c .before .before .before .loop .a ≤ c .before .before .before .loop .a + c .before .word-at .result)
+    × (c .before .before .before .loop .a + c .before .word-at .result ≤ length (c .before .before .before .loop .buffer))
+fits-here c =
+    let tested = c .before .before in
+    let turn = tested .before in
+    let after-byte-at = turn .before .before in
+    let start = after-byte-at .before .before .before in
+    fits (start .args .f .now) _ _ _ _ (turn .loop .inv) (start .pre .0) (start .pre .1) _ _ _ (after-byte-at .byte-at .ensures)
+    (tested .loop-test .taken) (ap (λ (y : ℕ). turn .loop .a + y) (c .before .word-at .ensures .0)) (c .word-at2 .ensures .0)
+
+add-write-pairs : tie.Need-add-write-pairs Inv-loop μ-loop
+add-write-pairs c = omega (arith, pairs-here c)
 
 sub-write-pairs : tie.Need-sub-write-pairs Inv-loop μ-loop
-sub-write-pairs c =
-    let turn = c .before .before .before in
-    let after-byte-at = turn .before .before in
-    let start = after-byte-at .before .before .before in
-    fits (start .args .f .now) _ _ _ _ (turn .loop .inv) (start .pre .0) (start .pre .1) _ _ _ (after-byte-at .byte-at .ensures)
-    (c .before .before .loop-test .taken) (ap (λ (y : ℕ). (turn .loop .a) + y) (c .before .word-at .ensures .0)) (c .word-at2 .ensures .0) .0
+sub-write-pairs c = fits-here c .0
 
 part-write-pairs-start : tie.Need-part-write-pairs-start Inv-loop μ-loop
-part-write-pairs-start c =
-    let turn = c .before .before .before in
-    let after-byte-at = turn .before .before in
-    let start = after-byte-at .before .before .before in
-    fits (start .args .f .now) _ _ _ _ (turn .loop .inv) (start .pre .0) (start .pre .1) _ _ _ (after-byte-at .byte-at .ensures)
-    (c .before .before .loop-test .taken) (ap (λ (y : ℕ). (turn .loop .a) + y) (c .before .word-at .ensures .0)) (c .word-at2 .ensures .0) .0
+part-write-pairs-start c = fits-here c .0
 
 part-write-pairs-end : tie.Need-part-write-pairs-end Inv-loop μ-loop
-part-write-pairs-end c =
-    let turn = c .before .before .before in
-    let after-byte-at = turn .before .before in
-    let start = after-byte-at .before .before .before in
-    fits (start .args .f .now) _ _ _ _ (turn .loop .inv) (start .pre .0) (start .pre .1) _ _ _ (after-byte-at .byte-at .ensures)
-    (c .before .before .loop-test .taken) (ap (λ (y : ℕ). (turn .loop .a) + y) (c .before .word-at .ensures .0)) (c .word-at2 .ensures .0) .1
+part-write-pairs-end c = fits-here c .1
 
 write-pairs-requires : tie.Need-write-pairs-requires Inv-loop μ-loop
 write-pairs-requires c κs =
@@ -106,53 +105,19 @@ write-pairs-requires c κs =
     let after-byte-at = turn .before .before in
     let start = after-byte-at .before .before .before in
     let f = start .args .f .now in (
-      pairs-there f _ _ _ _ (turn .loop .inv) (start .pre .0) (start .pre .1) _ _ _ (after-byte-at .byte-at .ensures) (tested .loop-test .taken)
-          (ap (λ (y : ℕ). (turn .loop .a) + y) (after-word-at .word-at .ensures .0)) (after-word-at2 .word-at2 .ensures .0),
+      pairs-here after-word-at2,
       pairs-inside f _ _ _ _ (turn .loop .inv) (start .pre .0) (start .pre .1) _ _ _ (after-byte-at .byte-at .ensures) (tested .loop-test .taken)
           (ap (λ (y : ℕ). (turn .loop .a) + y) (after-word-at .word-at .ensures .0)) (after-word-at2 .word-at2 .ensures .0),
     )
 
 add-p : tie.Need-add-p Inv-loop μ-loop
-add-p c =
-    let after-word-at2 = c .before .before .before .before in
-    let after-word-at = after-word-at2 .before in
-    let tested = after-word-at .before in
-    let turn = tested .before in
-    let after-byte-at = turn .before .before in
-    let start = after-byte-at .before .before .before in
-    omega (
-      arith,
-      pairs-there (start .args .f .now) _ _ _ _ (turn .loop .inv) (start .pre .0) (start .pre .1) _ _ _ (after-byte-at .byte-at .ensures)
-          (tested .loop-test .taken) (ap (λ (y : ℕ). (turn .loop .a) + y) (after-word-at .word-at .ensures .0)) (after-word-at2 .word-at2 .ensures .0),
-    )
+add-p c = omega (arith, pairs-here (c .before .before .before .before))
 
 mul-p : tie.Need-mul-p Inv-loop μ-loop
-mul-p c =
-    let after-word-at2 = c .before .before .before .before in
-    let after-word-at = after-word-at2 .before in
-    let tested = after-word-at .before in
-    let turn = tested .before in
-    let after-byte-at = turn .before .before in
-    let start = after-byte-at .before .before .before in
-    omega (
-      arith,
-      pairs-there (start .args .f .now) _ _ _ _ (turn .loop .inv) (start .pre .0) (start .pre .1) _ _ _ (after-byte-at .byte-at .ensures)
-          (tested .loop-test .taken) (ap (λ (y : ℕ). (turn .loop .a) + y) (after-word-at .word-at .ensures .0)) (after-word-at2 .word-at2 .ensures .0),
-    )
+mul-p c = omega (arith, pairs-here (c .before .before .before .before))
 
 add-p-2 : tie.Need-add-p-2 Inv-loop μ-loop
-add-p-2 c =
-    let after-word-at2 = c .before .before .before .before in
-    let after-word-at = after-word-at2 .before in
-    let tested = after-word-at .before in
-    let turn = tested .before in
-    let after-byte-at = turn .before .before in
-    let start = after-byte-at .before .before .before in
-    omega (
-      arith,
-      pairs-there (start .args .f .now) _ _ _ _ (turn .loop .inv) (start .pre .0) (start .pre .1) _ _ _ (after-byte-at .byte-at .ensures)
-          (tested .loop-test .taken) (ap (λ (y : ℕ). (turn .loop .a) + y) (after-word-at .word-at .ensures .0)) (after-word-at2 .word-at2 .ensures .0),
-    )
+add-p-2 c = omega (arith, pairs-here (c .before .before .before .before))
 
 add-k : tie.Need-add-k Inv-loop μ-loop
 add-k c =
