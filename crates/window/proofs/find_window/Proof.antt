@@ -47,7 +47,9 @@ returns-2 c =
     let a = loaded .before .before .args in
     let accepted = file-accepted (a .file .now) _ (loaded .load .ensures) (passed .if1 .left) in
     let laid = file-laid (a .file .now) _ (loaded .load .ensures) (passed .if1 .left) in
-    refused-found (a .file .now) (a .buffer) (a .shown) (a .core) (a .start) (a .count) (lent-number (a .file .now) (a .buffer) (a .shown) (a .core) (a .start) (a .count) accepted (λ e. turned .if2 .taken (e ∙ sym (summed .sum-of-sizes .ensures .0)))) (λ e. absurd (omega arith)) (c .refused2 .ensures)
+    refused-found (a .file .now) (a .buffer) (a .shown) (a .core) (a .start) (a .count)
+    (lent-number (a .file .now) (a .buffer) (a .shown) (a .core) (a .start) (a .count) accepted
+    (λ e. turned .if2 .taken (e ∙ sym (summed .sum-of-sizes .ensures .0)))) (λ e. absurd (omega arith)) (c .refused2 .ensures)
 
 refused-requires-3 : tie.Need-refused-requires-3
 refused-requires-3 c κs = search needs
@@ -63,7 +65,9 @@ returns-3 c =
     let accepted = file-accepted (a .file .now) _ (loaded .load .ensures) (passed .if1 .left) in
     let laid = file-laid (a .file .now) _ (loaded .load .ensures) (passed .if1 .left) in
     let lent = sized .if2 .left ∙ summed .sum-of-sizes .ensures .0 in
-    refused-found (a .file .now) (a .buffer) (a .shown) (a .core) (a .start) (a .count) (core-number (a .file .now) (a .buffer) (a .shown) (a .core) (a .start) (a .count) accepted lent (omega (arith, ap (λ (l : Layout). l .cores) laid, turned .if3 .taken))) (λ e. absurd (omega arith)) (c .refused3 .ensures)
+    refused-found (a .file .now) (a .buffer) (a .shown) (a .core) (a .start) (a .count)
+    (core-number (a .file .now) (a .buffer) (a .shown) (a .core) (a .start) (a .count) accepted lent
+    (omega (arith, ap (λ (l : Layout). l .cores) laid, turned .if3 .taken))) (λ e. absurd (omega arith)) (c .refused3 .ensures)
 
 place-of-requires : tie.Need-place-of-requires
 place-of-requires c κs =
@@ -118,7 +122,9 @@ returns-5 c =
     let lent = sized .if2 .left ∙ summed .sum-of-sizes .ensures .0 in
     let below : a .core < cores (a .file .now) = omega (arith, ap (λ (l : Layout). l .cores) laid, there .if3 .left) in
     let place = ap (λ (p : Place). p .size) (placed .place-of .ensures) in
-    refused-found (a .file .now) (a .buffer) (a .shown) (a .core) (a .start) (a .count) (stretch-number (a .file .now) (a .buffer) (a .shown) (a .core) (a .start) (a .count) accepted lent below (omega (arith, place, begins .if4 .left, turned .if5 .taken))) (λ e. absurd (omega arith)) (c .refused5 .ensures)
+    refused-found (a .file .now) (a .buffer) (a .shown) (a .core) (a .start) (a .count)
+    (stretch-number (a .file .now) (a .buffer) (a .shown) (a .core) (a .start) (a .count) accepted lent below
+    (omega (arith, place, begins .if4 .left, turned .if5 .taken))) (λ e. absurd (omega arith)) (c .refused5 .ensures)
 
 add-from : tie.Need-add-from
 add-from c =
