@@ -20,10 +20,13 @@ same-length c = search needs
 returns : tie.Need-returns
 unfolding column
 returns c =
+    let after-put = c .before .before in
+    let after-write-decimal = after-put .before .before .before .before in
+    let start = after-write-decimal .before .before .before in
     let w = writing-last
-    (writing-more (decimal (c .before .before .before .before .before .before .before .before .before .args .value)) (c .before .before .before .before .before .before .before .before .before .args .end ∷ []) (writing-start _ _ (column (c .before .before .before .before .before .before .before .before .before .args .value) (c .before .before .before .before .before .before .before .before .before .args .end)))
-    refl (c .before .before .before .before .before .before .write-decimal .ensures .0) (c .before .before .before .before .before .before .write-decimal .ensures .1))
-    (c .before .before .put .ensures .0) (c .before .before .put .ensures .1) in
+    (writing-more (decimal (start .args .value)) (start .args .end ∷ []) (writing-start _ _ (column (start .args .value) (start .args .end)))
+    refl (after-write-decimal .write-decimal .ensures .0) (after-write-decimal .write-decimal .ensures .1))
+    (after-put .put .ensures .0) (after-put .put .ensures .1) in
     (w .0, w .1, omega arith)
 
 pub write-column-spec : {M : Type 1} → statement M

@@ -46,12 +46,18 @@ loop-less c = omega arith
 
 loop-again : tie.Need-loop-again Inv-loop μ-loop
 loop-again c =
-    let h : c .before .before .before .before .before .before .loop .k < min (c .before .before .before .before .before .before .before .before .before .before .args .n) (length (c .before .before .before .before .before .before .before .before .table-of .result)) = omega (arith, c .before .before .before .before .before .before .before .before .table-of .ensures .1) in (
+    let after-write-line = c .before .before in
+    let turn = after-write-line .before .before .before .before in
+    let after-table-of = turn .before .before in
+    let start = after-table-of .before .before in
+    let h : turn .loop .k < min (start .args .n) (length (after-table-of .table-of .result)) = omega (arith, after-table-of .table-of .ensures .1) in (
       omega arith,
       search needs,
       omega arith,
-      writing-more (coreLine (c .before .before .before .before .before .before .loop .k) (getD (c .before .before .before .before .before .before .before .before .table-of .result) (c .before .before .before .before .before .before .loop .k) noRegisters)) (coreLines (c .before .before .before .before .before .before .loop .k + 1) (drop (c .before .before .before .before .before .before .loop .k + 1) (take (c .before .before .before .before .before .before .before .before .before .before .args .n) (c .before .before .before .before .before .before .before .before .table-of .result))))
-          (c .before .before .before .before .before .before .loop .inv .3) (first-line (c .before .before .before .before .before .before .before .before .table-of .result) (c .before .before .before .before .before .before .before .before .before .before .args .n) (c .before .before .before .before .before .before .loop .k) noRegisters h) (c .before .before .write-line .ensures .0) (c .before .before .write-line .ensures .1),
+      writing-more (coreLine (turn .loop .k) (getD (after-table-of .table-of .result) (turn .loop .k) noRegisters))
+          (coreLines (turn .loop .k + 1) (drop (turn .loop .k + 1) (take (start .args .n) (after-table-of .table-of .result))))
+          (turn .loop .inv .3) (first-line (after-table-of .table-of .result) (start .args .n) (turn .loop .k) noRegisters h)
+          (after-write-line .write-line .ensures .0) (after-write-line .write-line .ensures .1),
     )
 
 same-length : tie.Need-same-length Inv-loop μ-loop

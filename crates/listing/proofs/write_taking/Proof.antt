@@ -31,13 +31,18 @@ same-length c = search needs
 returns : tie.Need-returns
 unfolding takingText
 returns c =
+    let after-put3 = c .before .before in
+    let after-kind-of = after-put3 .before in
+    let after-put2 = after-kind-of .before .before .before .before in
+    let after-put = after-put2 .before .before .before .before in
+    let start = after-put .before .before .before in
     let w = writing-last
-    (writing-more (digit (c .before .before .before .before .before .before .before .before .before .before .before .before .before .before .args .byte % 16) ∷ []) (kindLetter (c .before .before .before .before .before .before .before .before .before .before .before .before .before .before .args .byte) ∷ [])
-    (writing-more (space ∷ []) (digit (c .before .before .before .before .before .before .before .before .before .before .before .before .before .before .args .byte % 16) ∷ kindLetter (c .before .before .before .before .before .before .before .before .before .before .before .before .before .before .args .byte) ∷ [])
-    (writing-start _ _ (takingText (c .before .before .before .before .before .before .before .before .before .before .before .before .before .before .args .byte))) refl (c .before .before .before .before .before .before .before .before .before .before .before .put .ensures .0) (c .before .before .before .before .before .before .before .before .before .before .before .put .ensures .1))
-    refl (c .before .before .before .before .before .before .before .put2 .ensures .0) (c .before .before .before .before .before .before .before .put2 .ensures .1))
-    (c .before .before .put3 .ensures .0 ∙ ap (λ (x : ℕ). splice (c .before .before .before .before .before .before .before .put2 .last .0) (c .before .before .before .before .before .before .before .put2 .result) (x ∷ [])) (c .before .before .before .kind-of .ensures))
-    (c .before .before .put3 .ensures .1) in
+    (writing-more (digit (start .args .byte % 16) ∷ []) (kindLetter (start .args .byte) ∷ [])
+    (writing-more (space ∷ []) (digit (start .args .byte % 16) ∷ kindLetter (start .args .byte) ∷ [])
+    (writing-start _ _ (takingText (start .args .byte))) refl (after-put .put .ensures .0) (after-put .put .ensures .1))
+    refl (after-put2 .put2 .ensures .0) (after-put2 .put2 .ensures .1))
+    (after-put3 .put3 .ensures .0 ∙ ap (λ (x : ℕ). splice (after-put2 .put2 .last .0) (after-put2 .put2 .result) (x ∷ [])) (after-kind-of .kind-of .ensures))
+    (after-put3 .put3 .ensures .1) in
     (w .0, omega arith)
 
 pub write-taking-spec : {M : Type 1} → statement M

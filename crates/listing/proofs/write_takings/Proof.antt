@@ -41,13 +41,17 @@ loop-less c = omega arith
 
 loop-again : tie.Need-loop-again Inv-loop μ-loop
 loop-again c =
-    let h : c .before .before .before .before .before .before .loop .i < min (c .before .before .before .before .before .before .before .before .before .before .args .taken) (length (c .before .before .before .before .before .before .before .before .before .before .args .list .now)) = omega arith in (
+    let after-write-taking = c .before .before in
+    let turn = after-write-taking .before .before .before .before in
+    let start = turn .before .before .before .before in
+    let list = start .args .list .now in
+    let h : turn .loop .i < min (start .args .taken) (length list) = omega arith in (
       omega arith,
       search needs,
       omega arith,
-      writing-more (takingText (getD (c .before .before .before .before .before .before .before .before .before .before .args .list .now) (c .before .before .before .before .before .before .loop .i) 0)) (flat (map takingText (drop (c .before .before .before .before .before .before .loop .i + 1) (take (c .before .before .before .before .before .before .before .before .before .before .args .taken) (c .before .before .before .before .before .before .before .before .before .before .args .list .now)))))
-          (c .before .before .before .before .before .before .loop .inv .3) (first-taking (c .before .before .before .before .before .before .before .before .before .before .args .list .now) (c .before .before .before .before .before .before .before .before .before .before .args .taken) (c .before .before .before .before .before .before .loop .i) h) (c .before .before .write-taking .ensures .0)
-          (c .before .before .write-taking .ensures .1 ∙ ap (λ (n : ℕ). c .before .before .before .before .before .before .loop .next + n) (length-taking (getD (c .before .before .before .before .before .before .before .before .before .before .args .list .now) (c .before .before .before .before .before .before .loop .i) 0))),
+      writing-more (takingText (getD list (turn .loop .i) 0)) (flat (map takingText (drop (turn .loop .i + 1) (take (start .args .taken) list))))
+          (turn .loop .inv .3) (first-taking list (start .args .taken) (turn .loop .i) h) (after-write-taking .write-taking .ensures .0)
+          (after-write-taking .write-taking .ensures .1 ∙ ap (λ (n : ℕ). turn .loop .next + n) (length-taking (getD list (turn .loop .i) 0))),
     )
 
 same-length : tie.Need-same-length Inv-loop μ-loop

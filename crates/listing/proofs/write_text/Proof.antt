@@ -34,12 +34,16 @@ loop-less c = omega arith
 
 loop-again : tie.Need-loop-again Inv-loop μ-loop
 loop-again c =
-    let h : c .before .before .before .before .before .before .loop .i < length (c .before .before .before .before .before .before .before .before .before .args .text .now) = omega arith in (
+    let after-put = c .before .before in
+    let turn = after-put .before .before .before .before in
+    let start = turn .before .before .before in
+    let text = start .args .text .now in
+    let h : turn .loop .i < length text = omega arith in (
       omega arith,
       search needs,
       omega arith,
-      writing-more (getD (c .before .before .before .before .before .before .before .before .before .args .text .now) (c .before .before .before .before .before .before .loop .i) 0 ∷ []) (drop (c .before .before .before .before .before .before .loop .i + 1) (c .before .before .before .before .before .before .before .before .before .args .text .now))
-          (c .before .before .before .before .before .before .loop .inv .3) (one-of (c .before .before .before .before .before .before .before .before .before .args .text .now) (c .before .before .before .before .before .before .loop .i) 0 h) (c .before .before .put .ensures .0) (c .before .before .put .ensures .1),
+      writing-more (getD text (turn .loop .i) 0 ∷ []) (drop (turn .loop .i + 1) text)
+          (turn .loop .inv .3) (one-of text (turn .loop .i) 0 h) (after-put .put .ensures .0) (after-put .put .ensures .1),
     )
 
 same-length : tie.Need-same-length Inv-loop μ-loop
