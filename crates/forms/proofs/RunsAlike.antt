@@ -50,7 +50,11 @@ module _ (f g t : List ℕ) (s : SameTask f g) (judged : judge f ≡ judge g) wh
 
   samples : (k : ℕ) → samplesOf f t k ≡ samplesOf g t k
   unfolding samplesOf sampleAt
-  samples k = λ i. listed (λ j. pick {A = Sample} (blank t) (record { time = 0; input = replicate (s .input-size k i) 0 }) (record { time = readLE t (trace-place k i + 2 + j * (4 + s .input-size k i)) 4; input = part t (trace-place k i + 2 + j * (4 + s .input-size k i) + 4) (s .input-size k i) })) (counts k i) 0
+  samples k = λ i.
+      let size = s .input-size k i in
+      listed (λ j. pick {A = Sample} (blank t) (record { time = 0; input = replicate size 0 })
+      (record { time = readLE t (trace-place k i + 2 + j * (4 + size)) 4; input = part t (trace-place k i + 2 + j * (4 + size) + 4) size }))
+      (counts k i) 0
 
   tasks : taskOf f t ≡ taskOf g t
   unfolding taskOf

@@ -1,8 +1,10 @@
 -- Each return is the first refusal of the chain; then mark, body and counts are written. Assumes nothing.
-use mathlib.Core.Path.{sym, _∙_}
+use mathlib.Core.Path.{_≡_, sym, _∙_}
+use mathlib.Core.Bool.{true}
 use native.Mathlib.Omega.{arith}
 use lib.ListN.{length}
 use borrow.Author.Tests.{not-true, not-false}
+use Rattle.taskset.specs.Judge.{isOld, judge}
 use Rattle.forms.proofs.Laws.{convert-refused, convert-granted, new-short, new-mark, new-file, new-length, new-room, new-none, new-written}
 use borrow.Author.Needs.{needs}
 use Rattle.forms.proofs.to_new.Statement.{statement}
@@ -15,6 +17,13 @@ use Rattle.memory.proofs.byte_at.Reads as byte-at-reads
 use Rattle.memory.proofs.store.Reads as store-reads
 use Rattle.taskset.proofs.is_old.Reads as is-old-reads
 use Rattle.taskset.proofs.judge_file.Reads as judge-file-reads
+
+-- past its tests a file has the old mark and is accepted
+has-mark : (c : tie.Else2) → isOld (c .before .before .before .before .before .args .f .now) ≡ true
+has-mark c = sym (c .before .is-old .ensures) ∙ not-false _ (c .if2 .left)
+
+accepted : (c : tie.Else3) → judge (c .before .before .before .before .before .before .before .args .f .now) ≡ 0
+accepted c = sym (c .before .judge-file .ensures) ∙ c .if3 .left
 
 refused-requires : tie.Need-refused-requires
 refused-requires c κs = search needs
@@ -29,7 +38,12 @@ refused-requires-2 : tie.Need-refused-requires-2
 refused-requires-2 c κs = search needs
 
 returns-2 : tie.Need-returns-2
-returns-2 c = convert-refused _ (c .before .before .before .before .before .before .args .out .now) _ 2 _ (c .refused2 .ensures) (new-mark (c .before .before .before .before .before .before .args .f .now) _ (c .before .before .before .if1 .left) (sym (c .before .before .is-old .ensures) ∙ not-true _ (c .before .if2 .taken))) (λ e. absurd (let y : ⊥ = omega arith in y))
+returns-2 c =
+    let else1 = c .before .before .before in
+    let start = else1 .before .before .before in
+    convert-refused _ (start .args .out .now) _ 2 _ (c .refused2 .ensures)
+    (new-mark (start .args .f .now) _ (else1 .if1 .left) (sym (c .before .before .is-old .ensures) ∙ not-true _ (c .before .if2 .taken)))
+    (λ e. absurd (let y : ⊥ = omega arith in y))
 
 judge-file-requires : tie.Need-judge-file-requires
 judge-file-requires c κs = search needs
@@ -38,7 +52,14 @@ refused-requires-3 : tie.Need-refused-requires-3
 refused-requires-3 c κs = search needs
 
 returns-3 : tie.Need-returns-3
-returns-3 c = convert-refused _ (c .before .before .before .before .before .before .before .before .args .out .now) _ _ _ (c .refused3 .ensures) (new-file (c .before .before .before .before .before .before .before .before .args .f .now) _ (c .before .before .before .before .before .if1 .left) (sym (c .before .before .before .before .is-old .ensures) ∙ not-false _ (c .before .before .before .if2 .left)) _ (c .before .before .judge-file .ensures) (c .before .if3 .taken)) (c .before .if3 .taken)
+returns-3 c =
+    let then3 = c .before in
+    let else2 = then3 .before .before in
+    let else1 = else2 .before .before in
+    let start = else1 .before .before .before in
+    convert-refused _ (start .args .out .now) _ _ _ (c .refused3 .ensures)
+    (new-file (start .args .f .now) _ (else1 .if1 .left) (has-mark else2) _ (c .before .before .judge-file .ensures) (then3 .if3 .taken))
+    (then3 .if3 .taken)
 
 byte-at-requires : tie.Need-byte-at-requires
 byte-at-requires c κs = search needs
@@ -56,7 +77,14 @@ refused-requires-4 : tie.Need-refused-requires-4
 refused-requires-4 c κs = search needs
 
 returns-4 : tie.Need-returns-4
-returns-4 c = convert-refused _ (c .before .before .before .before .before .before .before .before .before .before .args .out .now) _ 21 _ (c .refused4 .ensures) (new-room (c .before .before .before .before .before .before .before .before .before .before .args .f .now) _ (c .before .before .before .before .before .before .before .if1 .left) (sym (c .before .before .before .before .before .before .is-old .ensures) ∙ not-false _ (c .before .before .before .before .before .if2 .left)) (sym (c .before .before .before .before .judge-file .ensures) ∙ c .before .before .before .if3 .left) _ (c .before .before .byte-at .ensures) (c .before .if4 .taken)) (λ e. absurd (let y : ⊥ = omega arith in y))
+returns-4 c =
+    let else3 = c .before .before .before in
+    let else2 = else3 .before .before in
+    let else1 = else2 .before .before in
+    let start = else1 .before .before .before in
+    convert-refused _ (start .args .out .now) _ 21 _ (c .refused4 .ensures)
+    (new-room (start .args .f .now) _ (else1 .if1 .left) (has-mark else2) (accepted else3) _ (c .before .before .byte-at .ensures)
+    (c .before .if4 .taken)) (λ e. absurd (let y : ⊥ = omega arith in y))
 
 write-form-requires : tie.Need-write-form-requires
 write-form-requires c κs = search needs
@@ -71,7 +99,20 @@ same-length : tie.Need-same-length
 same-length c = search needs
 
 returns-5 : tie.Need-returns-5
-returns-5 c = convert-granted (c .before .before .before .before .before .before .before .before .before .before .before .before .before .before .before .before .before .before .args .out .now) _ _ _ _ (new-none (c .before .before .before .before .before .before .before .before .before .before .before .before .before .before .before .before .before .before .args .f .now) _ (c .before .before .before .before .before .before .before .before .before .before .before .before .before .before .before .if1 .left) (sym (c .before .before .before .before .before .before .before .before .before .before .before .before .before .before .is-old .ensures) ∙ not-false _ (c .before .before .before .before .before .before .before .before .before .before .before .before .before .if2 .left)) (sym (c .before .before .before .before .before .before .before .before .before .before .before .before .judge-file .ensures) ∙ c .before .before .before .before .before .before .before .before .before .before .before .if3 .left) _ (c .before .before .before .before .before .before .before .before .before .before .byte-at .ensures) (c .before .before .before .before .before .before .before .before .before .if4 .left)) (new-length (c .before .before .before .before .before .before .before .before .before .before .before .before .before .before .before .before .before .before .args .f .now) (length (c .before .before .before .before .before .before .before .before .before .before .before .before .before .before .before .before .before .before .args .out .now)) (c .before .before .before .before .before .before .before .before .before .before .before .before .before .before .before .if1 .left) (sym (c .before .before .before .before .before .before .before .before .before .before .before .before .before .before .is-old .ensures) ∙ not-false _ (c .before .before .before .before .before .before .before .before .before .before .before .before .before .if2 .left)) (sym (c .before .before .before .before .before .before .before .before .before .before .before .before .judge-file .ensures) ∙ c .before .before .before .before .before .before .before .before .before .before .before .if3 .left) _ (c .before .before .before .before .before .before .before .before .before .before .byte-at .ensures)) (new-written (c .before .before .before .before .before .before .before .before .before .before .before .before .before .before .before .before .before .before .args .f .now) (length (c .before .before .before .before .before .before .before .before .before .before .before .before .before .before .before .before .before .before .args .out .now)) (c .before .before .before .before .before .before .before .before .before .before .before .before .before .before .before .if1 .left) (sym (c .before .before .before .before .before .before .before .before .before .before .before .before .before .before .is-old .ensures) ∙ not-false _ (c .before .before .before .before .before .before .before .before .before .before .before .before .before .if2 .left)) (sym (c .before .before .before .before .before .before .before .before .before .before .before .before .judge-file .ensures) ∙ c .before .before .before .before .before .before .before .before .before .before .before .if3 .left) _ (c .before .before .before .before .before .before .before .before .before .before .byte-at .ensures) _ _ _ (c .before .before .before .before .before .before .write-form .ensures) (c .before .before .store .ensures))
+returns-5 c =
+    let after-write-form = c .before .before .before .before .before .before in
+    let else4 = after-write-form .before .before .before in
+    let after-byte-at = else4 .before in
+    let else3 = after-byte-at .before in
+    let else2 = else3 .before .before in
+    let else1 = else2 .before .before in
+    let start = else1 .before .before .before in
+    let f = start .args .f .now in
+    let out = start .args .out .now in
+    convert-granted out _ _ _ _
+    (new-none f _ (else1 .if1 .left) (has-mark else2) (accepted else3) _ (after-byte-at .byte-at .ensures) (else4 .if4 .left))
+    (new-length f (length out) (else1 .if1 .left) (has-mark else2) (accepted else3) _ (after-byte-at .byte-at .ensures))
+    (new-written f (length out) (else1 .if1 .left) (has-mark else2) (accepted else3) _ (after-byte-at .byte-at .ensures) _ _ _ (after-write-form .write-form .ensures) (c .before .before .store .ensures))
 
 pub to-new-spec : {M : Type 1} → statement M
 to-new-spec =

@@ -25,7 +25,12 @@ same-length : tie.Need-same-length
 same-length c = search needs
 
 returns : tie.Need-returns
-returns c = c .before .before .copy2 .ensures ∙ ap (λ (l : List ℕ). splice l 4 (part (c .before .before .before .before .before .before .before .before .before .before .before .args .f .now) 4 ((c .before .before .before .before .before .before .before .before .before .before .before .args .end) - 4))) (c .before .before .before .before .before .before .copy .ensures ∙ ap (splice (c .before .before .before .before .before .before .before .before .before .before .before .args .out .now) 0) (whole-mark (c .before .before .before .before .before .before .before .before .before .before .before .args .mark .now) (omega arith)))
+returns c =
+    let after-copy = c .before .before .before .before .before .before in
+    let start = after-copy .before .before .before .before .before in
+    c .before .before .copy2 .ensures
+    ∙ ap (λ (l : List ℕ). splice l 4 (part (start .args .f .now) 4 ((start .args .end) - 4)))
+    (after-copy .copy .ensures ∙ ap (splice (start .args .out .now) 0) (whole-mark (start .args .mark .now) (omega arith)))
 
 pub write-form-spec : {M : Type 1} → statement M
 write-form-spec = tie.close (tie.spec copy-requires sub-copy copy-requires-2 same-length returns)
