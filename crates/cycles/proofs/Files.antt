@@ -44,12 +44,19 @@ files = tt
 
 -- a file and a trace are judged
 judging : Unit {0}
-unfolding files pick next unless first part valueLE readLE takes rowOf kindAt targetAt lengthOf typedAt instructionAt instructionLength instructionOk instructionRefusal laid startFrom isStart allFrom targetOk lastFrom judgeCodeFor readsIt writesIt coreOk coreRefusal oneWriter placeOk partOk partsOk variableOk variableRefusal meets meetsShared meetsIn overlap pairRefusal overlapRefusal hasMark headRefusal variablesRefusal codePlace sectionRefusal startPlace startsRefusal codesRefusal judgeFor tracePlace traceRefusal
+unfolding files pick next unless first part valueLE readLE takes rowOf kindAt targetAt lengthOf typedAt instructionAt instructionLength instructionOk
+    instructionRefusal laid startFrom isStart allFrom targetOk lastFrom judgeCodeFor readsIt writesIt coreOk coreRefusal oneWriter placeOk partOk partsOk
+    variableOk variableRefusal meets meetsShared meetsIn overlap pairRefusal overlapRefusal hasMark headRefusal variablesRefusal codePlace sectionRefusal
+    startPlace startsRefusal codesRefusal judgeFor tracePlace traceRefusal
 judging = tt
 
 -- the cores move, with NOT and RETURN for instructions
 unfoldable pub steps-compute : Unit {0}
-unfolding files pick part valueLE readLE bytesLE splice listed sizesOf variablesOf hasMark startPlace withPairs startData writerOf withWritten startShared sampleAt samplesOf codePlace tracePlace readsIt writesIt rowOf kindAt targetAt lengthOf typedAt instructionAt instructionLength widthOf typed patternOf stored onBits NOT result resultType resultWidth secondWidth command zeroDivisor beyond performed placeOf dataPart executed applied limited instructionBy warm advanced cycleEnded readAcquired byteCopied readReleased writeAcquired writeReleased readTaken readNext readDone writeTaken writeNext writeDone step takingOf wholeOne cycle taskOf
+unfolding files pick part valueLE readLE bytesLE splice listed sizesOf variablesOf hasMark startPlace withPairs startData writerOf withWritten startShared
+    sampleAt samplesOf codePlace tracePlace readsIt writesIt rowOf kindAt targetAt lengthOf typedAt instructionAt instructionLength widthOf typed patternOf
+    stored onBits NOT result resultType resultWidth secondWidth command zeroDivisor beyond performed placeOf dataPart executed applied limited instructionBy
+    warm advanced cycleEnded readAcquired byteCopied readReleased writeAcquired writeReleased readTaken readNext readDone writeTaken writeNext writeDone step
+    takingOf wholeOne cycle taskOf
 steps-compute = tt
 
 -- ---- a core of the ring
