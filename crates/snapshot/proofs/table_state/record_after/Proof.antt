@@ -1,11 +1,11 @@
--- `snapshot::record_after` meets its contract: by the count of cores. Assumes nothing.
+-- `snapshot::table_state::record_after` meets its contract: by the count of cores. Assumes nothing.
 use borrow.Author.Needs.{needs}
 use mathlib.Core.Path.{refl}
 use borrow.Author.Tests.{lt-ltb, le-ltb}
 use Rattle.verdict.specs.Verdict.{pick}
 use Rattle.snapshot.specs.Snapshot.{recordAfter}
-use Rattle.snapshot.proofs.record_after.Statement.{statement}
-use Rattle.snapshot.proofs.record_after.Tie as tie
+use Rattle.snapshot.proofs.table_state.record_after.Statement.{statement}
+use Rattle.snapshot.proofs.table_state.record_after.Tie as tie
 
 cast-if1 : tie.Need-cast-if1
 cast-if1 c = search needs

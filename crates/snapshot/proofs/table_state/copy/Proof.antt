@@ -1,4 +1,4 @@
--- `snapshot::copy` meets its contract. The invariant: what is left to copy makes of the entries what the whole makes of them at entry.
+-- `snapshot::table_state::copy` meets its contract. The invariant: what is left to copy makes of the entries what the whole makes of them at entry.
 -- Assumes nothing.
 use mathlib.Core.Path.{_≡_, refl, sym, _∙_}
 use Prim.Native.Nat.{_+_, _-_, _≤_}
@@ -8,8 +8,8 @@ use lib.ListN.{length, length-set}
 use borrow.Author.Needs.{needs}
 use Rattle.memory.specs.Memory.{splice, part}
 use Rattle.memory.proofs.Turns.{copy-turn, copy-done}
-use Rattle.snapshot.proofs.copy.Statement.{statement}
-use Rattle.snapshot.proofs.copy.Tie as tie
+use Rattle.snapshot.proofs.table_state.copy.Statement.{statement}
+use Rattle.snapshot.proofs.table_state.copy.Tie as tie
 
 abbrev Inv-loop : tie.InvT-loop
 Inv-loop dst₀ to src from n i₀ dst i =

@@ -1,14 +1,14 @@
--- `snapshot::stack_of` meets its contract: sixteen entries are copied over sixteen zeros. Assumes nothing.
+-- `snapshot::table_state::stack_of` meets its contract: sixteen entries are copied over sixteen zeros. Assumes nothing.
 use borrow.Author.Needs.{needs}
 use mathlib.Core.Path.{_∙_}
 use native.Mathlib.Omega.{arith}
 use Rattle.memory.proofs.Laws.{length-part}
 use Rattle.snapshot.proofs.Laws.{splice-whole}
-use Rattle.snapshot.proofs.stack_of.Statement.{statement}
-use Rattle.snapshot.proofs.stack_of.Tie as tie
-use Rattle.snapshot.proofs.stack_of.Reads as reads
-use Rattle.snapshot.proofs.stack_of.Lts as lts
-use Rattle.snapshot.proofs.copy.Reads as copy-reads
+use Rattle.snapshot.proofs.table_state.stack_of.Statement.{statement}
+use Rattle.snapshot.proofs.table_state.stack_of.Tie as tie
+use Rattle.snapshot.proofs.table_state.stack_of.Reads as reads
+use Rattle.snapshot.proofs.table_state.stack_of.Lts as lts
+use Rattle.snapshot.proofs.table_state.copy.Reads as copy-reads
 
 slice-aggregate-copy : tie.Need-slice-aggregate-copy
 slice-aggregate-copy c = search needs

@@ -1,9 +1,9 @@
--- `snapshot::state_of` meets its contract: field by field. Assumes nothing.
+-- `snapshot::table_state::state_of` meets its contract: field by field. Assumes nothing.
 use borrow.Author.Needs.{needs}
 use mathlib.Core.Path.{refl}
 use Rattle.snapshot.specs.Snapshot.{held}
-use Rattle.snapshot.proofs.state_of.Statement.{statement}
-use Rattle.snapshot.proofs.state_of.Tie as tie
+use Rattle.snapshot.proofs.table_state.state_of.Statement.{statement}
+use Rattle.snapshot.proofs.table_state.state_of.Tie as tie
 
 element-copy-out-a : tie.Need-element-copy-out-a
 element-copy-out-a c = search needs

@@ -1,11 +1,11 @@
--- `snapshot::offsets_of` meets its contract: the four stacks are joined. Assumes nothing.
+-- `snapshot::table_state::places_of` meets its contract: the four stacks are joined. Assumes nothing.
 use borrow.Author.Needs.{needs}
-use Rattle.snapshot.specs.Snapshot.{heldOffsets}
-use Rattle.snapshot.proofs.offsets_of.Statement.{statement}
-use Rattle.snapshot.proofs.offsets_of.Tie as tie
-use Rattle.snapshot.proofs.offsets_of.Reads as reads
-use Rattle.snapshot.proofs.offsets_of.Lts as lts
-use Rattle.snapshot.proofs.join.Reads as join-reads
+use Rattle.snapshot.specs.Snapshot.{heldPlaces}
+use Rattle.snapshot.proofs.table_state.places_of.Statement.{statement}
+use Rattle.snapshot.proofs.table_state.places_of.Tie as tie
+use Rattle.snapshot.proofs.table_state.places_of.Reads as reads
+use Rattle.snapshot.proofs.table_state.places_of.Lts as lts
+use Rattle.snapshot.proofs.table_state.join.Reads as join-reads
 
 element-copy-out-a : tie.Need-element-copy-out-a
 element-copy-out-a c = search needs
@@ -23,11 +23,11 @@ join-requires : tie.Need-join-requires
 join-requires c κs = search needs
 
 returns : tie.Need-returns
-unfolding heldOffsets
+unfolding heldPlaces
 returns c = c .join .ensures
 
-pub offsets-of-spec : {M : Type 1} → statement M
-offsets-of-spec =
+pub places-of-spec : {M : Type 1} → statement M
+places-of-spec =
     tie.close
     (tie.spec
     element-copy-out-a

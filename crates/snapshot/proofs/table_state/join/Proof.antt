@@ -1,14 +1,14 @@
--- `snapshot::join` meets its contract: each stack is copied to its place. Assumes nothing.
+-- `snapshot::table_state::join` meets its contract: each stack is copied to its place. Assumes nothing.
 use borrow.Author.Needs.{needs}
 use mathlib.Core.Path.{refl}
 use native.Mathlib.Omega.{arith}
 use Rattle.snapshot.specs.Snapshot.{entries}
 use Rattle.snapshot.proofs.Laws.{part-whole}
-use Rattle.snapshot.proofs.join.Statement.{statement}
-use Rattle.snapshot.proofs.join.Tie as tie
-use Rattle.snapshot.proofs.join.Reads as reads
-use Rattle.snapshot.proofs.join.Lts as lts
-use Rattle.snapshot.proofs.copy.Reads as copy-reads
+use Rattle.snapshot.proofs.table_state.join.Statement.{statement}
+use Rattle.snapshot.proofs.table_state.join.Tie as tie
+use Rattle.snapshot.proofs.table_state.join.Reads as reads
+use Rattle.snapshot.proofs.table_state.join.Lts as lts
+use Rattle.snapshot.proofs.table_state.copy.Reads as copy-reads
 
 slice-aggregate-copy : tie.Need-slice-aggregate-copy
 slice-aggregate-copy c = search needs
@@ -48,7 +48,21 @@ copy-requires-4 c κs = search needs
 
 returns : tie.Need-returns
 unfolding entries
-returns c = rw (c .before .copy4 .ensures, c .before .before .before .before .before .copy3 .ensures, c .before .before .before .before .before .before .before .before .before .copy2 .ensures, c .before .before .before .before .before .before .before .before .before .before .before .before .before .copy .ensures, part-whole (c .before .before .before .before .before .before .before .before .before .before .before .before .before .before .before .before .args .t1) 16 (omega arith), part-whole (c .before .before .before .before .before .before .before .before .before .before .before .before .before .before .before .before .args .t2) 16 (omega arith), part-whole (c .before .before .before .before .before .before .before .before .before .before .before .before .before .before .before .before .args .t3) 16 (omega arith), part-whole (c .before .before .before .before .before .before .before .before .before .before .before .before .before .before .before .before .args .t4) 16 (omega arith)) refl
+returns c =
+    let after-copy3 = c .before .before .before .before .before in
+    let after-copy2 = after-copy3 .before .before .before .before in
+    let after-copy = after-copy2 .before .before .before .before in
+    let start = after-copy .before .before .before in
+    rw (
+      c .before .copy4 .ensures,
+      after-copy3 .copy3 .ensures,
+      after-copy2 .copy2 .ensures,
+      after-copy .copy .ensures,
+      part-whole (start .args .t1) 16 (omega arith),
+      part-whole (start .args .t2) 16 (omega arith),
+      part-whole (start .args .t3) 16 (omega arith),
+      part-whole (start .args .t4) 16 (omega arith),
+    ) refl
 
 pub join-spec : {M : Type 1} → statement M
 join-spec =

@@ -1,9 +1,9 @@
--- `snapshot::core_of` meets its contract: field by field. Assumes nothing.
+-- `snapshot::table_state::core_of` meets its contract: field by field. Assumes nothing.
 use borrow.Author.Needs.{needs}
 use mathlib.Core.Path.{refl}
 use Rattle.snapshot.specs.Snapshot.{coreOf}
-use Rattle.snapshot.proofs.core_of.Statement.{statement}
-use Rattle.snapshot.proofs.core_of.Tie as tie
+use Rattle.snapshot.proofs.table_state.core_of.Statement.{statement}
+use Rattle.snapshot.proofs.table_state.core_of.Tie as tie
 
 mul-registers : tie.Need-mul-registers
 mul-registers c = search needs

@@ -1,8 +1,8 @@
--- `snapshot::accepted` meets its contract: record by record. Assumes nothing.
+-- `snapshot::table_state::accepted` meets its contract: record by record. Assumes nothing.
 use borrow.Author.Needs.{needs}
 use mathlib.Core.Path.{refl}
-use Rattle.snapshot.proofs.accepted.Statement.{statement}
-use Rattle.snapshot.proofs.accepted.Tie as tie
+use Rattle.snapshot.proofs.table_state.accepted.Statement.{statement}
+use Rattle.snapshot.proofs.table_state.accepted.Tie as tie
 
 record-after-requires : tie.Need-record-after-requires
 record-after-requires c κs = search needs

@@ -1,8 +1,8 @@
--- `snapshot::refused` meets its contract: by computation. Assumes nothing.
+-- `snapshot::table_state::refused` meets its contract: by computation. Assumes nothing.
 use mathlib.Core.Path.{refl}
 use borrow.Author.Needs.{needs}
-use Rattle.snapshot.proofs.refused.Statement.{statement}
-use Rattle.snapshot.proofs.refused.Tie as tie
+use Rattle.snapshot.proofs.table_state.refused.Statement.{statement}
+use Rattle.snapshot.proofs.table_state.refused.Tie as tie
 
 element-copy-out-a : tie.Need-element-copy-out-a
 element-copy-out-a c = search needs
