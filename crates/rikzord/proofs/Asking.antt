@@ -99,7 +99,8 @@ module _ {M : Type 1} (𝓤 : URA M) (H : Heap 𝓤) (A : Atoms 𝓤) (W : Given
 
   goes-get : (i : ℕ) → i < 2 ^ 64 → (n : CoreRecord) (u : Val) → Is R n (u ∷ []) → ent 𝓤 (sep 𝓤 (sep 𝓤 (A .lft κ q) (sem 𝓤 H A ftrue)) (sem 𝓤 H A Own)) (GetOr 𝓤 H A at-mem run .pre (to-get i n u))
   goes-get i i-fits n u n-is =
-      qed W ((‵ (flft κ q) ⊛ ‵ ftrue) ∷ ‵ Own ∷ []) ∵ nothing ! $ owned ! R (Is R) (LL.makes T.the-type T′.the-plain 𝓤 H A) n _ n-is $ fjoin ! $ owned ! usize (Is usize) (uint-makes 𝓤 H A W w64) i _ (refl, i-fits) $ fjoin ! $ move ! (2 ∷ 0 ∷ []) $ fjoin ! $ move ! (1 ∷ 0 ∷ []) $ join ! $ frame ! $ done !
+      qed W ((‵ (flft κ q) ⊛ ‵ ftrue) ∷ ‵ Own ∷ []) ∵ nothing ! $ owned ! R (Is R) (LL.makes T.the-type T′.the-plain 𝓤 H A) n _ n-is $ fjoin ! $
+      owned ! usize (Is usize) (uint-makes 𝓤 H A W w64) i _ (refl, i-fits) $ fjoin ! $ move ! (2 ∷ 0 ∷ []) $ fjoin ! $ move ! (1 ∷ 0 ∷ []) $ join ! $ frame ! $ done !
 
   module _ (C : Calls 𝓤 H) (Λ : Loops 𝓤 H) (fm : FmC 𝓤 H (W .laws) C) (known-get : Triple 𝓤 (C #rikzord·get-or) (GetOr 𝓤 H A at-mem run)) where
     pub asks : {Γ : List (Item 𝓤)} {E : Env 𝓤 H} {xs : List Operand} {d : Place} {rest : Body} {p : Kit.Post 𝓤 H} (i : ℕ) → i < 2 ^ 64 → (n : CoreRecord) (u : Val) → Is R n (u ∷ [])

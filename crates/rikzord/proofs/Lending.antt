@@ -70,7 +70,8 @@ pub after-is : (y : After) (w : Val) → Is N.the-row y (w ∷ []) → Is N.the-
 after-is y w is = subst (Is N.the-row y) (LL.tells N.the-type N′.the-laws y _ is) is
 
 -- the call of `save`: the table and the semaphore are given up for good, and of both only what says their last values comes back, with the number
-module _ {M : Type 1} (𝓤 : URA M) (H : Heap 𝓤) (A : Atoms 𝓤) (W : Given 𝓤 H A) (at-mem : Memory → SProp 𝓤) (run : Routine → Fun 𝓤) (κ κ′ : Lft) (q q′ : Share) (b o : ℕ) (γ : GName) (table : List CoreRecord) (b′ o′ : ℕ) (γ′ : GName) (semaphore : Semaphore) (y : After) (is : Is N.the-row y (mach-after y ∷ [])) where
+module _ {M : Type 1} (𝓤 : URA M) (H : Heap 𝓤) (A : Atoms 𝓤) (W : Given 𝓤 H A) (at-mem : Memory → SProp 𝓤) (run : Routine → Fun 𝓤) (κ κ′ : Lft) (q q′ : Share) (b o : ℕ)
+    (γ : GName) (table : List CoreRecord) (b′ o′ : ℕ) (γ′ : GName) (semaphore : Semaphore) (y : After) (is : Is N.the-row y (mach-after y ∷ [])) where
   abbrev table-ref : RefT (List CoreRecord)
   table-ref = record { ptr = (b, o); name = γ; now = table }
 
@@ -107,7 +108,9 @@ module _ {M : Type 1} (𝓤 : URA M) (H : Heap 𝓤) (A : Atoms 𝓤) (W : Given
   module _ (C : Calls 𝓤 H) (Λ : Loops 𝓤 H) (fm : FmC 𝓤 H (W .laws) C) (known : Triple 𝓤 (C #rikzord·save) (Save 𝓤 H A at-mem run)) where
     pub saves : {Γ : List (Item 𝓤)} {E : Env 𝓤 H} {xs : List Operand} {d : Place} {rest : Body} {p : Kit.Post 𝓤 H}
         → Opds (Go {0}) W (raw (Save 𝓤 H A at-mem run .pre to-save) ∷ Γ) E xs (table-val ∷ semaphore-val ∷ mach-after y ∷ [])
-        → ((n : ℕ) (u : Val) (table′ : List CoreRecord) (semaphore′ : Semaphore) → WrittenBack table semaphore y n table′ semaphore′ → length table′ ≡ length table → Is u8 n (u ∷ []) → Sq W (‵ (finally R γ table′) ∷ ‵ (fres γ′ (P.the-row .coded .code semaphore′)) ∷ ‵ (flft κ q) ∷ ‵ (flft κ′ q′) ∷ ‵ (u8 .own n (u ∷ [])) ∷ Γ) (lands C Λ E d u rest p))
+        → ((n : ℕ) (u : Val) (table′ : List CoreRecord) (semaphore′ : Semaphore) → WrittenBack table semaphore y n table′ semaphore′ → length table′ ≡ length table
+        → Is u8 n (u ∷ []) → Sq W (‵ (finally R γ table′) ∷ ‵ (fres γ′ (P.the-row .coded .code semaphore′)) ∷ ‵ (flft κ q) ∷ ‵ (flft κ′ q′) ∷ ‵ (u8 .own n (u ∷ [])) ∷ Γ)
+        (lands C Λ E d u rest p))
         → Sq W (‵ table-own ∷ ‵ (flft κ q) ∷ ‵ semaphore-own ∷ ‵ (flft κ′ q′) ∷ Γ) (runs C Λ E (seq (call #rikzord·save xs d) rest) p)
     saves os k =
         cut (‵ table-own ∷ ‵ (flft κ q) ∷ ‵ semaphore-own ∷ ‵ (flft κ′ q′) ∷ []) (raw (Save 𝓤 H A at-mem run .pre to-save) ∷ []) _ goes-save $

@@ -1,4 +1,5 @@
--- `rikzord::get_or` meets its contract: a walk of its MIR, by hand, with a branch. Past the end the result is the record that was handed over, which is what `getD` gives there; else the place of `t[i]` is computed, the slice is looked into, record i is taken out of the row, copied whole, and put back.
+-- `rikzord::get_or` meets its contract: a walk of its MIR, by hand, with a branch. Past the end the result is the record that was handed over, which is what `getD` gives there;
+-- else the place of `t[i]` is computed, the slice is looked into, record i is taken out of the row, copied whole, and put back.
 -- Assumes nothing.
 use mathlib.Core.Path.{_≡_, refl, sym}
 use Prim.Native.Nat.{ℕ, _<_, _^_, _*_}
@@ -132,7 +133,10 @@ module _ {M : Type 1} (𝓤 : URA M) (H : Heap 𝓤) (A : Atoms 𝓤) (W : Given
 
 meets : {M : Type 1} (𝓤 : URA M) (H : Heap 𝓤) (A : Atoms 𝓤) → Given 𝓤 H A → (at-mem : Memory → SProp 𝓤) (run : Routine → Fun 𝓤) (𝓣 : Tables 𝓤 H)
     → Meets 𝓤 H A f.signature (WpFn 𝓤 H (𝓣 .C) (𝓣 .Λ) code.function) (f.spec 𝓤 H A at-mem run)
-meets 𝓤 H A W at-mem run 𝓣 = walk-meets 𝓤 H A f.ended stayed W (goes-none-slice 𝓤 H A W 1 (0 ∷ []) tt (plain (λ _. R)) yes, (goes-none 𝓤 H A W 1 (λ _. usize) yes (λ κs x f. refl), (goes-none 𝓤 H A W 1 (λ _. R) yes (λ κs x f. refl), tt))) (f.clauses 𝓤 H A at-mem run) (WpFn 𝓤 H (𝓣 .C) (𝓣 .Λ) code.function) (WpFn-mono 𝓤 H (W .laws) 𝓣 code.function) (walks 𝓤 H A W at-mem run (𝓣 .C) (𝓣 .Λ))
+meets 𝓤 H A W at-mem run 𝓣 =
+    walk-meets 𝓤 H A f.ended stayed W
+    (goes-none-slice 𝓤 H A W 1 (0 ∷ []) tt (plain (λ _. R)) yes, (goes-none 𝓤 H A W 1 (λ _. usize) yes (λ κs x f. refl), (goes-none 𝓤 H A W 1 (λ _. R) yes (λ κs x f. refl), tt)))
+    (f.clauses 𝓤 H A at-mem run) (WpFn 𝓤 H (𝓣 .C) (𝓣 .Λ) code.function) (WpFn-mono 𝓤 H (W .laws) 𝓣 code.function) (walks 𝓤 H A W at-mem run (𝓣 .C) (𝓣 .Λ))
 
 pub get-or-spec : {M : Type 1} → stated.statement M
 unfolding code.routine tablesOf

@@ -119,15 +119,26 @@ module _ {M : Type 1} (𝓤 : URA M) (H : Heap 𝓤) (A : Atoms 𝓤) (W : Given
         move ! (17 ∷ []) $ fsplit ! $ move ! (1 ∷ []) $ drop ! $ move ! (17 ∷ 0 ∷ []) $
         -- [the token; what t owns; _7; …; _6; …; _5; …; _4; …; _3; …; _2; …; _1; …; room for _0; …]
         begins 𝓤 H A W at-mem run C Λ fm known-none (λ n u en n-is. land ! (from ! (stop !)) (init ! 12 refl (typed 𝓤 H A W at-mem run n u n-is)) $
-        asks 𝓤 H A W at-mem run κ q b o γ ys C Λ fm known-get 0 (lit< tt) n u n-is (and-then ! (load ! (from ! (stop !)) (look ! 14 refl)) (and-then ! (lit ! tt) (and-then ! (load ! (from ! (stop !)) (look ! 12 refl)) (no-more !)))) (λ c₀ v₀ e₀ i₀. land ! (from ! (stop !)) (init ! 10 refl (typed 𝓤 H A W at-mem run c₀ v₀ i₀)) $
-        asks 𝓤 H A W at-mem run κ q b o γ ys C Λ fm known-get 1 (lit< tt) n u n-is (and-then ! (load ! (from ! (stop !)) (look ! 14 refl)) (and-then ! (lit ! tt) (and-then ! (load ! (from ! (stop !)) (look ! 12 refl)) (no-more !)))) (λ c₁ v₁ e₁ i₁. land ! (from ! (stop !)) (init ! 8 refl (typed 𝓤 H A W at-mem run c₁ v₁ i₁)) $
-        asks 𝓤 H A W at-mem run κ q b o γ ys C Λ fm known-get 2 (lit< tt) n u n-is (and-then ! (load ! (from ! (stop !)) (look ! 14 refl)) (and-then ! (lit ! tt) (and-then ! (load ! (from ! (stop !)) (look ! 12 refl)) (no-more !)))) (λ c₂ v₂ e₂ i₂. land ! (from ! (stop !)) (init ! 6 refl (typed 𝓤 H A W at-mem run c₂ v₂ i₂)) $
-        asks 𝓤 H A W at-mem run κ q b o γ ys C Λ fm known-get 3 (lit< tt) n u n-is (and-then ! (load ! (from ! (stop !)) (look ! 14 refl)) (and-then ! (lit ! tt) (and-then ! (load ! (from ! (stop !)) (look ! 12 refl)) (no-more !)))) (λ c₃ v₃ e₃ i₃. land ! (from ! (stop !)) (init ! 4 refl (typed 𝓤 H A W at-mem run c₃ v₃ i₃)) $
+        asks 𝓤 H A W at-mem run κ q b o γ ys C Λ fm known-get 0 (lit< tt) n u n-is
+        (and-then ! (load ! (from ! (stop !)) (look ! 14 refl)) (and-then ! (lit ! tt) (and-then ! (load ! (from ! (stop !)) (look ! 12 refl)) (no-more !))))
+        (λ c₀ v₀ e₀ i₀. land ! (from ! (stop !)) (init ! 10 refl (typed 𝓤 H A W at-mem run c₀ v₀ i₀)) $
+        asks 𝓤 H A W at-mem run κ q b o γ ys C Λ fm known-get 1 (lit< tt) n u n-is
+        (and-then ! (load ! (from ! (stop !)) (look ! 14 refl)) (and-then ! (lit ! tt) (and-then ! (load ! (from ! (stop !)) (look ! 12 refl)) (no-more !))))
+        (λ c₁ v₁ e₁ i₁. land ! (from ! (stop !)) (init ! 8 refl (typed 𝓤 H A W at-mem run c₁ v₁ i₁)) $
+        asks 𝓤 H A W at-mem run κ q b o γ ys C Λ fm known-get 2 (lit< tt) n u n-is
+        (and-then ! (load ! (from ! (stop !)) (look ! 14 refl)) (and-then ! (lit ! tt) (and-then ! (load ! (from ! (stop !)) (look ! 12 refl)) (no-more !))))
+        (λ c₂ v₂ e₂ i₂. land ! (from ! (stop !)) (init ! 6 refl (typed 𝓤 H A W at-mem run c₂ v₂ i₂)) $
+        asks 𝓤 H A W at-mem run κ q b o γ ys C Λ fm known-get 3 (lit< tt) n u n-is
+        (and-then ! (load ! (from ! (stop !)) (look ! 14 refl)) (and-then ! (lit ! tt) (and-then ! (load ! (from ! (stop !)) (look ! 12 refl)) (no-more !))))
+        (λ c₃ v₃ e₃ i₃. land ! (from ! (stop !)) (init ! 4 refl (typed 𝓤 H A W at-mem run c₃ v₃ i₃)) $
         assigns ! (of-opd ! (load ! (from ! (fld ! refl (stop !))) (look-in ! 14 (sub ! 1 refl (whole !))))) (from ! (stop !)) (init ! 2 refl (tt, record { fits = room .0 })) $
         use0 W (raw (TableOf 𝓤 H A at-mem run .pre (to-table c₀ c₁ c₂ c₃ v₀ v₁ v₂ v₃))) (goes-table c₀ c₁ c₂ c₃ v₀ v₁ v₂ v₃ i₀ i₁ i₂ i₃) $
         -- [what `table_of` asks; the token; what t owns; _7; …; _6; …; _5; …; _4; …; _3; …; _2; …; _1; …; room for _0; …]
         calls-at ! fm (TableOf 𝓤 H A at-mem run) known-table (to-table c₀ c₁ c₂ c₃ v₀ v₁ v₂ v₃)
-        (and-then ! (load ! (from ! (stop !)) (look ! 11 refl)) (and-then ! (load ! (from ! (stop !)) (look ! 9 refl)) (and-then ! (load ! (from ! (stop !)) (look ! 7 refl)) (and-then ! (load ! (from ! (stop !)) (look ! 5 refl)) (and-then ! (load ! (from ! (stop !)) (look ! 3 refl)) (no-more !)))))) (λ w.
+        (and-then ! (load ! (from ! (stop !)) (look ! 11 refl))
+        (and-then ! (load ! (from ! (stop !)) (look ! 9 refl))
+        (and-then ! (load ! (from ! (stop !)) (look ! 7 refl))
+        (and-then ! (load ! (from ! (stop !)) (look ! 5 refl)) (and-then ! (load ! (from ! (stop !)) (look ! 3 refl)) (no-more !)))))) (λ w.
         use1 W (later (some (λ (r : Table). (‵ ftrue ⊛ ‵ (N.the-row .own r (w ∷ []))) ⊛ raw (ensured 𝓤 H A table-of.ended (table-of.clauses 𝓤 H A at-mem run) tt (c₀, (c₁, (c₂, (c₃, (length ys, tt))))) tt r)))) (id⊢ 𝓤 _) $ await ! tt $ pick ! (λ r.
         split ! $ move ! (1 ∷ []) $ use1 W (raw (fact 𝓤 (r ≡ tableFrom c₀ c₁ c₂ c₃ (length ys)))) (table-is 𝓤 H A at-mem run c₀ c₁ c₂ c₃ (length ys) r) $ heard ! (r ≡ tableFrom c₀ c₁ c₂ c₃ (length ys)) (λ e.
         split ! $ drop ! $ peeks ! N.the-row (Is N.the-row) (shows 𝓤 H A N.the-row) r (w ∷ []) (λ is.
@@ -143,7 +154,9 @@ module _ {M : Type 1} (𝓤 : URA M) (H : Heap 𝓤) (A : Atoms 𝓤) (W : Given
   walks C Λ fm known-get known-none known-table = walked 𝓤 H A f.ended stayed (f.clauses 𝓤 H A at-mem run) (WpFn 𝓤 H C Λ code.function) (λ κs. (slice-vals, tt)) (λ κs. (shr-slice-tells (named 0) (κs .0) R, tt))
       (λ κs qs bounds a g are. via 𝓤 _ (fst∗ 𝓤 _ (emp 𝓤)) (walk 𝓤 H A W at-mem run (κs .0) (qs .0) (a .0 .ptr .0) (a .0 .ptr .1) (a .0 .name) (a .0 .now) (are .0 .0 .1) C Λ fm known-get known-none known-table))
 
-meets : {M : Type 1} (𝓤 : URA M) (H : Heap 𝓤) (A : Atoms 𝓤) → Given 𝓤 H A → (at-mem : Memory → SProp 𝓤) (run : Routine → Fun 𝓤) (𝓣 : Tables 𝓤 H) → Triple 𝓤 (𝓣 .C #rikzord·get-or) (GetOr 𝓤 H A at-mem run) → Triple 𝓤 (𝓣 .C #snapshot·no-core) (NoCore 𝓤 H A at-mem run) → Triple 𝓤 (𝓣 .C #snapshot·table-of) (TableOf 𝓤 H A at-mem run)
+meets : {M : Type 1} (𝓤 : URA M) (H : Heap 𝓤) (A : Atoms 𝓤) → Given 𝓤 H A → (at-mem : Memory → SProp 𝓤) (run : Routine → Fun 𝓤) (𝓣 : Tables 𝓤 H)
+    → Triple 𝓤 (𝓣 .C #rikzord·get-or) (GetOr 𝓤 H A at-mem run) → Triple 𝓤 (𝓣 .C #snapshot·no-core) (NoCore 𝓤 H A at-mem run)
+    → Triple 𝓤 (𝓣 .C #snapshot·table-of) (TableOf 𝓤 H A at-mem run)
     → Meets 𝓤 H A f.signature (WpFn 𝓤 H (𝓣 .C) (𝓣 .Λ) code.function) (f.spec 𝓤 H A at-mem run)
 meets 𝓤 H A W at-mem run 𝓣 known-get known-none known-table = walk-meets 𝓤 H A f.ended stayed W (goes-none-slice 𝓤 H A W 1 (0 ∷ []) tt (plain (λ _. R)) yes, tt) (f.clauses 𝓤 H A at-mem run)
     (WpFn 𝓤 H (𝓣 .C) (𝓣 .Λ) code.function) (WpFn-mono 𝓤 H (W .laws) 𝓣 code.function) (walks 𝓤 H A W at-mem run (𝓣 .C) (𝓣 .Λ) (fmOf 𝓤 H (W .laws) 𝓣) known-get known-none known-table)

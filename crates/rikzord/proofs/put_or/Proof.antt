@@ -1,4 +1,5 @@
--- `rikzord::put_or` meets its contract: a walk of its MIR, by hand, with a branch. Past the end nothing changes, which is what `set` does there; else the place of `t[i]` is computed, the slice is opened, record i is taken out of the row and stored to, and the slice is closed at the list with the record in it.
+-- `rikzord::put_or` meets its contract: a walk of its MIR, by hand, with a branch. Past the end nothing changes, which is what `set` does there;
+-- else the place of `t[i]` is computed, the slice is opened, record i is taken out of the row and stored to, and the slice is closed at the list with the record in it.
 -- Assumes nothing.
 use mathlib.Core.Path.{_≡_, refl, sym, ap, subst}
 use Prim.Native.Nat.{ℕ, _<_, _^_, _*_}

@@ -17,7 +17,7 @@ use prog.Wp.{Heap, Calls, Loops, WpFn, Tables}
 use ghost.Atoms.{Atoms, sem}
 use contract.Monad.{Fun, fact}
 use contract.Running.{givenOf, tables, tablesOf}
-use types.Kit.{Given, ‵, raw, _⊛_, some, later, ⋆, _$_, _∵_, !, qed, by, move, keep, drop, use1, use2, split, join, pick, fsplit, fsplit3, fjoin, fjoin3, feqI, suffices, frame, await, done}
+use types.Kit.{Given, Item, ‵, raw, _⊛_, some, later, ⋆, _$_, _∵_, !, qed, by, move, keep, drop, use1, use2, split, join, pick, fsplit, fsplit3, fjoin, fjoin3, feqI, suffices, frame, await, done}
 use types.Run.{look, look-raw, init, forget, stop, hop, from, load, addr, of-opd, and-then, no-more, assigns, land, returns, enter, alloc1, alloc0, params1, pass1, pass0, free1, free0}
 use sound.WpLaws.{FmC, fmOf, WpFn-mono}
 use denote.RattleType.{owns}
@@ -96,7 +96,11 @@ module _ {M : Type 1} (𝓤 : URA M) (H : Heap 𝓤) (A : Atoms 𝓤) (at-mem : 
   scan-is : (κ : Lft) (x : RefT (List CoreRecord)) (r : Ring) (k : ℕ) → ent 𝓤 (ensured 𝓤 H A scan.ended (scan.clauses 𝓤 H A at-mem run) (κ, tt) (x, (r, tt)) tt k) (fact 𝓤 (k ≡ scanned (x .now) r))
   scan-is κ x r k = exE 𝓤 _ (λ ws. snd∗ 𝓤 (sem 𝓤 H A (lasts scan.ended (κ, tt) (x, (r, tt)) ws)) (fact 𝓤 (k ≡ scanned (x .now) r)))
 
-module _ {M : Type 1} (𝓤 : URA M) (H : Heap 𝓤) (A : Atoms 𝓤) (W : Given 𝓤 H A) (at-mem : Memory → SProp 𝓤) (run : Routine → Fun 𝓤) (κ₀ κ₁ κ₂ κ₃ κ₄ : Lft) (q₀ q₁ q₂ q₃ q₄ : Share) (b-file o-file : ℕ) (γ-file : GName) (file : List ℕ) (b-trace o-trace : ℕ) (γ-trace : GName) (trace : List ℕ) (b-table o-table : ℕ) (γ-table : GName) (table : List CoreRecord) (b-semaphore o-semaphore : ℕ) (γ-semaphore : GName) (semaphore : Semaphore) (given : ℕ) (b-found o-found : ℕ) (γ-found : GName) (found : ℕ) (room-file : Room u8 (length file)) (room-trace : Room u8 (length trace)) (room-table : Room R (length table)) (given-fits : given < 2 ^ 8) where
+module _ {M : Type 1} (𝓤 : URA M) (H : Heap 𝓤) (A : Atoms 𝓤) (W : Given 𝓤 H A) (at-mem : Memory → SProp 𝓤) (run : Routine → Fun 𝓤) (κ₀ κ₁ κ₂ κ₃ κ₄ : Lft)
+    (q₀ q₁ q₂ q₃ q₄ : Share) (b-file o-file : ℕ) (γ-file : GName) (file : List ℕ) (b-trace o-trace : ℕ) (γ-trace : GName) (trace : List ℕ) (b-table o-table : ℕ)
+    (γ-table : GName) (table : List CoreRecord) (b-semaphore o-semaphore : ℕ) (γ-semaphore : GName) (semaphore : Semaphore) (given : ℕ) (b-found o-found : ℕ)
+    (γ-found : GName) (found : ℕ) (room-file : Room u8 (length file)) (room-trace : Room u8 (length trace)) (room-table : Room R (length table))
+    (given-fits : given < 2 ^ 8) where
   -- what is lent, and its machine values
   abbrev file-ref : RefT (List ℕ)
   file-ref = record { ptr = (b-file, o-file); name = γ-file; now = file }
@@ -149,12 +153,18 @@ module _ {M : Type 1} (𝓤 : URA M) (H : Heap 𝓤) (A : Atoms 𝓤) (W : Given
   abbrev Post : Val → SProp 𝓤
   Post = walkOf 𝓤 H A f.ended stayed (f.clauses 𝓤 H A at-mem run) .post (((κ₀, (κ₁, (κ₂, (κ₃, (κ₄, tt))))), (q₀, (q₁, (q₂, (q₃, (q₄, tt))))), tt, a, at), tt)
 
+  -- the tokens of the lifetimes
+  abbrev tokens : Item 𝓤
+  tokens = ‵ (flft κ₀ q₀) ⊛ ‵ (flft κ₁ q₁) ⊛ ‵ (flft κ₂ q₂) ⊛ ‵ (flft κ₃ q₃) ⊛ ‵ (flft κ₄ q₄) ⊛ ‵ ftrue
+
   exits : (r : ℕ) (w : Val) (found′ : ℕ) → answered r found′ ≡ nextLent file trace table semaphore given found
-      → ent 𝓤 (⋆ 𝓤 H A ((‵ (flft κ₀ q₀) ⊛ ‵ (flft κ₁ q₁) ⊛ ‵ (flft κ₂ q₂) ⊛ ‵ (flft κ₃ q₃) ⊛ ‵ (flft κ₄ q₄) ⊛ ‵ ftrue) ∷ ‵ file-own ∷ ‵ trace-own ∷ ‵ table-own ∷ ‵ (fres γ-semaphore (P.the-row .coded .code semaphore)) ∷ ‵ (fshr-bor κ₃ (λ s. partAt P.the-row s semaphore b-semaphore o-semaphore)) ∷ ‵ (fres γ-found (u8 .coded .code found′)) ∷ ‵ (u8 .own r (w ∷ [])) ∷ [])) (Post w)
+      → ent 𝓤 (⋆ 𝓤 H A (tokens ∷ ‵ file-own ∷ ‵ trace-own ∷ ‵ table-own ∷ ‵ (fres γ-semaphore (P.the-row .coded .code semaphore)) ∷ ‵ (fshr-bor κ₃ (λ s. partAt P.the-row s semaphore b-semaphore o-semaphore)) ∷ ‵ (fres γ-found (u8 .coded .code found′)) ∷ ‵ (u8 .own r (w ∷ [])) ∷ [])) (Post w)
   exits r w found′ e =
-      qed W ((‵ (flft κ₀ q₀) ⊛ ‵ (flft κ₁ q₁) ⊛ ‵ (flft κ₂ q₂) ⊛ ‵ (flft κ₃ q₃) ⊛ ‵ (flft κ₄ q₄) ⊛ ‵ ftrue) ∷ ‵ file-own ∷ ‵ trace-own ∷ ‵ table-own ∷ ‵ (fres γ-semaphore (P.the-row .coded .code semaphore)) ∷ ‵ (fshr-bor κ₃ (λ s. partAt P.the-row s semaphore b-semaphore o-semaphore)) ∷ ‵ (fres γ-found (u8 .coded .code found′)) ∷ ‵ (u8 .own r (w ∷ [])) ∷ []) ∵
+      qed W (tokens ∷ ‵ file-own ∷ ‵ trace-own ∷ ‵ table-own ∷ ‵ (fres γ-semaphore (P.the-row .coded .code semaphore)) ∷ ‵ (fshr-bor κ₃ (λ s. partAt P.the-row s semaphore b-semaphore o-semaphore)) ∷ ‵ (fres γ-found (u8 .coded .code found′)) ∷ ‵ (u8 .own r (w ∷ [])) ∷ []) ∵
       suffices ! _ (ends-at 𝓤 H A f.ended stayed (f.clauses 𝓤 H A at-mem run) W (((κ₀, (κ₁, (κ₂, (κ₃, (κ₄, tt))))), (q₀, (q₁, (q₂, (q₃, (q₄, tt))))), tt, a, at), tt) w r (tt, (tt, (tt, (tt, (tt, (found′, tt)))))) (tt, (tt, (tt, (tt, (tt, (tt, tt))))))) $ says ! e $
-      frame ! $ move ! (3 ∷ 4 ∷ []) $ feqI ! (List Val) (vptr b-semaphore o-semaphore ∷ []) (vptr b-semaphore o-semaphore ∷ []) refl $ fjoin3 ! $ nothing ! $ move ! (5 ∷ 0 ∷ []) $ fjoin ! $ owned ! u8 (Is u8) (uint-makes 𝓤 H A W w8) given _ (refl, given-fits) $ fjoin ! $ move ! (1 ∷ 0 ∷ []) $ fjoin ! $ move ! (3 ∷ 0 ∷ []) $ fjoin ! $ move ! (2 ∷ 0 ∷ []) $ fjoin ! $ move ! (1 ∷ 0 ∷ []) $ fjoin ! $ frame ! $ done !
+      frame ! $ move ! (3 ∷ 4 ∷ []) $ feqI ! (List Val) (vptr b-semaphore o-semaphore ∷ []) (vptr b-semaphore o-semaphore ∷ []) refl $ fjoin3 ! $ nothing ! $
+      move ! (5 ∷ 0 ∷ []) $ fjoin ! $ owned ! u8 (Is u8) (uint-makes 𝓤 H A W w8) given _ (refl, given-fits) $ fjoin ! $ move ! (1 ∷ 0 ∷ []) $ fjoin ! $
+      move ! (3 ∷ 0 ∷ []) $ fjoin ! $ move ! (2 ∷ 0 ∷ []) $ fjoin ! $ move ! (1 ∷ 0 ∷ []) $ fjoin ! $ frame ! $ done !
 
   -- what each callee's triple binds outside, and that the caller has what it asks
   abbrev to-load : Load 𝓤 H A at-mem run .Ghost
@@ -200,17 +210,28 @@ module _ {M : Type 1} (𝓤 : URA M) (H : Heap 𝓤) (A : Atoms 𝓤) (W : Given
   goes-found : (r : Ring) (k : ℕ) (v w : Val) → ent 𝓤 (sep 𝓤 (sep 𝓤 (A .lft κ₄ q₄) (sem 𝓤 H A ftrue)) (sem 𝓤 H A (Found-over r k v w))) (FoundIn 𝓤 H A at-mem run .pre (to-found r k v w))
   goes-found r k v w = qed W ((‵ (flft κ₄ q₄) ⊛ ‵ ftrue) ∷ ‵ (Found-over r k v w) ∷ []) ∵ join ! $ frame ! $ done !
 
+  -- the last values of what was lent to it
+  abbrev Lasts : Type 0
+  Lasts = Unit {0} × (Unit {0} × (ℕ × Unit {0}))
+
   -- what `found_in` says of its answer n and of the last value
   abbrev Says : Ring → ℕ → ℕ → ℕ → Type 0
   Says r k n found′ = answered n found′ ≡ ringAnswer r k found
 
-  module _ (C : Calls 𝓤 H) (Λ : Loops 𝓤 H) (fm : FmC 𝓤 H (W .laws) C) (known-load : Triple 𝓤 (C #rikzord·load) (Load 𝓤 H A at-mem run)) (known-ring : Triple 𝓤 (C #snapshot·ring-of) (RingOf 𝓤 H A at-mem run)) (known-scan : Triple 𝓤 (C #rikzord·scan) (Scan 𝓤 H A at-mem run)) (known-found : Triple 𝓤 (C #snapshot·found-in) (FoundIn 𝓤 H A at-mem run)) where
+  module _ (C : Calls 𝓤 H) (Λ : Loops 𝓤 H) (fm : FmC 𝓤 H (W .laws) C) (known-load : Triple 𝓤 (C #rikzord·load) (Load 𝓤 H A at-mem run))
+      (known-ring : Triple 𝓤 (C #snapshot·ring-of) (RingOf 𝓤 H A at-mem run)) (known-scan : Triple 𝓤 (C #rikzord·scan) (Scan 𝓤 H A at-mem run))
+      (known-found : Triple 𝓤 (C #snapshot·found-in) (FoundIn 𝓤 H A at-mem run)) where
     walk : ent 𝓤 (onEntry 𝓤 H A f.signature (κ₀, (κ₁, (κ₂, (κ₃, (κ₄, tt))))) (q₀, (q₁, (q₂, (q₃, (q₄, tt))))) a at) (WpFn 𝓤 H C Λ code.function (file-val ∷ trace-val ∷ table-val ∷ semaphore-val ∷ vint w8 given ∷ found-val ∷ []) Post)
     walk =
-        qed W ((‵ (flft κ₀ q₀) ⊛ ‵ (flft κ₁ q₁) ⊛ ‵ (flft κ₂ q₂) ⊛ ‵ (flft κ₃ q₃) ⊛ ‵ (flft κ₄ q₄) ⊛ ‵ ftrue) ∷ ‵ (owns (ShrSlice (named 0) κ₀ u8 ∷ ShrSlice (named 1) κ₁ u8 ∷ ShrSlice (named 2) κ₂ R ∷ ShrRef (named 3) κ₃ P.the-row ∷ u8 ∷ MutRef (named 4) κ₄ u8 ∷ []) a at) ∷ []) ∵ enter ! C Λ code.function (file-val ∷ trace-val ∷ table-val ∷ semaphore-val ∷ vint w8 given ∷ found-val ∷ []) _ $
+        qed W (tokens ∷ ‵ (owns (ShrSlice (named 0) κ₀ u8 ∷ ShrSlice (named 1) κ₁ u8 ∷ ShrSlice (named 2) κ₂ R ∷ ShrRef (named 3) κ₃ P.the-row ∷ u8
+        ∷ MutRef (named 4) κ₄ u8 ∷ []) a at) ∷ []) ∵ enter ! C Λ code.function (file-val ∷ trace-val ∷ table-val ∷ semaphore-val ∷ vint w8 given ∷ found-val ∷ []) _ $
         alloc1 ! (λ l₀. alloc1 ! (λ l₁. alloc1 ! (λ l₂. alloc1 ! (λ l₃. alloc1 ! (λ l₄. alloc1 ! (λ l₅. alloc1 ! (λ l₆. alloc1 ! (λ l₇. alloc1 ! (λ l₈. alloc1 ! (λ l₉. alloc1 ! (λ l₁₀. alloc1 ! (λ l₁₁. alloc0 ! $ params1 ! $
-        pass1 ! (init ! 20 refl (tt, (tt, (record { fits = room-file .0 }, tt)))) $ pass1 ! (init ! 18 refl (tt, (tt, (record { fits = room-trace .0 }, tt)))) $ pass1 ! (init ! 16 refl (tt, (tt, (record { fits = room-table .0 }, tt)))) $ pass1 ! (init ! 14 refl (tt, tt)) $ pass1 ! (init ! 12 refl (tt, record { fits = given-fits })) $ pass1 ! (init ! 10 refl (tt, tt)) $ pass0 ! $
-        move ! (25 ∷ []) $ fsplit ! $ move ! (1 ∷ []) $ fsplit ! $ move ! (1 ∷ []) $ fsplit ! $ move ! (1 ∷ []) $ fsplit ! $ move ! (1 ∷ []) $ fsplit ! $ drop ! $ fsplit ! $ move ! (1 ∷ []) $ drop ! $ move ! (29 ∷ []) $ split ! $ move ! (1 ∷ []) $ split ! $ move ! (1 ∷ []) $ split ! $ move ! (1 ∷ []) $ split ! $ move ! (1 ∷ []) $ split ! $ move ! (1 ∷ []) $ drop ! $
+        pass1 ! (init ! 20 refl (tt, (tt, (record { fits = room-file .0 }, tt)))) $ pass1 ! (init ! 18 refl (tt, (tt, (record { fits = room-trace .0 }, tt)))) $
+        pass1 ! (init ! 16 refl (tt, (tt, (record { fits = room-table .0 }, tt)))) $ pass1 ! (init ! 14 refl (tt, tt)) $
+        pass1 ! (init ! 12 refl (tt, record { fits = given-fits })) $ pass1 ! (init ! 10 refl (tt, tt)) $ pass0 ! $
+        move ! (25 ∷ []) $ fsplit ! $ move ! (1 ∷ []) $ fsplit ! $ move ! (1 ∷ []) $ fsplit ! $ move ! (1 ∷ []) $ fsplit ! $ move ! (1 ∷ []) $ fsplit ! $ drop ! $
+        fsplit ! $ move ! (1 ∷ []) $ drop ! $ move ! (29 ∷ []) $ split ! $ move ! (1 ∷ []) $ split ! $ move ! (1 ∷ []) $ split ! $ move ! (1 ∷ []) $ split ! $
+        move ! (1 ∷ []) $ split ! $ move ! (1 ∷ []) $ drop ! $
         move ! (9 ∷ []) $ use1 W (‵ file-own ⊛ ‵ file-own) (shr-slice-copy 𝓤 H A W (named 0) κ₀ u8 .twice file-ref (file-val ∷ [])) $ split ! $
         move ! (10 ∷ []) $ use1 W (‵ trace-own ⊛ ‵ trace-own) (shr-slice-copy 𝓤 H A W (named 1) κ₁ u8 .twice trace-ref (trace-val ∷ [])) $ split ! $
         move ! (11 ∷ []) $ use1 W (‵ table-own ⊛ ‵ table-own) (shr-slice-copy 𝓤 H A W (named 2) κ₂ R .twice table-ref (table-val ∷ [])) $ split ! $
@@ -224,15 +245,23 @@ module _ {M : Type 1} (𝓤 : URA M) (H : Heap 𝓤) (A : Atoms 𝓤) (W : Given
         split ! $ move ! (1 ∷ []) $ peeks ! F.the-row (Is F.the-row) (shows 𝓤 H A F.the-row) t (v ∷ []) (λ is₁. land ! (from ! (stop !)) (init ! 22 refl (LL.lawful F.the-type F′.the-laws 𝓤 H A W .typed t _ is₁ .0)) $ drop ! $ split ! $ move ! (1 ∷ []) $ drop ! $
         -- the semaphore is copied out
         move ! (12 ∷ []) $ fsplit3 ! $ drop ! $ move ! (1 ∷ 10 ∷ []) $ looks ! tt P.the-row (Is P.the-row) (shows 𝓤 H A P.the-row) (LL.vals P.the-type P′.the-laws) (LL.tells P.the-type P′.the-laws) (LL.copy P.the-type P′.the-copy 𝓤 H A W) semaphore b-semaphore o-semaphore (λ q′ vs.
-        spelt ! P.the-row (Is P.the-row) (shows 𝓤 H A P.the-row) (LL.vals P.the-type P′.the-laws) (LL.tells P.the-type P′.the-laws) q′ semaphore vs b-semaphore o-semaphore $ move ! (1 ∷ []) $ peeks ! P.the-row (Is P.the-row) (shows 𝓤 H A P.the-row) semaphore (mach-semaphore semaphore ∷ []) (λ is₀. move ! (1 ∷ 0 ∷ []) $
+        spelt ! P.the-row (Is P.the-row) (shows 𝓤 H A P.the-row) (LL.vals P.the-type P′.the-laws)
+        (LL.tells P.the-type P′.the-laws) q′ semaphore vs b-semaphore o-semaphore $ move ! (1 ∷ []) $
+        peeks ! P.the-row (Is P.the-row) (shows 𝓤 H A P.the-row) semaphore (mach-semaphore semaphore ∷ []) (λ is₀. move ! (1 ∷ 0 ∷ []) $
         -- [a share of the semaphore's cell; what the semaphore owns; what shuts it; the fractured borrow; res; table's token; what table owns, twice; what trace owns, twice; what file owns, twice; found's token; trace's token; file's token; what found owns; _11; …; down to _0]
         assigns ! (of-opd ! (load ! (from ! (hop ! (look ! 30 refl) (stop !))) (look-raw ! 0 refl))) (from ! (stop !)) (init ! 18 refl (LL.lawful P.the-type P′.the-laws 𝓤 H A W .typed semaphore _ is₀ .0)) $
         shuts ! tt P.the-row q′ semaphore (mach-semaphore semaphore ∷ []) b-semaphore o-semaphore $ move ! (3 ∷ 4 ∷ 5 ∷ 6 ∷ 7 ∷ 8 ∷ 9 ∷ 10 ∷ 11 ∷ 12 ∷ 13 ∷ []) $
         -- `ring_of`, on the copy
-        nothing ! $ owned ! u8 (Is u8) (uint-makes 𝓤 H A W w8) given _ (refl, given-fits) $ fjoin ! $ owned ! P.the-row (Is P.the-row) (LL.makes P.the-type P′.the-plain 𝓤 H A) semaphore _ is₀ $ fjoin ! $ owned ! F.the-row (Is F.the-row) (LL.makes F.the-type F′.the-plain 𝓤 H A) t _ is₁ $ fjoin ! $ move ! (4 ∷ 0 ∷ []) $ fjoin ! $ move ! (5 ∷ 0 ∷ []) $ fjoin ! $
+        nothing ! $ owned ! u8 (Is u8) (uint-makes 𝓤 H A W w8) given _ (refl, given-fits) $ fjoin ! $
+        owned ! P.the-row (Is P.the-row) (LL.makes P.the-type P′.the-plain 𝓤 H A) semaphore _ is₀ $ fjoin ! $
+        owned ! F.the-row (Is F.the-row) (LL.makes F.the-type F′.the-plain 𝓤 H A) t _ is₁ $ fjoin ! $ move ! (4 ∷ 0 ∷ []) $ fjoin ! $ move ! (5 ∷ 0 ∷ []) $ fjoin ! $
         nothing ! $ move ! (8 ∷ 0 ∷ []) $ join ! $ move ! (8 ∷ 0 ∷ []) $ join ! $ use2 W (raw (RingOf 𝓤 H A at-mem run .pre (to-ring t v))) (goes-ring t v) $
         -- [what `ring_of` asks; table's token; what table owns, twice; what trace owns; what file owns; found's token; what found owns; semaphore's token; its fractured borrow; its res; _11; …; down to _0]
-        calls-at ! fm (RingOf 𝓤 H A at-mem run) known-ring (to-ring t v) (and-then ! (load ! (from ! (stop !)) (look ! 31 refl)) (and-then ! (load ! (from ! (stop !)) (look ! 29 refl)) (and-then ! (load ! (from ! (stop !)) (look ! 19 refl)) (and-then ! (load ! (from ! (stop !)) (look ! 13 refl)) (and-then ! (load ! (from ! (stop !)) (look ! 23 refl)) (no-more !)))))) (λ vr.
+        calls-at ! fm (RingOf 𝓤 H A at-mem run) known-ring (to-ring t v)
+        (and-then ! (load ! (from ! (stop !)) (look ! 31 refl))
+        (and-then ! (load ! (from ! (stop !)) (look ! 29 refl))
+        (and-then ! (load ! (from ! (stop !)) (look ! 19 refl))
+        (and-then ! (load ! (from ! (stop !)) (look ! 13 refl)) (and-then ! (load ! (from ! (stop !)) (look ! 23 refl)) (no-more !)))))) (λ vr.
         use1 W (later (some (λ (r : Ring). ((‵ (flft κ₀ q₀) ⊛ ‵ (flft κ₁ q₁) ⊛ ‵ ftrue) ⊛ ‵ (Q.the-row .own r (vr ∷ []))) ⊛ raw (ensured 𝓤 H A ring-of.ended (ring-of.clauses 𝓤 H A at-mem run) (κ₀, (κ₁, tt)) (ring-args t) tt r)))) (id⊢ 𝓤 _) $ await ! tt $ pick ! (λ r.
         split ! $ move ! (1 ∷ []) $ use1 W (raw (fact 𝓤 (r ≡ ringOf file trace t semaphore given))) (ring-is 𝓤 H A at-mem run κ₀ κ₁ file-ref trace-ref t semaphore given r) $ heard ! (r ≡ ringOf file trace t semaphore given) (λ e₂.
         split ! $ move ! (1 ∷ []) $ peeks ! Q.the-row (Is Q.the-row) (shows 𝓤 H A Q.the-row) r (vr ∷ []) (λ is₂. land ! (from ! (stop !)) (init ! 18 refl (LL.lawful Q.the-type Q′.the-laws 𝓤 H A W .typed r _ is₂ .0)) $ drop ! $
@@ -250,13 +279,15 @@ module _ {M : Type 1} (𝓤 : URA M) (H : Heap 𝓤) (A : Atoms 𝓤) (W : Given
         -- [what `found_in` asks; table's token; the tokens of file and trace; what table owns; what trace owns; what file owns; semaphore's token; its fractured borrow; its res; _11; …; down to _0]
         calls-at ! fm (FoundIn 𝓤 H A at-mem run) known-found (to-found r k vr vk) (and-then ! (load ! (from ! (stop !)) (look ! 15 refl)) (and-then ! (load ! (from ! (stop !)) (look ! 13 refl)) (and-then ! (load ! (from ! (stop !)) (look ! 9 refl)) (no-more !)))) (λ w.
         use1 W (later (some (λ (n : ℕ). ((‵ (flft κ₄ q₄) ⊛ ‵ ftrue) ⊛ ‵ (u8 .own n (w ∷ []))) ⊛ raw (ensured 𝓤 H A found-in.ended (found-in.clauses 𝓤 H A at-mem run) (κ₄, tt) (found-args r k) tt n)))) (id⊢ 𝓤 _) $ await ! tt $ pick ! (λ n.
-        split ! $ move ! (1 ∷ []) $ use1 W (some (λ (zs : Unit {0} × (Unit {0} × (ℕ × Unit {0}))). ‵ (lasts found-in.ended (κ₄, tt) (found-args r k) zs) ⊛ raw (fact 𝓤 (Says r k n (zs .1 .1 .0))))) (id⊢ 𝓤 _) $ pick ! (λ zs.
+        split ! $ move ! (1 ∷ []) $ use1 W (some (λ (zs : Lasts). ‵ (lasts found-in.ended (κ₄, tt) (found-args r k) zs) ⊛ raw (fact 𝓤 (Says r k n (zs .1 .1 .0))))) (id⊢ 𝓤 _) $ pick ! (λ zs.
         split ! $ move ! (1 ∷ []) $ heard ! (Says r k n (zs .1 .1 .0)) (λ e₄. fsplit ! $ drop ! $ fsplit ! $ drop ! $ fsplit ! $ move ! (1 ∷ []) $ drop ! $
         move ! (1 ∷ []) $ split ! $ move ! (1 ∷ []) $ peeks ! u8 (Is u8) (shows 𝓤 H A u8) n (w ∷ []) (λ is₄.
         land ! (from ! (stop !)) (init ! 33 refl (uint-lawful 𝓤 H A W w8 .typed n _ is₄ .0)) $
         -- [what the answer owns; found's token; the last found; table's token; the tokens of file and trace; what table owns; what trace owns; what file owns; semaphore's token; its fractured borrow; its res; _11; …; down to _0]
         returns ! (look ! 33 refl) $ forget ! 11 refl $ forget ! 13 refl $ forget ! 15 refl $ forget ! 17 refl $ forget ! 19 refl $ forget ! 21 refl $ forget ! 23 refl $ forget ! 25 refl $ forget ! 27 refl $ forget ! 29 refl $ forget ! 31 refl $ forget ! 33 refl $
-        move ! (33 ∷ 34 ∷ []) $ free1 ! $ move ! (31 ∷ 32 ∷ []) $ free1 ! $ move ! (29 ∷ 30 ∷ []) $ free1 ! $ move ! (27 ∷ 28 ∷ []) $ free1 ! $ move ! (25 ∷ 26 ∷ []) $ free1 ! $ move ! (23 ∷ 24 ∷ []) $ free1 ! $ move ! (21 ∷ 22 ∷ []) $ free1 ! $ move ! (19 ∷ 20 ∷ []) $ free1 ! $ move ! (17 ∷ 18 ∷ []) $ free1 ! $ move ! (15 ∷ 16 ∷ []) $ free1 ! $ move ! (13 ∷ 14 ∷ []) $ free1 ! $ move ! (11 ∷ 12 ∷ []) $ free1 ! $ free0 ! $
+        move ! (33 ∷ 34 ∷ []) $ free1 ! $ move ! (31 ∷ 32 ∷ []) $ free1 ! $ move ! (29 ∷ 30 ∷ []) $ free1 ! $ move ! (27 ∷ 28 ∷ []) $ free1 ! $ move ! (25 ∷ 26 ∷ []) $
+        free1 ! $ move ! (23 ∷ 24 ∷ []) $ free1 ! $ move ! (21 ∷ 22 ∷ []) $ free1 ! $ move ! (19 ∷ 20 ∷ []) $ free1 ! $ move ! (17 ∷ 18 ∷ []) $ free1 ! $
+        move ! (15 ∷ 16 ∷ []) $ free1 ! $ move ! (13 ∷ 14 ∷ []) $ free1 ! $ move ! (11 ∷ 12 ∷ []) $ free1 ! $ free0 ! $
         move ! (4 ∷ []) $ split ! $ move ! (1 ∷ []) $ split ! $ move ! (1 ∷ []) $ drop ! $
         -- [trace's token; file's token; what the answer owns; found's token; the last found; table's token; what table owns; what trace owns; what file owns]
         move ! (5 ∷ []) $ split ! $ move ! (1 ∷ []) $ drop ! $
@@ -266,15 +297,33 @@ module _ {M : Type 1} (𝓤 : URA M) (H : Heap 𝓤) (A : Atoms 𝓤) (W : Given
         keep ! (0 ∷ 5 ∷ 4 ∷ 3 ∷ 7 ∷ 6 ∷ 2 ∷ 1 ∷ []) $ by ! (exits n w (zs .1 .1 .0) (next-lent file trace table semaphore given found t r k n (zs .1 .1 .0) e₁ e₂ e₃ e₄)))))))))))))))))))))))))))))))))
 
 module _ {M : Type 1} (𝓤 : URA M) (H : Heap 𝓤) (A : Atoms 𝓤) (W : Given 𝓤 H A) (at-mem : Memory → SProp 𝓤) (run : Routine → Fun 𝓤) where
-  walks : (C : Calls 𝓤 H) (Λ : Loops 𝓤 H) → FmC 𝓤 H (W .laws) C → Triple 𝓤 (C #rikzord·load) (Load 𝓤 H A at-mem run) → Triple 𝓤 (C #snapshot·ring-of) (RingOf 𝓤 H A at-mem run) → Triple 𝓤 (C #rikzord·scan) (Scan 𝓤 H A at-mem run) → Triple 𝓤 (C #snapshot·found-in) (FoundIn 𝓤 H A at-mem run) → Walks 𝓤 H A f.ended stayed (WpFn 𝓤 H C Λ code.function) (f.clauses 𝓤 H A at-mem run)
+  walks : (C : Calls 𝓤 H) (Λ : Loops 𝓤 H) → FmC 𝓤 H (W .laws) C → Triple 𝓤 (C #rikzord·load) (Load 𝓤 H A at-mem run)
+      → Triple 𝓤 (C #snapshot·ring-of) (RingOf 𝓤 H A at-mem run) → Triple 𝓤 (C #rikzord·scan) (Scan 𝓤 H A at-mem run)
+      → Triple 𝓤 (C #snapshot·found-in) (FoundIn 𝓤 H A at-mem run) → Walks 𝓤 H A f.ended stayed (WpFn 𝓤 H C Λ code.function) (f.clauses 𝓤 H A at-mem run)
   walks C Λ fm k₁ k₂ k₃ k₄ = walked 𝓤 H A f.ended stayed (f.clauses 𝓤 H A at-mem run) (WpFn 𝓤 H C Λ code.function) (λ κs. (slice-vals, (slice-vals, (slice-vals, (ptr-vals, (uint-vals w8, (ptr-vals, tt)))))))
       (λ κs. (shr-slice-tells (named 0) (κs .0) u8, (shr-slice-tells (named 1) (κs .1 .0) u8, (shr-slice-tells (named 2) (κs .1 .1 .0) R, (shr-tells (named 3) (κs .1 .1 .1 .0) P.the-row, (uint-tells w8, (mut-tells (named 4) (κs .1 .1 .1 .1 .0) u8, tt)))))))
-      (λ κs qs bounds a g are. via 𝓤 _ (fst∗ 𝓤 _ (emp 𝓤)) (walk 𝓤 H A W at-mem run (κs .0) (κs .1 .0) (κs .1 .1 .0) (κs .1 .1 .1 .0) (κs .1 .1 .1 .1 .0) (qs .0) (qs .1 .0) (qs .1 .1 .0) (qs .1 .1 .1 .0) (qs .1 .1 .1 .1 .0) (a .0 .ptr .0) (a .0 .ptr .1) (a .0 .name) (a .0 .now) (a .1 .0 .ptr .0) (a .1 .0 .ptr .1) (a .1 .0 .name) (a .1 .0 .now) (a .1 .1 .0 .ptr .0) (a .1 .1 .0 .ptr .1) (a .1 .1 .0 .name) (a .1 .1 .0 .now) (a .1 .1 .1 .0 .ptr .0) (a .1 .1 .1 .0 .ptr .1) (a .1 .1 .1 .0 .name) (a .1 .1 .1 .0 .now) (a .1 .1 .1 .1 .0) (a .1 .1 .1 .1 .1 .0 .ptr .0) (a .1 .1 .1 .1 .1 .0 .ptr .1) (a .1 .1 .1 .1 .1 .0 .name) (a .1 .1 .1 .1 .1 .0 .now) (are .0 .0 .1) (are .1 .0 .0 .1) (are .1 .1 .0 .0 .1) (are .1 .1 .1 .1 .0 .1) C Λ fm k₁ k₂ k₃ k₄))
+      (λ κs qs bounds a g are. via 𝓤 _ (fst∗ 𝓤 _ (emp 𝓤))
+      (walk 𝓤 H A W at-mem run (κs .0) (κs .1 .0) (κs .1 .1 .0) (κs .1 .1 .1 .0) (κs .1 .1 .1 .1 .0) (qs .0) (qs .1 .0) (qs .1 .1 .0) (qs .1 .1 .1 .0)
+      (qs .1 .1 .1 .1 .0) (a .0 .ptr .0) (a .0 .ptr .1) (a .0 .name) (a .0 .now) (a .1 .0 .ptr .0) (a .1 .0 .ptr .1) (a .1 .0 .name) (a .1 .0 .now) (a .1 .1 .0 .ptr .0)
+      (a .1 .1 .0 .ptr .1) (a .1 .1 .0 .name) (a .1 .1 .0 .now) (a .1 .1 .1 .0 .ptr .0) (a .1 .1 .1 .0 .ptr .1) (a .1 .1 .1 .0 .name) (a .1 .1 .1 .0 .now)
+      (a .1 .1 .1 .1 .0) (a .1 .1 .1 .1 .1 .0 .ptr .0) (a .1 .1 .1 .1 .1 .0 .ptr .1) (a .1 .1 .1 .1 .1 .0 .name) (a .1 .1 .1 .1 .1 .0 .now) (are .0 .0 .1)
+      (are .1 .0 .0 .1) (are .1 .1 .0 .0 .1) (are .1 .1 .1 .1 .0 .1) C Λ fm k₁ k₂ k₃ k₄))
 
   goes : AllGo 𝓤 H A W 5 (f.signature .params) (f.ended .kept) stayed
-  goes = (goes-none-slice 𝓤 H A W 5 (0 ∷ []) tt (plain (λ _. u8)) yes, (goes-none-slice 𝓤 H A W 5 (1 ∷ []) tt (plain (λ _. u8)) yes, (goes-none-slice 𝓤 H A W 5 (2 ∷ []) tt (plain (λ _. R)) yes, (goes-none-ref 𝓤 H A W 5 (3 ∷ []) tt (plain (λ _. P.the-row)) yes, (goes-none 𝓤 H A W 5 (λ _. u8) yes (λ κs x f. refl), (goes-gave-ref 𝓤 H A W 5 4 tt (plain (λ _. u8)), tt))))))
+  goes = (
+    goes-none-slice 𝓤 H A W 5 (0 ∷ []) tt (plain (λ _. u8)) yes,
+    (
+      goes-none-slice 𝓤 H A W 5 (1 ∷ []) tt (plain (λ _. u8)) yes,
+      (
+        goes-none-slice 𝓤 H A W 5 (2 ∷ []) tt (plain (λ _. R)) yes,
+        (goes-none-ref 𝓤 H A W 5 (3 ∷ []) tt (plain (λ _. P.the-row)) yes, (goes-none 𝓤 H A W 5 (λ _. u8) yes (λ κs x f. refl), (goes-gave-ref 𝓤 H A W 5 4 tt (plain (λ _. u8)), tt))),
+      ),
+    ),
+  )
 
-meets : {M : Type 1} (𝓤 : URA M) (H : Heap 𝓤) (A : Atoms 𝓤) → Given 𝓤 H A → (at-mem : Memory → SProp 𝓤) (run : Routine → Fun 𝓤) (𝓣 : Tables 𝓤 H) → Triple 𝓤 (𝓣 .C #rikzord·load) (Load 𝓤 H A at-mem run) → Triple 𝓤 (𝓣 .C #snapshot·ring-of) (RingOf 𝓤 H A at-mem run) → Triple 𝓤 (𝓣 .C #rikzord·scan) (Scan 𝓤 H A at-mem run) → Triple 𝓤 (𝓣 .C #snapshot·found-in) (FoundIn 𝓤 H A at-mem run)
+meets : {M : Type 1} (𝓤 : URA M) (H : Heap 𝓤) (A : Atoms 𝓤) → Given 𝓤 H A → (at-mem : Memory → SProp 𝓤) (run : Routine → Fun 𝓤) (𝓣 : Tables 𝓤 H)
+    → Triple 𝓤 (𝓣 .C #rikzord·load) (Load 𝓤 H A at-mem run) → Triple 𝓤 (𝓣 .C #snapshot·ring-of) (RingOf 𝓤 H A at-mem run)
+    → Triple 𝓤 (𝓣 .C #rikzord·scan) (Scan 𝓤 H A at-mem run) → Triple 𝓤 (𝓣 .C #snapshot·found-in) (FoundIn 𝓤 H A at-mem run)
     → Meets 𝓤 H A f.signature (WpFn 𝓤 H (𝓣 .C) (𝓣 .Λ) code.function) (f.spec 𝓤 H A at-mem run)
 meets 𝓤 H A W at-mem run 𝓣 k₁ k₂ k₃ k₄ = walk-meets 𝓤 H A f.ended stayed W (goes 𝓤 H A W at-mem run) (f.clauses 𝓤 H A at-mem run)
     (WpFn 𝓤 H (𝓣 .C) (𝓣 .Λ) code.function) (WpFn-mono 𝓤 H (W .laws) 𝓣 code.function) (walks 𝓤 H A W at-mem run (𝓣 .C) (𝓣 .Λ) (fmOf 𝓤 H (W .laws) 𝓣) k₁ k₂ k₃ k₄)

@@ -1,4 +1,5 @@
--- `rikzord::rikzord_rerun` meets its contract: a walk of its MIR, by hand. The table is lent as a `&` to `load` for a lifetime that the walk makes, and comes back; `rerun_table` is called on what was copied out and on all else that is lent; and table and semaphore go to `save` for good, whose answer is returned.
+-- `rikzord::rikzord_rerun` meets its contract: a walk of its MIR, by hand. The table is lent as a `&` to `load` for a lifetime that the walk makes, and comes back;
+-- `rerun_table` is called on what was copied out and on all else that is lent; and table and semaphore go to `save` for good, whose answer is returned.
 -- All that the proof knows of the three functions that are called is that each meets its contract. No branch, no element: those are theirs. The semaphore's borrow is opened, it is copied out for the call, and the borrow is closed at it: nothing is stored here.
 -- Assumes nothing.
 use mathlib.Core.Path.{_≡_, refl, ap}
@@ -17,7 +18,7 @@ use prog.Wp.{Heap, Calls, Loops, WpFn, Tables}
 use ghost.Atoms.{Atoms, sem}
 use contract.Monad.{Fun, fact}
 use contract.Running.{givenOf, tables, tablesOf}
-use types.Kit.{Given, ‵, raw, _⊛_, some, later, ⋆, _$_, _∵_, !, qed, by, move, keep, drop, use1, use2, split, join, pick, rewrite, fsplit, fsplit3, fjoin, fjoin3, feqI, feqL, suffices, frame, await, done}
+use types.Kit.{Given, Item, ‵, raw, _⊛_, some, later, ⋆, _$_, _∵_, !, qed, by, move, keep, drop, use1, use2, split, join, pick, rewrite, fsplit, fsplit3, fjoin, fjoin3, feqI, feqL, suffices, frame, await, done}
 use types.Part.{agg, whole, sub, look-in}
 use types.Run.{look, look-raw, init, forget, stop, hop, fld, from, load, addr, of-opd, and-then, no-more, assigns, land, returns, enter, alloc1, alloc0, params1, pass1, pass0, free1, free0}
 use types.Tokens.{lft-new, lft-end}
@@ -73,14 +74,28 @@ use Rattle.rikzord.proofs.rikzord_rerun.Statement as stated
 use Rattle.rikzord.proofs.rikzord_rerun.Code as code
 
 abbrev stayed : Stays (f.ended .signature .params) (f.ended .kept)
-stayed = (stay-none-slice (0 ∷ []) tt (plain (λ _. u8)) yes, (stay-none-slice (1 ∷ []) tt (plain (λ _. u8)) yes, (stay-none-slice (2 ∷ []) tt (plain (λ _. u8)) yes, (gave-slice (3 ∷ []) tt (plain (λ _. R)), (gave-ref (4 ∷ []) tt (plain (λ _. P.the-row)), (gave-slice (5 ∷ []) tt (plain (λ _. u8)), (gave-slice (6 ∷ []) tt (plain (λ _. u8)), tt)))))))
+stayed = (
+  stay-none-slice (0 ∷ []) tt (plain (λ _. u8)) yes,
+  (
+    stay-none-slice (1 ∷ []) tt (plain (λ _. u8)) yes,
+    (
+      stay-none-slice (2 ∷ []) tt (plain (λ _. u8)) yes,
+      (gave-slice (3 ∷ []) tt (plain (λ _. R)), (gave-ref (4 ∷ []) tt (plain (λ _. P.the-row)), (gave-slice (5 ∷ []) tt (plain (λ _. u8)), (gave-slice (6 ∷ []) tt (plain (λ _. u8)), tt)))),
+    ),
+  ),
+)
 
 module _ {M : Type 1} (𝓤 : URA M) (H : Heap 𝓤) (A : Atoms 𝓤) (at-mem : Memory → SProp 𝓤) (run : Routine → Fun 𝓤) where
   -- the contract of the call by value
   abbrev Callee : Contract 𝓤
   Callee = tripleOf 𝓤 H A rerun-table.signature (rerun-table.spec 𝓤 H A at-mem run)
 
-module _ {M : Type 1} (𝓤 : URA M) (H : Heap 𝓤) (A : Atoms 𝓤) (W : Given 𝓤 H A) (at-mem : Memory → SProp 𝓤) (run : Routine → Fun 𝓤) (κ₀ κ₁ κ₂ κ₃ κ₄ κ₅ κ₆ : Lft) (q₀ q₁ q₂ q₃ q₄ q₅ q₆ : Share) (b-file o-file : ℕ) (γ-file : GName) (file : List ℕ) (b-trace o-trace : ℕ) (γ-trace : GName) (trace : List ℕ) (b-list o-list : ℕ) (γ-list : GName) (list : List ℕ) (b-table o-table : ℕ) (γ-table : GName) (table : List CoreRecord) (b-semaphore o-semaphore : ℕ) (γ-semaphore : GName) (semaphore : Semaphore) (b-buffer o-buffer : ℕ) (γ-buffer : GName) (buffer : List ℕ) (b-shared o-shared : ℕ) (γ-shared : GName) (shared : List ℕ) (room-file : Room u8 (length file)) (room-trace : Room u8 (length trace)) (room-list : Room u8 (length list)) (room-table : Room R (length table)) (room-buffer : Room u8 (length buffer)) (room-shared : Room u8 (length shared)) where
+module _ {M : Type 1} (𝓤 : URA M) (H : Heap 𝓤) (A : Atoms 𝓤) (W : Given 𝓤 H A) (at-mem : Memory → SProp 𝓤) (run : Routine → Fun 𝓤) (κ₀ κ₁ κ₂ κ₃ κ₄ κ₅ κ₆ : Lft)
+    (q₀ q₁ q₂ q₃ q₄ q₅ q₆ : Share) (b-file o-file : ℕ) (γ-file : GName) (file : List ℕ) (b-trace o-trace : ℕ) (γ-trace : GName) (trace : List ℕ) (b-list o-list : ℕ)
+    (γ-list : GName) (list : List ℕ) (b-table o-table : ℕ) (γ-table : GName) (table : List CoreRecord) (b-semaphore o-semaphore : ℕ) (γ-semaphore : GName)
+    (semaphore : Semaphore) (b-buffer o-buffer : ℕ) (γ-buffer : GName) (buffer : List ℕ) (b-shared o-shared : ℕ) (γ-shared : GName) (shared : List ℕ)
+    (room-file : Room u8 (length file)) (room-trace : Room u8 (length trace)) (room-list : Room u8 (length list)) (room-table : Room R (length table))
+    (room-buffer : Room u8 (length buffer)) (room-shared : Room u8 (length shared)) where
   -- what is lent, and its machine values
   abbrev file-ref : RefT (List ℕ)
   file-ref = record { ptr = (b-file, o-file); name = γ-file; now = file }
@@ -152,11 +167,22 @@ module _ {M : Type 1} (𝓤 : URA M) (H : Heap 𝓤) (A : Atoms 𝓤) (W : Given
   abbrev Post : Val → SProp 𝓤
   Post = walkOf 𝓤 H A f.ended stayed (f.clauses 𝓤 H A at-mem run) .post (((κ₀, (κ₁, (κ₂, (κ₃, (κ₄, (κ₅, (κ₆, tt))))))), (q₀, (q₁, (q₂, (q₃, (q₄, (q₅, (q₆, tt))))))), tt, a, at), tt)
 
-  exits : (n : ℕ) (u : Val) (table′ : List CoreRecord) (semaphore′ : Semaphore) (buffer′ : List ℕ) (shared′ : List ℕ) → lent n table′ semaphore′ buffer′ shared′ [] ≡ rerunLent file trace list table semaphore buffer shared → length table′ ≡ length table → length buffer′ ≡ length buffer → length shared′ ≡ length shared
-      → ent 𝓤 (⋆ 𝓤 H A ((‵ (flft κ₀ q₀) ⊛ ‵ (flft κ₁ q₁) ⊛ ‵ (flft κ₂ q₂) ⊛ ‵ (flft κ₃ q₃) ⊛ ‵ (flft κ₄ q₄) ⊛ ‵ (flft κ₅ q₅) ⊛ ‵ (flft κ₆ q₆) ⊛ ‵ ftrue) ∷ ‵ file-own ∷ ‵ trace-own ∷ ‵ list-own ∷ ‵ (finally R γ-table table′) ∷ ‵ (fres γ-semaphore (P.the-row .coded .code semaphore′)) ∷ ‵ (finally u8 γ-buffer buffer′) ∷ ‵ (finally u8 γ-shared shared′) ∷ ‵ (u8 .own n (u ∷ [])) ∷ [])) (Post u)
+  -- the tokens of the lifetimes, and of those that are passed on
+  abbrev tokens : Item 𝓤
+  tokens = ‵ (flft κ₀ q₀) ⊛ ‵ (flft κ₁ q₁) ⊛ ‵ (flft κ₂ q₂) ⊛ ‵ (flft κ₃ q₃) ⊛ ‵ (flft κ₄ q₄) ⊛ ‵ (flft κ₅ q₅) ⊛ ‵ (flft κ₆ q₆) ⊛ ‵ ftrue
+
+  abbrev passed-tokens : Item 𝓤
+  passed-tokens = ‵ (flft κ₀ q₀) ⊛ ‵ (flft κ₁ q₁) ⊛ ‵ (flft κ₂ q₂) ⊛ ‵ (flft κ₅ q₅) ⊛ ‵ (flft κ₆ q₆) ⊛ ‵ ftrue
+
+  exits : (n : ℕ) (u : Val) (table′ : List CoreRecord) (semaphore′ : Semaphore) (buffer′ : List ℕ) (shared′ : List ℕ)
+      → lent n table′ semaphore′ buffer′ shared′ [] ≡ rerunLent file trace list table semaphore buffer shared → length table′ ≡ length table
+      → length buffer′ ≡ length buffer → length shared′ ≡ length shared
+      → ent 𝓤 (⋆ 𝓤 H A (tokens ∷ ‵ file-own ∷ ‵ trace-own ∷ ‵ list-own ∷ ‵ (finally R γ-table table′) ∷ ‵ (fres γ-semaphore (P.the-row .coded .code semaphore′)) ∷ ‵ (finally u8 γ-buffer buffer′) ∷ ‵ (finally u8 γ-shared shared′) ∷ ‵ (u8 .own n (u ∷ [])) ∷ [])) (Post u)
   exits n u table′ semaphore′ buffer′ shared′ e l-table l-buffer l-shared =
-      qed W ((‵ (flft κ₀ q₀) ⊛ ‵ (flft κ₁ q₁) ⊛ ‵ (flft κ₂ q₂) ⊛ ‵ (flft κ₃ q₃) ⊛ ‵ (flft κ₄ q₄) ⊛ ‵ (flft κ₅ q₅) ⊛ ‵ (flft κ₆ q₆) ⊛ ‵ ftrue) ∷ ‵ file-own ∷ ‵ trace-own ∷ ‵ list-own ∷ ‵ (finally R γ-table table′) ∷ ‵ (fres γ-semaphore (P.the-row .coded .code semaphore′)) ∷ ‵ (finally u8 γ-buffer buffer′) ∷ ‵ (finally u8 γ-shared shared′) ∷ ‵ (u8 .own n (u ∷ [])) ∷ []) ∵
-      suffices ! _ (ends-at 𝓤 H A f.ended stayed (f.clauses 𝓤 H A at-mem run) W (((κ₀, (κ₁, (κ₂, (κ₃, (κ₄, (κ₅, (κ₆, tt))))))), (q₀, (q₁, (q₂, (q₃, (q₄, (q₅, (q₆, tt))))))), tt, a, at), tt) u n (tt, (tt, (tt, (table′, (semaphore′, (buffer′, (shared′, tt))))))) (tt, (tt, (tt, (l-table, (tt, (l-buffer, (l-shared, tt)))))))) $ says ! e $
+      qed W (tokens ∷ ‵ file-own ∷ ‵ trace-own ∷ ‵ list-own ∷ ‵ (finally R γ-table table′) ∷ ‵ (fres γ-semaphore (P.the-row .coded .code semaphore′)) ∷ ‵ (finally u8 γ-buffer buffer′) ∷ ‵ (finally u8 γ-shared shared′) ∷ ‵ (u8 .own n (u ∷ [])) ∷ []) ∵
+      suffices ! _ (ends-at 𝓤 H A f.ended stayed (f.clauses 𝓤 H A at-mem run) W
+      (((κ₀, (κ₁, (κ₂, (κ₃, (κ₄, (κ₅, (κ₆, tt))))))), (q₀, (q₁, (q₂, (q₃, (q₄, (q₅, (q₆, tt))))))), tt, a, at), tt) u n
+      (tt, (tt, (tt, (table′, (semaphore′, (buffer′, (shared′, tt))))))) (tt, (tt, (tt, (l-table, (tt, (l-buffer, (l-shared, tt)))))))) $ says ! e $
       frame ! $ nothing ! $ move ! (7 ∷ 0 ∷ []) $ fjoin ! $ move ! (6 ∷ 0 ∷ []) $ fjoin ! $ move ! (5 ∷ 0 ∷ []) $ fjoin ! $ move ! (4 ∷ 0 ∷ []) $ fjoin ! $ move ! (3 ∷ 0 ∷ []) $ fjoin ! $ move ! (2 ∷ 0 ∷ []) $ fjoin ! $ move ! (1 ∷ 0 ∷ []) $ fjoin ! $ frame ! $ done !
 
   -- what each callee's triple binds outside, and that the caller has what it asks
@@ -177,10 +203,16 @@ module _ {M : Type 1} (𝓤 : URA M) (H : Heap 𝓤) (A : Atoms 𝓤) (W : Given
   to-callee t v = (((κ₀, (κ₁, (κ₂, (κ₅, (κ₆, tt))))), (q₀, (q₁, (q₂, (q₅, (q₆, tt))))), tt, callee-args t, (file-val ∷ [], (trace-val ∷ [], (list-val ∷ [], (v ∷ [], (mach-semaphore semaphore ∷ [], (buffer-val ∷ [], (shared-val ∷ [], tt)))))))), tt)
 
   abbrev Given-over : Table → Val → Fml
-  Given-over t v = owns (ShrSlice (named 0) κ₀ u8 ∷ ShrSlice (named 1) κ₁ u8 ∷ ShrSlice (named 2) κ₂ u8 ∷ F.the-row ∷ P.the-row ∷ MutSlice (named 3) κ₅ u8 ∷ MutSlice (named 4) κ₆ u8 ∷ []) (callee-args t) (file-val ∷ [], (trace-val ∷ [], (list-val ∷ [], (v ∷ [], (mach-semaphore semaphore ∷ [], (buffer-val ∷ [], (shared-val ∷ [], tt)))))))
+  Given-over t v =
+      owns (ShrSlice (named 0) κ₀ u8 ∷ ShrSlice (named 1) κ₁ u8 ∷ ShrSlice (named 2) κ₂ u8 ∷ F.the-row ∷ P.the-row ∷ MutSlice (named 3) κ₅ u8 ∷ MutSlice (named 4) κ₆ u8
+      ∷ []) (callee-args t) (file-val ∷ [], (trace-val ∷ [], (list-val ∷ [], (v ∷ [], (mach-semaphore semaphore ∷ [], (buffer-val ∷ [], (shared-val ∷ [], tt)))))))
 
   goes-callee : (t : Table) (v : Val) → ent 𝓤 (sep 𝓤 (sep 𝓤 (A .lft κ₀ q₀) (sep 𝓤 (A .lft κ₁ q₁) (sep 𝓤 (A .lft κ₂ q₂) (sep 𝓤 (A .lft κ₅ q₅) (sep 𝓤 (A .lft κ₆ q₆) (sem 𝓤 H A ftrue)))))) (sem 𝓤 H A (Given-over t v))) (Callee 𝓤 H A at-mem run .pre (to-callee t v))
-  goes-callee t v = qed W ((‵ (flft κ₀ q₀) ⊛ ‵ (flft κ₁ q₁) ⊛ ‵ (flft κ₂ q₂) ⊛ ‵ (flft κ₅ q₅) ⊛ ‵ (flft κ₆ q₆) ⊛ ‵ ftrue) ∷ ‵ (Given-over t v) ∷ []) ∵ join ! $ frame ! $ done !
+  goes-callee t v = qed W (passed-tokens ∷ ‵ (Given-over t v) ∷ []) ∵ join ! $ frame ! $ done !
+
+  -- the last values of what was lent to it
+  abbrev Lasts : Type 0
+  Lasts = Unit {0} × (Unit {0} × (Unit {0} × (Unit {0} × (Unit {0} × (List ℕ × (List ℕ × Unit {0}))))))
 
   -- what it says of its answer y and of the last values
   abbrev Says : Table → After → List ℕ → List ℕ → Type 0
@@ -189,16 +221,29 @@ module _ {M : Type 1} (𝓤 : URA M) (H : Heap 𝓤) (A : Atoms 𝓤) (W : Given
   module _ (C : Calls 𝓤 H) (Λ : Loops 𝓤 H) (fm : FmC 𝓤 H (W .laws) C) (known-load : Triple 𝓤 (C #rikzord·load) (Load 𝓤 H A at-mem run)) (known-callee : Triple 𝓤 (C #snapshot·rerun-table) (Callee 𝓤 H A at-mem run)) (known-save : Triple 𝓤 (C #rikzord·save) (Save 𝓤 H A at-mem run)) where
     walk : ent 𝓤 (onEntry 𝓤 H A f.signature (κ₀, (κ₁, (κ₂, (κ₃, (κ₄, (κ₅, (κ₆, tt))))))) (q₀, (q₁, (q₂, (q₃, (q₄, (q₅, (q₆, tt))))))) a at) (WpFn 𝓤 H C Λ code.function (file-val ∷ trace-val ∷ list-val ∷ table-val ∷ semaphore-val ∷ buffer-val ∷ shared-val ∷ []) Post)
     walk =
-        qed W ((‵ (flft κ₀ q₀) ⊛ ‵ (flft κ₁ q₁) ⊛ ‵ (flft κ₂ q₂) ⊛ ‵ (flft κ₃ q₃) ⊛ ‵ (flft κ₄ q₄) ⊛ ‵ (flft κ₅ q₅) ⊛ ‵ (flft κ₆ q₆) ⊛ ‵ ftrue) ∷ ‵ (owns (ShrSlice (named 0) κ₀ u8 ∷ ShrSlice (named 1) κ₁ u8 ∷ ShrSlice (named 2) κ₂ u8 ∷ MutSlice (named 3) κ₃ R ∷ MutRef (named 4) κ₄ P.the-row ∷ MutSlice (named 5) κ₅ u8 ∷ MutSlice (named 6) κ₆ u8 ∷ []) a at) ∷ []) ∵ enter ! C Λ code.function (file-val ∷ trace-val ∷ list-val ∷ table-val ∷ semaphore-val ∷ buffer-val ∷ shared-val ∷ []) _ $
-        alloc1 ! (λ l₀. alloc1 ! (λ l₁. alloc1 ! (λ l₂. alloc1 ! (λ l₃. alloc1 ! (λ l₄. alloc1 ! (λ l₅. alloc1 ! (λ l₆. alloc1 ! (λ l₇. alloc1 ! (λ l₈. alloc1 ! (λ l₉. alloc1 ! (λ l₁₀. alloc1 ! (λ l₁₁. alloc1 ! (λ l₁₂. alloc1 ! (λ l₁₃. alloc1 ! (λ l₁₄. alloc1 ! (λ l₁₅. alloc1 ! (λ l₁₆. alloc1 ! (λ l₁₇. alloc1 ! (λ l₁₈. alloc1 ! (λ l₁₉. alloc0 ! $ params1 ! $
-        pass1 ! (init ! 36 refl (tt, (tt, (record { fits = room-file .0 }, tt)))) $ pass1 ! (init ! 34 refl (tt, (tt, (record { fits = room-trace .0 }, tt)))) $ pass1 ! (init ! 32 refl (tt, (tt, (record { fits = room-list .0 }, tt)))) $ pass1 ! (init ! 30 refl (tt, (tt, (record { fits = room-table .0 }, tt)))) $ pass1 ! (init ! 28 refl (tt, tt)) $ pass1 ! (init ! 26 refl (tt, (tt, (record { fits = room-buffer .0 }, tt)))) $ pass1 ! (init ! 24 refl (tt, (tt, (record { fits = room-shared .0 }, tt)))) $ pass0 ! $
-        move ! (41 ∷ []) $ fsplit ! $ move ! (1 ∷ []) $ fsplit ! $ move ! (1 ∷ []) $ fsplit ! $ move ! (1 ∷ []) $ fsplit ! $ move ! (1 ∷ []) $ fsplit ! $ move ! (1 ∷ []) $ fsplit ! $ move ! (1 ∷ []) $ fsplit ! $ move ! (1 ∷ []) $ drop ! $ move ! (47 ∷ []) $ split ! $ move ! (1 ∷ []) $ split ! $ move ! (1 ∷ []) $ split ! $ move ! (1 ∷ []) $ split ! $ move ! (1 ∷ []) $ split ! $ move ! (1 ∷ []) $ split ! $ move ! (1 ∷ []) $ split ! $ move ! (1 ∷ []) $ drop ! $ move ! (10 ∷ 3 ∷ []) $
+        qed W (tokens ∷ ‵ (owns (ShrSlice (named 0) κ₀ u8 ∷ ShrSlice (named 1) κ₁ u8 ∷ ShrSlice (named 2) κ₂ u8 ∷ MutSlice (named 3) κ₃ R ∷ MutRef (named 4) κ₄ P.the-row
+        ∷ MutSlice (named 5) κ₅ u8 ∷ MutSlice (named 6) κ₆ u8 ∷ []) a at)
+        ∷ []) ∵ enter ! C Λ code.function (file-val ∷ trace-val ∷ list-val ∷ table-val ∷ semaphore-val ∷ buffer-val ∷ shared-val ∷ []) _ $
+        alloc1 ! (λ l₀. alloc1 ! (λ l₁. alloc1 ! (λ l₂. alloc1 ! (λ l₃. alloc1 ! (λ l₄. alloc1 ! (λ l₅. alloc1 ! (λ l₆. alloc1 ! (λ l₇. alloc1 ! (λ l₈. alloc1 ! (λ l₉.
+        alloc1 ! (λ l₁₀. alloc1 ! (λ l₁₁. alloc1 ! (λ l₁₂. alloc1 ! (λ l₁₃. alloc1 ! (λ l₁₄. alloc1 ! (λ l₁₅. alloc1 ! (λ l₁₆. alloc1 ! (λ l₁₇. alloc1 ! (λ l₁₈.
+        alloc1 ! (λ l₁₉. alloc0 ! $ params1 ! $
+        pass1 ! (init ! 36 refl (tt, (tt, (record { fits = room-file .0 }, tt)))) $ pass1 ! (init ! 34 refl (tt, (tt, (record { fits = room-trace .0 }, tt)))) $
+        pass1 ! (init ! 32 refl (tt, (tt, (record { fits = room-list .0 }, tt)))) $ pass1 ! (init ! 30 refl (tt, (tt, (record { fits = room-table .0 }, tt)))) $
+        pass1 ! (init ! 28 refl (tt, tt)) $ pass1 ! (init ! 26 refl (tt, (tt, (record { fits = room-buffer .0 }, tt)))) $
+        pass1 ! (init ! 24 refl (tt, (tt, (record { fits = room-shared .0 }, tt)))) $ pass0 ! $
+        move ! (41 ∷ []) $ fsplit ! $ move ! (1 ∷ []) $ fsplit ! $ move ! (1 ∷ []) $ fsplit ! $ move ! (1 ∷ []) $ fsplit ! $ move ! (1 ∷ []) $ fsplit ! $
+        move ! (1 ∷ []) $ fsplit ! $ move ! (1 ∷ []) $ fsplit ! $ move ! (1 ∷ []) $ drop ! $ move ! (47 ∷ []) $ split ! $ move ! (1 ∷ []) $ split ! $ move ! (1 ∷ []) $
+        split ! $ move ! (1 ∷ []) $ split ! $ move ! (1 ∷ []) $ split ! $ move ! (1 ∷ []) $ split ! $ move ! (1 ∷ []) $ split ! $ move ! (1 ∷ []) $ drop ! $
+        move ! (10 ∷ 3 ∷ []) $
         -- [what table owns; table's token; shared's token; buffer's token; semaphore's token; list's token; trace's token; file's token; what shared owns; what buffer owns; what semaphore owns; what list owns; what trace owns; what file owns; _19; …; _18; …; down to _0]
 
         assigns ! (addr ! (from ! (fld ! refl (hop ! (look-in ! 44 (sub ! 0 refl (whole !))) (stop !))))) (from ! (stop !)) (init ! 32 refl (tt, tt)) $
         assigns ! (agg ! (and-then ! (load ! (from ! (stop !)) (look ! 32 refl)) (and-then ! (load ! (from ! (fld ! refl (stop !))) (look-in ! 44 (sub ! 1 refl (whole !)))) (no-more !)))) (from ! (stop !)) (init ! 30 refl (tt, (tt, (record { fits = room-table .0 }, tt)))) $
         -- `load`: the table is lent as a `&` for a lifetime ν
-        lft-new ! tt (λ ν. move ! (1 ∷ 2 ∷ []) $ use2 W (later (some (λ (δ : GName). ‵ (ShrSlice (named 0) (ν ∷ []) R .own (lent-ref δ) (table-val ∷ [])) ⊛ ‵ (LentShared R κ₃ (ν ∷ []) q₃ γ-table b-table o-table table)))) (lends-shared R κ₃ (ν ∷ []) q₃ γ-table b-table o-table 𝓤 H A W (named 3) (named 0) table) $ await ! tt $ pick ! (λ δ. split ! $
+        lft-new ! tt (λ ν. move ! (1 ∷ 2 ∷ []) $
+        use2 W (later (some (λ (δ : GName). ‵ (ShrSlice (named 0) (ν ∷ []) R .own (lent-ref δ) (table-val ∷ []))
+        ⊛ ‵ (LentShared R κ₃ (ν ∷ []) q₃ γ-table b-table o-table table)))) (lends-shared R κ₃ (ν ∷ []) q₃ γ-table b-table o-table 𝓤 H A W (named 3) (named 0) table) $
+        await ! tt $ pick ! (λ δ. split ! $
         move ! (2 ∷ 0 ∷ []) $ use2 W (raw (Load 𝓤 H A at-mem run .pre (to-load ν δ))) (goes-load ν δ) $
         calls-at ! fm (Load 𝓤 H A at-mem run) known-load (to-load ν δ) (and-then ! (load ! (from ! (stop !)) (look ! 30 refl)) (no-more !)) (λ v.
         use1 W (later (some (λ (r : Table). ((‵ (flft (ν ∷ []) fullShare) ⊛ ‵ ftrue) ⊛ ‵ (F.the-row .own r (v ∷ []))) ⊛ raw (ensured 𝓤 H A load′.ended (load′.clauses 𝓤 H A at-mem run) (ν ∷ [], tt) (lent-ref δ, tt) tt r)))) (id⊢ 𝓤 _) $ await ! tt $ pick ! (λ r.
@@ -220,14 +265,24 @@ module _ {M : Type 1} (𝓤 : URA M) (H : Heap 𝓤) (A : Atoms 𝓤) (W : Given
         move ! (13 ∷ []) $ use1 W (‵ file-own ⊛ ‵ file-own) (shr-slice-copy 𝓤 H A W (named 0) κ₀ u8 .twice file-ref (file-val ∷ [])) $ split ! $
         move ! (14 ∷ []) $ use1 W (‵ trace-own ⊛ ‵ trace-own) (shr-slice-copy 𝓤 H A W (named 1) κ₁ u8 .twice trace-ref (trace-val ∷ [])) $ split ! $
         move ! (15 ∷ []) $ use1 W (‵ list-own ⊛ ‵ list-own) (shr-slice-copy 𝓤 H A W (named 2) κ₂ u8 .twice list-ref (list-val ∷ [])) $ split ! $
-        nothing ! $ move ! (16 ∷ 0 ∷ []) $ fjoin ! $ move ! (16 ∷ 0 ∷ []) $ fjoin ! $ owned ! P.the-row (Is P.the-row) (LL.makes P.the-type P′.the-plain 𝓤 H A) semaphore _ is₀ $ fjoin ! $ owned ! F.the-row (Is F.the-row) (LL.makes F.the-type F′.the-plain 𝓤 H A) r _ is₁ $ fjoin ! $ move ! (1 ∷ 0 ∷ []) $ fjoin ! $ move ! (2 ∷ 0 ∷ []) $ fjoin ! $ move ! (3 ∷ 0 ∷ []) $ fjoin ! $
+        nothing ! $ move ! (16 ∷ 0 ∷ []) $ fjoin ! $ move ! (16 ∷ 0 ∷ []) $ fjoin ! $
+        owned ! P.the-row (Is P.the-row) (LL.makes P.the-type P′.the-plain 𝓤 H A) semaphore _ is₀ $ fjoin ! $
+        owned ! F.the-row (Is F.the-row) (LL.makes F.the-type F′.the-plain 𝓤 H A) r _ is₁ $ fjoin ! $ move ! (1 ∷ 0 ∷ []) $ fjoin ! $ move ! (2 ∷ 0 ∷ []) $ fjoin ! $
+        move ! (3 ∷ 0 ∷ []) $ fjoin ! $
         nothing ! $ move ! (9 ∷ 0 ∷ []) $ join ! $ move ! (9 ∷ 0 ∷ []) $ join ! $ move ! (9 ∷ 0 ∷ []) $ join ! $ move ! (9 ∷ 0 ∷ []) $ join ! $ move ! (9 ∷ 0 ∷ []) $ join ! $ use2 W (raw (Callee 𝓤 H A at-mem run .pre (to-callee r v))) (goes-callee r v) $
         -- [what `rerun_table` asks; what list owns; what trace owns; what file owns; what semaphore owns; its token; what table owns; its token; _19; …; _18; …; down to _0]
         calls-at ! fm (Callee 𝓤 H A at-mem run) known-callee (to-callee r v)
-        (and-then ! (load ! (from ! (stop !)) (look ! 44 refl)) (and-then ! (load ! (from ! (stop !)) (look ! 42 refl)) (and-then ! (load ! (from ! (stop !)) (look ! 40 refl)) (and-then ! (load ! (from ! (stop !)) (look ! 30 refl)) (and-then ! (load ! (from ! (stop !)) (look ! 22 refl)) (and-then ! (load ! (from ! (stop !)) (look ! 18 refl)) (and-then ! (load ! (from ! (stop !)) (look ! 14 refl)) (no-more !)))))))) (λ w.
-        use1 W (later (some (λ (y : After). ((‵ (flft κ₀ q₀) ⊛ ‵ (flft κ₁ q₁) ⊛ ‵ (flft κ₂ q₂) ⊛ ‵ (flft κ₅ q₅) ⊛ ‵ (flft κ₆ q₆) ⊛ ‵ ftrue) ⊛ ‵ (N.the-row .own y (w ∷ []))) ⊛ raw (ensured 𝓤 H A rerun-table.ended (rerun-table.clauses 𝓤 H A at-mem run) (κ₀, (κ₁, (κ₂, (κ₅, (κ₆, tt))))) (callee-args r) tt y)))) (id⊢ 𝓤 _) $ await ! tt $ pick ! (λ y.
-        split ! $ move ! (1 ∷ []) $ use1 W (some (λ (zs : Unit {0} × (Unit {0} × (Unit {0} × (Unit {0} × (Unit {0} × (List ℕ × (List ℕ × Unit {0}))))))). ‵ (lasts rerun-table.ended (κ₀, (κ₁, (κ₂, (κ₅, (κ₆, tt))))) (callee-args r) zs) ⊛ raw (fact 𝓤 (Says r y (zs .1 .1 .1 .1 .1 .0) (zs .1 .1 .1 .1 .1 .1 .0))))) (id⊢ 𝓤 _) $ pick ! (λ zs.
-        split ! $ move ! (1 ∷ []) $ heard ! (Says r y (zs .1 .1 .1 .1 .1 .0) (zs .1 .1 .1 .1 .1 .1 .0)) (λ e₂. fsplit ! $ drop ! $ fsplit ! $ drop ! $ fsplit ! $ drop ! $ fsplit ! $ drop ! $ fsplit ! $ drop ! $ fsplit ! $ fsplit ! $ move ! (1 ∷ []) $ feqL ! (λ l-buffer. move ! (1 ∷ []) $ fsplit ! $ fsplit ! $ move ! (1 ∷ []) $ feqL ! (λ l-shared. move ! (1 ∷ []) $ drop ! $
+        (and-then ! (load ! (from ! (stop !)) (look ! 44 refl))
+        (and-then ! (load ! (from ! (stop !)) (look ! 42 refl))
+        (and-then ! (load ! (from ! (stop !)) (look ! 40 refl))
+        (and-then ! (load ! (from ! (stop !)) (look ! 30 refl))
+        (and-then ! (load ! (from ! (stop !)) (look ! 22 refl))
+        (and-then ! (load ! (from ! (stop !)) (look ! 18 refl)) (and-then ! (load ! (from ! (stop !)) (look ! 14 refl)) (no-more !)))))))) (λ w.
+        use1 W (later (some (λ (y : After). (passed-tokens ⊛ ‵ (N.the-row .own y (w ∷ []))) ⊛ raw (ensured 𝓤 H A rerun-table.ended (rerun-table.clauses 𝓤 H A at-mem run) (κ₀, (κ₁, (κ₂, (κ₅, (κ₆, tt))))) (callee-args r) tt y)))) (id⊢ 𝓤 _) $ await ! tt $ pick ! (λ y.
+        split ! $ move ! (1 ∷ []) $ use1 W (some (λ (zs : Lasts). ‵ (lasts rerun-table.ended (κ₀, (κ₁, (κ₂, (κ₅, (κ₆, tt))))) (callee-args r) zs) ⊛ raw (fact 𝓤 (Says r y (zs .1 .1 .1 .1 .1 .0) (zs .1 .1 .1 .1 .1 .1 .0))))) (id⊢ 𝓤 _) $ pick ! (λ zs.
+        split ! $ move ! (1 ∷ []) $ heard ! (Says r y (zs .1 .1 .1 .1 .1 .0) (zs .1 .1 .1 .1 .1 .1 .0)) (λ e₂. fsplit ! $ drop ! $ fsplit ! $ drop ! $ fsplit ! $
+        drop ! $ fsplit ! $ drop ! $ fsplit ! $ drop ! $ fsplit ! $ fsplit ! $ move ! (1 ∷ []) $ feqL ! (λ l-buffer. move ! (1 ∷ []) $ fsplit ! $ fsplit ! $
+        move ! (1 ∷ []) $ feqL ! (λ l-shared. move ! (1 ∷ []) $ drop ! $
         move ! (2 ∷ []) $ split ! $ move ! (1 ∷ []) $ peeks ! N.the-row (Is N.the-row) (shows 𝓤 H A N.the-row) y (w ∷ []) (λ is₂.
         land ! (from ! (stop !)) (init ! 31 refl (LL.lawful N.the-type N′.the-laws 𝓤 H A W .typed y _ is₂ .0)) $ drop ! $
         rewrite ! 30 (λ (u : Val). ‵ (fat fullShare N′.mir l₉ 0 u)) (ap only (LL.tells N.the-type N′.the-laws y _ is₂)) refl $
@@ -240,22 +295,58 @@ module _ {M : Type 1} (𝓤 : URA M) (H : Heap 𝓤) (A : Atoms 𝓤) (W : Given
         (and-then ! (load ! (from ! (stop !)) (look ! 9 refl)) (and-then ! (load ! (from ! (stop !)) (look ! 7 refl)) (and-then ! (load ! (from ! (stop !)) (look ! 27 refl)) (no-more !)))) (λ n u table′ semaphore′ e₃ l-table n-is.
         land ! (from ! (stop !)) (init ! 49 refl (uint-lawful 𝓤 H A W w8 .typed n _ n-is .0)) $
         -- [the last table; the last semaphore; table's token; semaphore's token; what the answer owns; the tokens of what was passed on; the last shared; the last buffer; what list owns; what trace owns; what file owns; _19; …; _18; …; down to _0]
-        returns ! (look ! 49 refl) $ forget ! 11 refl $ forget ! 13 refl $ forget ! 15 refl $ forget ! 17 refl $ forget ! 19 refl $ forget ! 21 refl $ forget ! 23 refl $ forget ! 25 refl $ forget ! 27 refl $ forget ! 29 refl $ forget ! 31 refl $ forget ! 33 refl $ forget ! 35 refl $ forget ! 37 refl $ forget ! 39 refl $ forget ! 41 refl $ forget ! 43 refl $ forget ! 45 refl $ forget ! 47 refl $ forget ! 49 refl $
-        move ! (49 ∷ 50 ∷ []) $ free1 ! $ move ! (47 ∷ 48 ∷ []) $ free1 ! $ move ! (45 ∷ 46 ∷ []) $ free1 ! $ move ! (43 ∷ 44 ∷ []) $ free1 ! $ move ! (41 ∷ 42 ∷ []) $ free1 ! $ move ! (39 ∷ 40 ∷ []) $ free1 ! $ move ! (37 ∷ 38 ∷ []) $ free1 ! $ move ! (35 ∷ 36 ∷ []) $ free1 ! $ move ! (33 ∷ 34 ∷ []) $ free1 ! $ move ! (31 ∷ 32 ∷ []) $ free1 ! $ move ! (29 ∷ 30 ∷ []) $ free1 ! $ move ! (27 ∷ 28 ∷ []) $ free1 ! $ move ! (25 ∷ 26 ∷ []) $ free1 ! $ move ! (23 ∷ 24 ∷ []) $ free1 ! $ move ! (21 ∷ 22 ∷ []) $ free1 ! $ move ! (19 ∷ 20 ∷ []) $ free1 ! $ move ! (17 ∷ 18 ∷ []) $ free1 ! $ move ! (15 ∷ 16 ∷ []) $ free1 ! $ move ! (13 ∷ 14 ∷ []) $ free1 ! $ move ! (11 ∷ 12 ∷ []) $ free1 ! $ free0 ! $
+        returns ! (look ! 49 refl) $ forget ! 11 refl $ forget ! 13 refl $ forget ! 15 refl $ forget ! 17 refl $ forget ! 19 refl $ forget ! 21 refl $ forget ! 23 refl $
+        forget ! 25 refl $ forget ! 27 refl $ forget ! 29 refl $ forget ! 31 refl $ forget ! 33 refl $ forget ! 35 refl $ forget ! 37 refl $ forget ! 39 refl $
+        forget ! 41 refl $ forget ! 43 refl $ forget ! 45 refl $ forget ! 47 refl $ forget ! 49 refl $
+        move ! (49 ∷ 50 ∷ []) $ free1 ! $ move ! (47 ∷ 48 ∷ []) $ free1 ! $ move ! (45 ∷ 46 ∷ []) $ free1 ! $ move ! (43 ∷ 44 ∷ []) $ free1 ! $ move ! (41 ∷ 42 ∷ []) $
+        free1 ! $ move ! (39 ∷ 40 ∷ []) $ free1 ! $ move ! (37 ∷ 38 ∷ []) $ free1 ! $ move ! (35 ∷ 36 ∷ []) $ free1 ! $ move ! (33 ∷ 34 ∷ []) $ free1 ! $
+        move ! (31 ∷ 32 ∷ []) $ free1 ! $ move ! (29 ∷ 30 ∷ []) $ free1 ! $ move ! (27 ∷ 28 ∷ []) $ free1 ! $ move ! (25 ∷ 26 ∷ []) $ free1 ! $ move ! (23 ∷ 24 ∷ []) $
+        free1 ! $ move ! (21 ∷ 22 ∷ []) $ free1 ! $ move ! (19 ∷ 20 ∷ []) $ free1 ! $ move ! (17 ∷ 18 ∷ []) $ free1 ! $ move ! (15 ∷ 16 ∷ []) $ free1 ! $
+        move ! (13 ∷ 14 ∷ []) $ free1 ! $ move ! (11 ∷ 12 ∷ []) $ free1 ! $ free0 ! $
         move ! (5 ∷ []) $ split ! $ move ! (1 ∷ []) $ split ! $ move ! (1 ∷ []) $ split ! $ move ! (1 ∷ []) $ move ! (7 ∷ 0 ∷ []) $ join ! $ move ! (6 ∷ 0 ∷ []) $ join ! $ move ! (1 ∷ 0 ∷ []) $ join ! $ move ! (1 ∷ 0 ∷ []) $ join ! $ move ! (1 ∷ 0 ∷ []) $ join ! $
-        keep ! (0 ∷ 8 ∷ 7 ∷ 6 ∷ 1 ∷ 2 ∷ 5 ∷ 4 ∷ 3 ∷ []) $ by ! (exits n u table′ semaphore′ (zs .1 .1 .1 .1 .1 .0) (zs .1 .1 .1 .1 .1 .1 .0) (rerun-written file trace list table semaphore buffer shared r y n table′ semaphore′ (zs .1 .1 .1 .1 .1 .0) (zs .1 .1 .1 .1 .1 .1 .0) e₁ e₂ e₃) l-table l-buffer l-shared)))))))))))))))))))))))))))))))))))))
+        keep ! (0 ∷ 8 ∷ 7 ∷ 6 ∷ 1 ∷ 2 ∷ 5 ∷ 4 ∷ 3 ∷ []) $
+        by ! (exits n u table′ semaphore′ (zs .1 .1 .1 .1 .1 .0) (zs .1 .1 .1 .1 .1 .1 .0)
+        (rerun-written file trace list table semaphore buffer shared r y n table′ semaphore′ (zs .1 .1 .1 .1 .1 .0)
+        (zs .1 .1 .1 .1 .1 .1 .0) e₁ e₂ e₃) l-table l-buffer l-shared)))))))))))))))))))))))))))))))))))))
 
 module _ {M : Type 1} (𝓤 : URA M) (H : Heap 𝓤) (A : Atoms 𝓤) (W : Given 𝓤 H A) (at-mem : Memory → SProp 𝓤) (run : Routine → Fun 𝓤) where
   walks : (C : Calls 𝓤 H) (Λ : Loops 𝓤 H) → FmC 𝓤 H (W .laws) C → Triple 𝓤 (C #rikzord·load) (Load 𝓤 H A at-mem run) → Triple 𝓤 (C #snapshot·rerun-table) (Callee 𝓤 H A at-mem run) → Triple 𝓤 (C #rikzord·save) (Save 𝓤 H A at-mem run)
       → Walks 𝓤 H A f.ended stayed (WpFn 𝓤 H C Λ code.function) (f.clauses 𝓤 H A at-mem run)
   walks C Λ fm k₁ k₂ k₃ = walked 𝓤 H A f.ended stayed (f.clauses 𝓤 H A at-mem run) (WpFn 𝓤 H C Λ code.function) (λ κs. (slice-vals, (slice-vals, (slice-vals, (slice-vals, (ptr-vals, (slice-vals, (slice-vals, tt))))))))
-      (λ κs. (shr-slice-tells (named 0) (κs .0) u8, (shr-slice-tells (named 1) (κs .1 .0) u8, (shr-slice-tells (named 2) (κs .1 .1 .0) u8, (mut-slice-tells (named 3) (κs .1 .1 .1 .0) R, (mut-tells (named 4) (κs .1 .1 .1 .1 .0) P.the-row, (mut-slice-tells (named 5) (κs .1 .1 .1 .1 .1 .0) u8, (mut-slice-tells (named 6) (κs .1 .1 .1 .1 .1 .1 .0) u8, tt))))))))
-      (λ κs qs bounds a g are. via 𝓤 _ (fst∗ 𝓤 _ (emp 𝓤)) (walk 𝓤 H A W at-mem run (κs .0) (κs .1 .0) (κs .1 .1 .0) (κs .1 .1 .1 .0) (κs .1 .1 .1 .1 .0) (κs .1 .1 .1 .1 .1 .0) (κs .1 .1 .1 .1 .1 .1 .0) (qs .0) (qs .1 .0) (qs .1 .1 .0) (qs .1 .1 .1 .0) (qs .1 .1 .1 .1 .0) (qs .1 .1 .1 .1 .1 .0) (qs .1 .1 .1 .1 .1 .1 .0) (a .0 .ptr .0) (a .0 .ptr .1) (a .0 .name) (a .0 .now) (a .1 .0 .ptr .0) (a .1 .0 .ptr .1) (a .1 .0 .name) (a .1 .0 .now) (a .1 .1 .0 .ptr .0) (a .1 .1 .0 .ptr .1) (a .1 .1 .0 .name) (a .1 .1 .0 .now) (a .1 .1 .1 .0 .ptr .0) (a .1 .1 .1 .0 .ptr .1) (a .1 .1 .1 .0 .name) (a .1 .1 .1 .0 .now) (a .1 .1 .1 .1 .0 .ptr .0) (a .1 .1 .1 .1 .0 .ptr .1) (a .1 .1 .1 .1 .0 .name) (a .1 .1 .1 .1 .0 .now) (a .1 .1 .1 .1 .1 .0 .ptr .0) (a .1 .1 .1 .1 .1 .0 .ptr .1) (a .1 .1 .1 .1 .1 .0 .name) (a .1 .1 .1 .1 .1 .0 .now) (a .1 .1 .1 .1 .1 .1 .0 .ptr .0) (a .1 .1 .1 .1 .1 .1 .0 .ptr .1) (a .1 .1 .1 .1 .1 .1 .0 .name) (a .1 .1 .1 .1 .1 .1 .0 .now) (are .0 .0 .1) (are .1 .0 .0 .1) (are .1 .1 .0 .0 .1) (are .1 .1 .1 .0 .0 .1) (are .1 .1 .1 .1 .1 .0 .0 .1) (are .1 .1 .1 .1 .1 .1 .0 .0 .1) C Λ fm k₁ k₂ k₃))
+      (λ κs. (
+        shr-slice-tells (named 0) (κs .0) u8,
+        (
+          shr-slice-tells (named 1) (κs .1 .0) u8,
+          (
+            shr-slice-tells (named 2) (κs .1 .1 .0) u8,
+            (mut-slice-tells (named 3) (κs .1 .1 .1 .0) R, (mut-tells (named 4) (κs .1 .1 .1 .1 .0) P.the-row, (mut-slice-tells (named 5) (κs .1 .1 .1 .1 .1 .0) u8, (mut-slice-tells (named 6) (κs .1 .1 .1 .1 .1 .1 .0) u8, tt)))),
+          ),
+        ),
+      ))
+      (λ κs qs bounds a g are. via 𝓤 _ (fst∗ 𝓤 _ (emp 𝓤))
+      (walk 𝓤 H A W at-mem run (κs .0) (κs .1 .0) (κs .1 .1 .0) (κs .1 .1 .1 .0) (κs .1 .1 .1 .1 .0) (κs .1 .1 .1 .1 .1 .0) (κs .1 .1 .1 .1 .1 .1 .0) (qs .0) (qs .1 .0)
+      (qs .1 .1 .0) (qs .1 .1 .1 .0) (qs .1 .1 .1 .1 .0) (qs .1 .1 .1 .1 .1 .0) (qs .1 .1 .1 .1 .1 .1 .0) (a .0 .ptr .0) (a .0 .ptr .1) (a .0 .name) (a .0 .now)
+      (a .1 .0 .ptr .0) (a .1 .0 .ptr .1) (a .1 .0 .name) (a .1 .0 .now) (a .1 .1 .0 .ptr .0) (a .1 .1 .0 .ptr .1) (a .1 .1 .0 .name) (a .1 .1 .0 .now)
+      (a .1 .1 .1 .0 .ptr .0) (a .1 .1 .1 .0 .ptr .1) (a .1 .1 .1 .0 .name) (a .1 .1 .1 .0 .now) (a .1 .1 .1 .1 .0 .ptr .0) (a .1 .1 .1 .1 .0 .ptr .1)
+      (a .1 .1 .1 .1 .0 .name) (a .1 .1 .1 .1 .0 .now) (a .1 .1 .1 .1 .1 .0 .ptr .0) (a .1 .1 .1 .1 .1 .0 .ptr .1) (a .1 .1 .1 .1 .1 .0 .name) (a .1 .1 .1 .1 .1 .0 .now)
+      (a .1 .1 .1 .1 .1 .1 .0 .ptr .0) (a .1 .1 .1 .1 .1 .1 .0 .ptr .1) (a .1 .1 .1 .1 .1 .1 .0 .name) (a .1 .1 .1 .1 .1 .1 .0 .now) (are .0 .0 .1) (are .1 .0 .0 .1)
+      (are .1 .1 .0 .0 .1) (are .1 .1 .1 .0 .0 .1) (are .1 .1 .1 .1 .1 .0 .0 .1) (are .1 .1 .1 .1 .1 .1 .0 .0 .1) C Λ fm k₁ k₂ k₃))
 
   goes : AllGo 𝓤 H A W 7 (f.signature .params) (f.ended .kept) stayed
-  goes = (goes-none-slice 𝓤 H A W 7 (0 ∷ []) tt (plain (λ _. u8)) yes, (goes-none-slice 𝓤 H A W 7 (1 ∷ []) tt (plain (λ _. u8)) yes, (goes-none-slice 𝓤 H A W 7 (2 ∷ []) tt (plain (λ _. u8)) yes, (goes-gave-slice 𝓤 H A W 7 3 tt (plain (λ _. R)), (goes-gave-ref 𝓤 H A W 7 4 tt (plain (λ _. P.the-row)), (goes-gave-slice 𝓤 H A W 7 5 tt (plain (λ _. u8)), (goes-gave-slice 𝓤 H A W 7 6 tt (plain (λ _. u8)), tt)))))))
+  goes = (
+    goes-none-slice 𝓤 H A W 7 (0 ∷ []) tt (plain (λ _. u8)) yes,
+    (
+      goes-none-slice 𝓤 H A W 7 (1 ∷ []) tt (plain (λ _. u8)) yes,
+      (
+        goes-none-slice 𝓤 H A W 7 (2 ∷ []) tt (plain (λ _. u8)) yes,
+        (goes-gave-slice 𝓤 H A W 7 3 tt (plain (λ _. R)), (goes-gave-ref 𝓤 H A W 7 4 tt (plain (λ _. P.the-row)), (goes-gave-slice 𝓤 H A W 7 5 tt (plain (λ _. u8)), (goes-gave-slice 𝓤 H A W 7 6 tt (plain (λ _. u8)), tt)))),
+      ),
+    ),
+  )
 
-meets : {M : Type 1} (𝓤 : URA M) (H : Heap 𝓤) (A : Atoms 𝓤) → Given 𝓤 H A → (at-mem : Memory → SProp 𝓤) (run : Routine → Fun 𝓤) (𝓣 : Tables 𝓤 H) → Triple 𝓤 (𝓣 .C #rikzord·load) (Load 𝓤 H A at-mem run) → Triple 𝓤 (𝓣 .C #snapshot·rerun-table) (Callee 𝓤 H A at-mem run) → Triple 𝓤 (𝓣 .C #rikzord·save) (Save 𝓤 H A at-mem run)
+meets : {M : Type 1} (𝓤 : URA M) (H : Heap 𝓤) (A : Atoms 𝓤) → Given 𝓤 H A → (at-mem : Memory → SProp 𝓤) (run : Routine → Fun 𝓤) (𝓣 : Tables 𝓤 H)
+    → Triple 𝓤 (𝓣 .C #rikzord·load) (Load 𝓤 H A at-mem run) → Triple 𝓤 (𝓣 .C #snapshot·rerun-table) (Callee 𝓤 H A at-mem run)
+    → Triple 𝓤 (𝓣 .C #rikzord·save) (Save 𝓤 H A at-mem run)
     → Meets 𝓤 H A f.signature (WpFn 𝓤 H (𝓣 .C) (𝓣 .Λ) code.function) (f.spec 𝓤 H A at-mem run)
 meets 𝓤 H A W at-mem run 𝓣 k₁ k₂ k₃ = walk-meets 𝓤 H A f.ended stayed W (goes 𝓤 H A W at-mem run) (f.clauses 𝓤 H A at-mem run)
     (WpFn 𝓤 H (𝓣 .C) (𝓣 .Λ) code.function) (WpFn-mono 𝓤 H (W .laws) 𝓣 code.function) (walks 𝓤 H A W at-mem run (𝓣 .C) (𝓣 .Λ) (fmOf 𝓤 H (W .laws) 𝓣) k₁ k₂ k₃)

@@ -1,4 +1,5 @@
--- `rikzord::save` meets its contract: a walk of its MIR, by hand, with a branch. A refused call returns before anything is stored: neither borrow is opened. Else `put_or` is called four times; each time the slice is lent again for a lifetime that the walk makes, and comes back at the list that the callee's contract says (`Again.antt`); then the semaphore's borrow is opened, the answer's semaphore is stored over the cell, and the borrow is closed at it.
+-- `rikzord::save` meets its contract: a walk of its MIR, by hand, with a branch. A refused call returns before anything is stored: neither borrow is opened. Else `put_or` is called four times;
+-- each time the slice is lent again for a lifetime that the walk makes, and comes back at the list that the callee's contract says (`Again.antt`); then the semaphore's borrow is opened, the answer's semaphore is stored over the cell, and the borrow is closed at it.
 -- All that the proof knows of `put_or` is that it meets its contract.
 -- Assumes nothing.
 use mathlib.Core.Path.{_≡_, refl, sym, _∙_, ap, subst}
@@ -195,7 +196,12 @@ module _ {M : Type 1} (𝓤 : URA M) (H : Heap 𝓤) (A : Atoms 𝓤) (W : Given
     module _ (C : Calls 𝓤 H) (Λ : Loops 𝓤 H) (fm : FmC 𝓤 H (W .laws) C) (known : Triple 𝓤 (C #rikzord·put-or) (PutOr 𝓤 H A at-mem run)) where
       -- the locals
       abbrev E : ℕ → ℕ → ℕ → ℕ → ℕ → ℕ → ℕ → ℕ → ℕ → ℕ → ℕ → ℕ → ℕ → ℕ → Env 𝓤 H
-      E l₀ l₁ l₂ l₃ l₄ l₅ l₆ l₇ l₈ l₉ l₁₀ l₁₁ l₁₂ l₁₃ = (tyInt w8, l₀) ∷ (sliceTy (tyRef (named 0) mut (pointee (R .written))), l₁) ∷ (tyRef (named 1) mut (pointee (P.the-row .written)), l₂) ∷ (N′.mir, l₃) ∷ (tyBool, l₄) ∷ (tyUnit, l₅) ∷ (tyRef erased mut (pointee (R .written)), l₆) ∷ (sliceTy (tyRef erased mut (pointee (R .written))), l₇) ∷ (tyRef erased mut (pointee (R .written)), l₈) ∷ (sliceTy (tyRef erased mut (pointee (R .written))), l₉) ∷ (tyRef erased mut (pointee (R .written)), l₁₀) ∷ (sliceTy (tyRef erased mut (pointee (R .written))), l₁₁) ∷ (tyRef erased mut (pointee (R .written)), l₁₂) ∷ (sliceTy (tyRef erased mut (pointee (R .written))), l₁₃) ∷ []
+      E l₀ l₁ l₂ l₃ l₄ l₅ l₆ l₇ l₈ l₉ l₁₀ l₁₁ l₁₂ l₁₃ =
+          (tyInt w8, l₀) ∷ (sliceTy (tyRef (named 0) mut (pointee (R .written))), l₁) ∷ (tyRef (named 1) mut (pointee (P.the-row .written)), l₂) ∷ (N′.mir, l₃)
+          ∷ (tyBool, l₄) ∷ (tyUnit, l₅) ∷ (tyRef erased mut (pointee (R .written)), l₆) ∷ (sliceTy (tyRef erased mut (pointee (R .written))), l₇)
+          ∷ (tyRef erased mut (pointee (R .written)), l₈) ∷ (sliceTy (tyRef erased mut (pointee (R .written))), l₉) ∷ (tyRef erased mut (pointee (R .written)), l₁₀)
+          ∷ (sliceTy (tyRef erased mut (pointee (R .written))), l₁₁) ∷ (tyRef erased mut (pointee (R .written)), l₁₂)
+          ∷ (sliceTy (tyRef erased mut (pointee (R .written))), l₁₃) ∷ []
 
       walk : ent 𝓤 (onEntry 𝓤 H A f.signature (κ, (κ′, tt)) (q, (q′, tt)) a at) (WpFn 𝓤 H C Λ code.function (s ∷ vptr b′ o′ ∷ mach-after y ∷ []) Post)
       walk =
@@ -208,7 +214,9 @@ module _ {M : Type 1} (𝓤 : URA M) (H : Heap 𝓤) (A : Atoms 𝓤) (W : Given
           -- refused: nothing is stored, and both lent things are as they were
           (λ refused. assigns ! (of-opd ! (load ! (from ! (fld ! refl (stop !))) (look-in ! 20 (sub ! 0 refl (whole !))))) (from ! (stop !)) (init ! 26 refl (tt, record { fits = is .0 })) $
           returns-within ! Post refl (look ! 26 refl) $ forget ! 18 refl $ forget ! 20 refl $ forget ! 22 refl $ forget ! 24 refl $ forget ! 26 refl $
-          move ! (26 ∷ 27 ∷ []) $ free1 ! $ move ! (24 ∷ 25 ∷ []) $ free1 ! $ move ! (22 ∷ 23 ∷ []) $ free1 ! $ move ! (20 ∷ 21 ∷ []) $ free1 ! $ move ! (18 ∷ 19 ∷ []) $ free1 ! $ move ! (16 ∷ 17 ∷ []) $ free1 ! $ move ! (14 ∷ 15 ∷ []) $ free1 ! $ move ! (12 ∷ 13 ∷ []) $ free1 ! $ move ! (10 ∷ 11 ∷ []) $ free1 ! $ move ! (8 ∷ 9 ∷ []) $ free1 ! $ move ! (6 ∷ 7 ∷ []) $ free1 ! $ move ! (4 ∷ 5 ∷ []) $ free1 ! $ move ! (2 ∷ 3 ∷ []) $ free1 ! $ free1 ! $ free0 ! $
+          move ! (26 ∷ 27 ∷ []) $ free1 ! $ move ! (24 ∷ 25 ∷ []) $ free1 ! $ move ! (22 ∷ 23 ∷ []) $ free1 ! $ move ! (20 ∷ 21 ∷ []) $ free1 ! $ move ! (18 ∷ 19 ∷ []) $
+          free1 ! $ move ! (16 ∷ 17 ∷ []) $ free1 ! $ move ! (14 ∷ 15 ∷ []) $ free1 ! $ move ! (12 ∷ 13 ∷ []) $ free1 ! $ move ! (10 ∷ 11 ∷ []) $ free1 ! $
+          move ! (8 ∷ 9 ∷ []) $ free1 ! $ move ! (6 ∷ 7 ∷ []) $ free1 ! $ move ! (4 ∷ 5 ∷ []) $ free1 ! $ move ! (2 ∷ 3 ∷ []) $ free1 ! $ free1 ! $ free0 ! $
           split ! $ move ! (1 ∷ []) $ split ! $ move ! (3 ∷ []) $ fsplit ! $ move ! (1 ∷ []) $ fsplit ! $ keep ! (2 ∷ 5 ∷ 0 ∷ 3 ∷ []) $
           by ! (exits (y .refusal) ys p (sym (pick-false _ _ _ (fails (eqb (y .refusal) 0) refused))) (sym (pick-false _ _ _ (fails (eqb (y .refusal) 0) refused))) refl refl (is .0)))
           -- accepted
@@ -217,16 +225,28 @@ module _ {M : Type 1} (𝓤 : URA M) (H : Heap 𝓤) (A : Atoms 𝓤) (W : Given
           -- [what t owns; its token; what semaphore owns; its token; _13; …; _12; …; down to _1; …; room for _0; …]
           assigns ! (addr ! (from ! (fld ! refl (hop ! (look-in ! 28 (sub ! 0 refl (whole !))) (stop !))))) (from ! (stop !)) (init ! 18 refl (tt, tt)) $
           assigns ! (agg ! (and-then ! (load ! (from ! (stop !)) (look ! 18 refl)) (and-then ! (load ! (from ! (fld ! refl (stop !))) (look-in ! 28 (sub ! 1 refl (whole !)))) (no-more !)))) (from ! (stop !)) (init ! 16 refl (tt, (tt, (record { fits = room .0 }, tt)))) $
-          stores C Λ fm known ys refl 0 (lit< tt) (y .a) (is .1 .0) (λ ν δ. and-then ! (load ! (from ! (stop !)) (look ! 16 refl)) (and-then ! (lit ! tt) (and-then ! (load ! (from ! (fld ! refl (stop !))) (look-in ! 24 (sub ! 1 refl (whole !)))) (no-more !)))) (λ w₀ t₀. land ! (from ! (stop !)) (init ! 20 refl t₀) $
+          stores C Λ fm known ys refl 0 (lit< tt) (y .a) (is .1 .0)
+          (λ ν δ. and-then ! (load ! (from ! (stop !)) (look ! 16 refl))
+          (and-then ! (lit ! tt) (and-then ! (load ! (from ! (fld ! refl (stop !))) (look-in ! 24 (sub ! 1 refl (whole !)))) (no-more !)))) (λ w₀ t₀.
+          land ! (from ! (stop !)) (init ! 20 refl t₀) $
           assigns ! (addr ! (from ! (fld ! refl (hop ! (look-in ! 28 (sub ! 0 refl (whole !))) (stop !))))) (from ! (stop !)) (init ! 14 refl (tt, tt)) $
           assigns ! (agg ! (and-then ! (load ! (from ! (stop !)) (look ! 14 refl)) (and-then ! (load ! (from ! (fld ! refl (stop !))) (look-in ! 28 (sub ! 1 refl (whole !)))) (no-more !)))) (from ! (stop !)) (init ! 12 refl (tt, (tt, (record { fits = room .0 }, tt)))) $
-          stores C Λ fm known z₁ n₁ 1 (lit< tt) (y .b) (is .1 .1 .0) (λ ν δ. and-then ! (load ! (from ! (stop !)) (look ! 12 refl)) (and-then ! (lit ! tt) (and-then ! (load ! (from ! (fld ! refl (stop !))) (look-in ! 24 (sub ! 2 refl (whole !)))) (no-more !)))) (λ w₁ t₁. land ! (from ! (stop !)) (store ! 20 refl t₁) $
+          stores C Λ fm known z₁ n₁ 1 (lit< tt) (y .b) (is .1 .1 .0)
+          (λ ν δ. and-then ! (load ! (from ! (stop !)) (look ! 12 refl))
+          (and-then ! (lit ! tt) (and-then ! (load ! (from ! (fld ! refl (stop !))) (look-in ! 24 (sub ! 2 refl (whole !)))) (no-more !)))) (λ w₁ t₁.
+          land ! (from ! (stop !)) (store ! 20 refl t₁) $
           assigns ! (addr ! (from ! (fld ! refl (hop ! (look-in ! 28 (sub ! 0 refl (whole !))) (stop !))))) (from ! (stop !)) (init ! 10 refl (tt, tt)) $
           assigns ! (agg ! (and-then ! (load ! (from ! (stop !)) (look ! 10 refl)) (and-then ! (load ! (from ! (fld ! refl (stop !))) (look-in ! 28 (sub ! 1 refl (whole !)))) (no-more !)))) (from ! (stop !)) (init ! 8 refl (tt, (tt, (record { fits = room .0 }, tt)))) $
-          stores C Λ fm known z₂ n₂ 2 (lit< tt) (y .c) (is .1 .1 .1 .0) (λ ν δ. and-then ! (load ! (from ! (stop !)) (look ! 8 refl)) (and-then ! (lit ! tt) (and-then ! (load ! (from ! (fld ! refl (stop !))) (look-in ! 24 (sub ! 3 refl (whole !)))) (no-more !)))) (λ w₂ t₂. land ! (from ! (stop !)) (store ! 20 refl t₂) $
+          stores C Λ fm known z₂ n₂ 2 (lit< tt) (y .c) (is .1 .1 .1 .0)
+          (λ ν δ. and-then ! (load ! (from ! (stop !)) (look ! 8 refl))
+          (and-then ! (lit ! tt) (and-then ! (load ! (from ! (fld ! refl (stop !))) (look-in ! 24 (sub ! 3 refl (whole !)))) (no-more !)))) (λ w₂ t₂.
+          land ! (from ! (stop !)) (store ! 20 refl t₂) $
           assigns ! (addr ! (from ! (fld ! refl (hop ! (look-in ! 28 (sub ! 0 refl (whole !))) (stop !))))) (from ! (stop !)) (init ! 6 refl (tt, tt)) $
           assigns ! (agg ! (and-then ! (load ! (from ! (stop !)) (look ! 6 refl)) (and-then ! (load ! (from ! (fld ! refl (stop !))) (look-in ! 28 (sub ! 1 refl (whole !)))) (no-more !)))) (from ! (stop !)) (init ! 4 refl (tt, (tt, (record { fits = room .0 }, tt)))) $
-          stores C Λ fm known z₃ n₃ 3 (lit< tt) (y .d) (is .1 .1 .1 .1 .0) (λ ν δ. and-then ! (load ! (from ! (stop !)) (look ! 4 refl)) (and-then ! (lit ! tt) (and-then ! (load ! (from ! (fld ! refl (stop !))) (look-in ! 24 (sub ! 4 refl (whole !)))) (no-more !)))) (λ w₃ t₃. land ! (from ! (stop !)) (store ! 20 refl t₃) $
+          stores C Λ fm known z₃ n₃ 3 (lit< tt) (y .d) (is .1 .1 .1 .1 .0)
+          (λ ν δ. and-then ! (load ! (from ! (stop !)) (look ! 4 refl))
+          (and-then ! (lit ! tt) (and-then ! (load ! (from ! (fld ! refl (stop !))) (look-in ! 24 (sub ! 4 refl (whole !)))) (no-more !)))) (λ w₃ t₃.
+          land ! (from ! (stop !)) (store ! 20 refl t₃) $
           -- the semaphore's borrow is opened, stored to and closed
           move ! (2 ∷ []) $ fsplit3 ! $ drop ! $ move ! (0 ∷ 1 ∷ 4 ∷ []) $
           opens ! tt P.the-row {h = p} b′ o′ (λ vs. spelt ! P.the-row (Is P.the-row) (shows 𝓤 H A P.the-row) (LL.vals P.the-type P′.the-laws) (LL.tells P.the-type P′.the-laws) fullShare p vs b′ o′ $ move ! (1 ∷ []) $ drop ! $
@@ -236,9 +256,15 @@ module _ {M : Type 1} (𝓤 : URA M) (H : Heap 𝓤) (A : Atoms 𝓤) (W : Given
           feqI ! (List Val) (vptr b′ o′ ∷ []) (vptr b′ o′ ∷ []) refl $ fjoin3 ! $
           -- [what semaphore owns; its token; what t owns; its token; _13; …; _12; …; down to _1; …; room for _0; …]
           assigns ! (of-opd ! (lit ! tt)) (from ! (stop !)) (init ! 30 refl (tt, record { fits = lit< tt })) $
-          returns ! (look ! 30 refl) $ forget ! 4 refl $ forget ! 6 refl $ forget ! 8 refl $ forget ! 10 refl $ forget ! 12 refl $ forget ! 14 refl $ forget ! 16 refl $ forget ! 18 refl $ forget ! 20 refl $ forget ! 22 refl $ forget ! 24 refl $ forget ! 26 refl $ forget ! 28 refl $ forget ! 30 refl $
-          move ! (30 ∷ 31 ∷ []) $ free1 ! $ move ! (28 ∷ 29 ∷ []) $ free1 ! $ move ! (26 ∷ 27 ∷ []) $ free1 ! $ move ! (24 ∷ 25 ∷ []) $ free1 ! $ move ! (22 ∷ 23 ∷ []) $ free1 ! $ move ! (20 ∷ 21 ∷ []) $ free1 ! $ move ! (18 ∷ 19 ∷ []) $ free1 ! $ move ! (16 ∷ 17 ∷ []) $ free1 ! $ move ! (14 ∷ 15 ∷ []) $ free1 ! $ move ! (12 ∷ 13 ∷ []) $ free1 ! $ move ! (10 ∷ 11 ∷ []) $ free1 ! $ move ! (8 ∷ 9 ∷ []) $ free1 ! $ move ! (6 ∷ 7 ∷ []) $ free1 ! $ move ! (4 ∷ 5 ∷ []) $ free1 ! $ free0 ! $
-          keep ! (2 ∷ 3 ∷ 0 ∷ 1 ∷ []) $ by ! (exits 0 z₄ (y .semaphore) (sym (pick-true _ _ _ (passes (eqb (y .refusal) 0) accepted))) (sym (pick-true _ _ _ (passes (eqb (y .refusal) 0) accepted))) (sym (eqb-true (y .refusal) 0 (passes (eqb (y .refusal) 0) accepted))) n₄ (lit< tt))))))))))))))))))))))
+          returns ! (look ! 30 refl) $ forget ! 4 refl $ forget ! 6 refl $ forget ! 8 refl $ forget ! 10 refl $ forget ! 12 refl $ forget ! 14 refl $ forget ! 16 refl $
+          forget ! 18 refl $ forget ! 20 refl $ forget ! 22 refl $ forget ! 24 refl $ forget ! 26 refl $ forget ! 28 refl $ forget ! 30 refl $
+          move ! (30 ∷ 31 ∷ []) $ free1 ! $ move ! (28 ∷ 29 ∷ []) $ free1 ! $ move ! (26 ∷ 27 ∷ []) $ free1 ! $ move ! (24 ∷ 25 ∷ []) $ free1 ! $ move ! (22 ∷ 23 ∷ []) $
+          free1 ! $ move ! (20 ∷ 21 ∷ []) $ free1 ! $ move ! (18 ∷ 19 ∷ []) $ free1 ! $ move ! (16 ∷ 17 ∷ []) $ free1 ! $ move ! (14 ∷ 15 ∷ []) $ free1 ! $
+          move ! (12 ∷ 13 ∷ []) $ free1 ! $ move ! (10 ∷ 11 ∷ []) $ free1 ! $ move ! (8 ∷ 9 ∷ []) $ free1 ! $ move ! (6 ∷ 7 ∷ []) $ free1 ! $ move ! (4 ∷ 5 ∷ []) $
+          free1 ! $ free0 ! $
+          keep ! (2 ∷ 3 ∷ 0 ∷ 1 ∷ []) $ by ! (exits 0 z₄ (y .semaphore) (sym (pick-true _ _ _ (passes (eqb (y .refusal) 0) accepted)))
+          (sym (pick-true _ _ _ (passes (eqb (y .refusal) 0) accepted))) (sym (eqb-true (y .refusal) 0 (passes (eqb (y .refusal) 0) accepted))) n₄
+          (lit< tt))))))))))))))))))))))
         where
           typed : Holds (hasTy N′.mir (mach-after y)) × WT (mach-after y)
           typed = LL.lawful N.the-type N′.the-laws 𝓤 H A W .typed y _ y-is .0

@@ -160,14 +160,20 @@ module _ {M : Type 1} (𝓤 : URA M) (H : Heap 𝓤) (A : Atoms 𝓤) (W : Given
   sooner-ends : WellFounded sooner
   sooner-ends = record { apply = λ t. InvImage·accessible (λ (x : Turn ys r). toGo x) (Nat·lt-wfRel .wf .apply (toGo t)) }
 
-  module _ (𝓣 : Tables 𝓤 H) (fm : FmC 𝓤 H (W .laws) (𝓣 .C)) (known-get : Triple 𝓤 (𝓣 .C #rikzord·get-or) (GetOr 𝓤 H A at-mem run)) (known-none : Triple 𝓤 (𝓣 .C #snapshot·no-core) (NoCore 𝓤 H A at-mem run)) (known-place : Triple 𝓤 (𝓣 .C #snapshot·place-after) (PlaceAfter 𝓤 H A at-mem run)) (known-moves : Triple 𝓤 (𝓣 .C #snapshot·moves) (Moves 𝓤 H A at-mem run)) where
+  module _ (𝓣 : Tables 𝓤 H) (fm : FmC 𝓤 H (W .laws) (𝓣 .C)) (known-get : Triple 𝓤 (𝓣 .C #rikzord·get-or) (GetOr 𝓤 H A at-mem run))
+      (known-none : Triple 𝓤 (𝓣 .C #snapshot·no-core) (NoCore 𝓤 H A at-mem run)) (known-place : Triple 𝓤 (𝓣 .C #snapshot·place-after) (PlaceAfter 𝓤 H A at-mem run))
+      (known-moves : Triple 𝓤 (𝓣 .C #snapshot·moves) (Moves 𝓤 H A at-mem run)) where
     -- the locals
     abbrev E : ℕ → ℕ → ℕ → ℕ → ℕ → ℕ → ℕ → ℕ → ℕ → ℕ → Env 𝓤 H
     E l₀ l₁ l₂ l₃ l₄ l₅ l₆ l₇ l₈ l₉ = (τ 0, l₀) ∷ (τ 1, l₁) ∷ (τ 2, l₂) ∷ (τ 3, l₃) ∷ (τ 4, l₄) ∷ (τ 5, l₅) ∷ (τ 6, l₆) ∷ (τ 7, l₇) ∷ (τ 8, l₈) ∷ (τ 9, l₉) ∷ []
 
     -- what stands at the head of a turn: u is the record of zeros
     abbrev I : ℕ → ℕ → ℕ → ℕ → ℕ → ℕ → ℕ → ℕ → ℕ → ℕ → Val → Turn ys r → List (Item 𝓤)
-    I l₀ l₁ l₂ l₃ l₄ l₅ l₆ l₇ l₈ l₉ u t = (‵ (flft κ q) ⊛ ‵ ftrue) ∷ ‵ Own ∷ ‵ (froom (τ 9) l₉ 0) ∷ ‵ (fdies (τ 9) l₉) ∷ ‵ (froom (τ 8) l₈ 0) ∷ ‵ (fdies (τ 8) l₈) ∷ ‵ (froom (τ 7) l₇ 0) ∷ ‵ (fdies (τ 7) l₇) ∷ ‵ (froom (τ 6) l₆ 0) ∷ ‵ (fdies (τ 6) l₆) ∷ ‵ (froom (τ 5) l₅ 0) ∷ ‵ (fdies (τ 5) l₅) ∷ ‵ (fat fullShare (τ 4) l₄ 0 (vint w8 (t .i))) ∷ ‵ (fdies (τ 4) l₄) ∷ ‵ (fat fullShare (τ 3) l₃ 0 u) ∷ ‵ (fdies (τ 3) l₃) ∷ ‵ (fat fullShare (τ 2) l₂ 0 (mach-ring r)) ∷ ‵ (fdies (τ 2) l₂) ∷ ‵ (fat fullShare (τ 1) l₁ 0 s) ∷ ‵ (fdies (τ 1) l₁) ∷ ‵ (froom (τ 0) l₀ 0) ∷ ‵ (fdies (τ 0) l₀) ∷ []
+    I l₀ l₁ l₂ l₃ l₄ l₅ l₆ l₇ l₈ l₉ u t =
+        (‵ (flft κ q) ⊛ ‵ ftrue) ∷ ‵ Own ∷ ‵ (froom (τ 9) l₉ 0) ∷ ‵ (fdies (τ 9) l₉) ∷ ‵ (froom (τ 8) l₈ 0) ∷ ‵ (fdies (τ 8) l₈) ∷ ‵ (froom (τ 7) l₇ 0)
+        ∷ ‵ (fdies (τ 7) l₇) ∷ ‵ (froom (τ 6) l₆ 0) ∷ ‵ (fdies (τ 6) l₆) ∷ ‵ (froom (τ 5) l₅ 0) ∷ ‵ (fdies (τ 5) l₅) ∷ ‵ (fat fullShare (τ 4) l₄ 0 (vint w8 (t .i)))
+        ∷ ‵ (fdies (τ 4) l₄) ∷ ‵ (fat fullShare (τ 3) l₃ 0 u) ∷ ‵ (fdies (τ 3) l₃) ∷ ‵ (fat fullShare (τ 2) l₂ 0 (mach-ring r)) ∷ ‵ (fdies (τ 2) l₂)
+        ∷ ‵ (fat fullShare (τ 1) l₁ 0 s) ∷ ‵ (fdies (τ 1) l₁) ∷ ‵ (froom (τ 0) l₀ 0) ∷ ‵ (fdies (τ 0) l₀) ∷ []
 
     passed-fits : (t : Turn ys r) → t .i < 2 ^ 8
     passed-fits t = omega (arith, t .most, cores-fit)
@@ -183,7 +189,10 @@ module _ {M : Type 1} (𝓤 : URA M) (H : Heap 𝓤) (A : Atoms 𝓤) (W : Given
     Left l₀ l₁ l₂ l₃ l₄ l₅ l₆ l₇ l₈ l₉ = afterBlock 𝓤 H (afterSeq 𝓤 H (Wp 𝓤 H (𝓣 .C) (𝓣 .Λ) (E l₀ l₁ l₂ l₃ l₄ l₅ l₆ l₇ l₈ l₉) code-mir.t-4 (atReturn 𝓤 H (E l₀ l₁ l₂ l₃ l₄ l₅ l₆ l₇ l₈ l₉) Post)) (atReturn 𝓤 H (E l₀ l₁ l₂ l₃ l₄ l₅ l₆ l₇ l₈ l₉) Post))
 
     -- a turn with a record left
-    more : (l₀ l₁ l₂ l₃ l₄ l₅ l₆ l₇ l₈ l₉ : ℕ) (n : CoreRecord) (u : Val) (en : n ≡ noRecord) (n-is : Is R n (u ∷ [])) (t : Turn ys r) → ltb (t .i) (r .cores) ≡ true → Sq W (I l₀ l₁ l₂ l₃ l₄ l₅ l₆ l₇ l₈ l₉ u t) (runs (𝓣 .C) (𝓣 .Λ) (E l₀ l₁ l₂ l₃ l₄ l₅ l₆ l₇ l₈ l₉) code-mir.turn-1 (anyQ (afterTurn 𝓤 H (Below 𝓤 H A sooner (I l₀ l₁ l₂ l₃ l₄ l₅ l₆ l₇ l₈ l₉ u) t) (Left l₀ l₁ l₂ l₃ l₄ l₅ l₆ l₇ l₈ l₉))))
+    more : (l₀ l₁ l₂ l₃ l₄ l₅ l₆ l₇ l₈ l₉ : ℕ) (n : CoreRecord) (u : Val) (en : n ≡ noRecord) (n-is : Is R n (u ∷ [])) (t : Turn ys r) → ltb (t .i) (r .cores) ≡ true
+        → Sq W (I l₀ l₁ l₂ l₃ l₄ l₅ l₆ l₇ l₈ l₉ u t)
+        (runs (𝓣 .C) (𝓣 .Λ) (E l₀ l₁ l₂ l₃ l₄ l₅ l₆ l₇ l₈ l₉) code-mir.turn-1
+        (anyQ (afterTurn 𝓤 H (Below 𝓤 H A sooner (I l₀ l₁ l₂ l₃ l₄ l₅ l₆ l₇ l₈ l₉ u) t) (Left l₀ l₁ l₂ l₃ l₄ l₅ l₆ l₇ l₈ l₉))))
     unfolding afterTurn
     more l₀ l₁ l₂ l₃ l₄ l₅ l₆ l₇ l₈ l₉ n u en n-is t e =
         assigns ! (bin ! (load ! (from ! (stop !)) (look ! 12 refl)) (load ! (from ! (fld ! refl (stop !))) (look-in ! 16 (sub ! 1 refl (whole !)))) tt) (from ! (stop !)) (init ! 6 refl (tt, tt)) $
@@ -196,7 +205,10 @@ module _ {M : Type 1} (𝓤 : URA M) (H : Heap 𝓤) (A : Atoms 𝓤) (W : Given
         rewrite ! 10 (λ (y : Val). ‵ (fat fullShare (tyInt w8) l₅ 0 y)) (ap only (k-is .0)) refl $
         assigns ! (bin ! (load ! (from ! (stop !)) (look ! 12 refl)) (lit ! tt) (record { fits = next-fits t e })) (from ! (stop !)) (store ! 12 refl (tt, record { fits = next-fits t e })) $
         assigns ! (un ! (load ! (from ! (stop !)) (look ! 10 refl)) (record { fits = wide k (k-is .1) })) (from ! (stop !)) (init ! 4 refl (tt, record { fits = wide k (k-is .1) })) $
-        asks 𝓤 H A W at-mem run κ q b o γ ys (𝓣 .C) (𝓣 .Λ) fm known-get k (wide k (k-is .1)) n u n-is (and-then ! (load ! (from ! (stop !)) (look ! 18 refl)) (and-then ! (load ! (from ! (stop !)) (look ! 4 refl)) (and-then ! (load ! (from ! (stop !)) (look ! 14 refl)) (no-more !)))) (λ c vc ec c-is. land ! (from ! (stop !)) (init ! 8 refl (typed 𝓤 H A W at-mem run c vc c-is)) $
+        asks 𝓤 H A W at-mem run κ q b o γ ys (𝓣 .C) (𝓣 .Λ) fm known-get k (wide k (k-is .1)) n u n-is
+        (and-then ! (load ! (from ! (stop !)) (look ! 18 refl))
+        (and-then ! (load ! (from ! (stop !)) (look ! 4 refl)) (and-then ! (load ! (from ! (stop !)) (look ! 14 refl)) (no-more !)))) (λ c vc ec c-is.
+        land ! (from ! (stop !)) (init ! 8 refl (typed 𝓤 H A W at-mem run c vc c-is)) $
         use0 W (raw (Moves 𝓤 H A at-mem run .pre (to-moves k c vc))) (goes-moves k (k-is .1) c vc c-is) $
         calls-at ! fm (Moves 𝓤 H A at-mem run) known-moves (to-moves k c vc) (and-then ! (load ! (from ! (stop !)) (look ! 17 refl)) (and-then ! (load ! (from ! (stop !)) (look ! 11 refl)) (and-then ! (load ! (from ! (stop !)) (look ! 9 refl)) (no-more !)))) (λ vz.
         use1 W (later (some (λ (z : Bool). (‵ ftrue ⊛ ‵ (bool .own z (vz ∷ []))) ⊛ raw (ensured 𝓤 H A moves.ended (moves.clauses 𝓤 H A at-mem run) tt (r, (k, (c, tt))) tt z)))) (id⊢ 𝓤 _) $ await ! tt $ pick ! (λ z.
@@ -207,14 +219,19 @@ module _ {M : Type 1} (𝓤 : URA M) (H : Heap 𝓤) (A : Atoms 𝓤) (W : Given
         -- it is the one
         (λ found. assigns ! (of-opd ! (load ! (from ! (stop !)) (look ! 10 refl))) (from ! (stop !)) (init ! 20 refl (tt, record { fits = k-is .1 })) $
         returns-within ! Post refl (look ! 20 refl) $ forget ! 2 refl $ forget ! 4 refl $ forget ! 6 refl $ forget ! 8 refl $ forget ! 10 refl $ forget ! 12 refl $ forget ! 14 refl $ forget ! 16 refl $ forget ! 18 refl $ forget ! 20 refl $
-        move ! (20 ∷ 21 ∷ []) $ free1 ! $ move ! (18 ∷ 19 ∷ []) $ free1 ! $ move ! (16 ∷ 17 ∷ []) $ free1 ! $ move ! (14 ∷ 15 ∷ []) $ free1 ! $ move ! (12 ∷ 13 ∷ []) $ free1 ! $ move ! (10 ∷ 11 ∷ []) $ free1 ! $ move ! (8 ∷ 9 ∷ []) $ free1 ! $ move ! (6 ∷ 7 ∷ []) $ free1 ! $ move ! (4 ∷ 5 ∷ []) $ free1 ! $ move ! (2 ∷ 3 ∷ []) $ free1 ! $ free0 ! $
+        move ! (20 ∷ 21 ∷ []) $ free1 ! $ move ! (18 ∷ 19 ∷ []) $ free1 ! $ move ! (16 ∷ 17 ∷ []) $ free1 ! $ move ! (14 ∷ 15 ∷ []) $ free1 ! $ move ! (12 ∷ 13 ∷ []) $
+        free1 ! $ move ! (10 ∷ 11 ∷ []) $ free1 ! $ move ! (8 ∷ 9 ∷ []) $ free1 ! $ move ! (6 ∷ 7 ∷ []) $ free1 ! $ move ! (4 ∷ 5 ∷ []) $ free1 ! $ move ! (2 ∷ 3 ∷ []) $
+        free1 ! $ free0 ! $
         keep ! (0 ∷ 1 ∷ []) $ by ! (exits k (turn-found ys r t k c z ek (from-none ys c n k en ec) ez (ltb-true _ _ e) (holds z found)) (k-is .1)))
         -- it is not: the turn ends
         (λ passed. skips ! $ forget ! 2 refl $ forget ! 4 refl $ forget ! 6 refl $ forget ! 8 refl $ forget ! 10 refl $
         again ! sooner (I l₀ l₁ l₂ l₃ l₄ l₅ l₆ l₇ l₈ l₉ u) t (turn-next ys r t k c z ek (from-none ys c n k en ec) ez (ltb-true _ _ e) (fails z passed)) (turn-less ys r t k c z ek (from-none ys c n k en ec) ez (ltb-true _ _ e) (fails z passed))))))))))))
 
     -- the turn that leaves the loop, and the rest of the body
-    ends : (l₀ l₁ l₂ l₃ l₄ l₅ l₆ l₇ l₈ l₉ : ℕ) (n : CoreRecord) (u : Val) (en : n ≡ noRecord) (n-is : Is R n (u ∷ [])) (t : Turn ys r) → ltb (t .i) (r .cores) ≡ false → Sq W (I l₀ l₁ l₂ l₃ l₄ l₅ l₆ l₇ l₈ l₉ u t) (runs (𝓣 .C) (𝓣 .Λ) (E l₀ l₁ l₂ l₃ l₄ l₅ l₆ l₇ l₈ l₉) code-mir.turn-1 (anyQ (afterTurn 𝓤 H (Below 𝓤 H A sooner (I l₀ l₁ l₂ l₃ l₄ l₅ l₆ l₇ l₈ l₉ u) t) (Left l₀ l₁ l₂ l₃ l₄ l₅ l₆ l₇ l₈ l₉))))
+    ends : (l₀ l₁ l₂ l₃ l₄ l₅ l₆ l₇ l₈ l₉ : ℕ) (n : CoreRecord) (u : Val) (en : n ≡ noRecord) (n-is : Is R n (u ∷ [])) (t : Turn ys r) → ltb (t .i) (r .cores) ≡ false
+        → Sq W (I l₀ l₁ l₂ l₃ l₄ l₅ l₆ l₇ l₈ l₉ u t)
+        (runs (𝓣 .C) (𝓣 .Λ) (E l₀ l₁ l₂ l₃ l₄ l₅ l₆ l₇ l₈ l₉) code-mir.turn-1
+        (anyQ (afterTurn 𝓤 H (Below 𝓤 H A sooner (I l₀ l₁ l₂ l₃ l₄ l₅ l₆ l₇ l₈ l₉ u) t) (Left l₀ l₁ l₂ l₃ l₄ l₅ l₆ l₇ l₈ l₉))))
     unfolding afterTurn
     ends l₀ l₁ l₂ l₃ l₄ l₅ l₆ l₇ l₈ l₉ n u en n-is t e =
         assigns ! (bin ! (load ! (from ! (stop !)) (look ! 12 refl)) (load ! (from ! (fld ! refl (stop !))) (look-in ! 16 (sub ! 1 refl (whole !)))) tt) (from ! (stop !)) (init ! 6 refl (tt, tt)) $
@@ -222,20 +239,31 @@ module _ {M : Type 1} (𝓤 : URA M) (H : Heap 𝓤) (A : Atoms 𝓤) (W : Given
         exec ! (𝓣 .C) (𝓣 .Λ) (E l₀ l₁ l₂ l₃ l₄ l₅ l₆ l₇ l₈ l₉) code-mir.t-4 (atRet (E l₀ l₁ l₂ l₃ l₄ l₅ l₆ l₇ l₈ l₉) Post) $
         assigns ! (of-opd ! (neg-lit ! tt)) (from ! (stop !)) (init ! 20 refl (tt, record { fits = lit< tt })) $
         returns ! (look ! 20 refl) $ forget ! 6 refl $ forget ! 12 refl $ forget ! 14 refl $ forget ! 16 refl $ forget ! 18 refl $ forget ! 20 refl $
-        move ! (20 ∷ 21 ∷ []) $ free1 ! $ move ! (18 ∷ 19 ∷ []) $ free1 ! $ move ! (16 ∷ 17 ∷ []) $ free1 ! $ move ! (14 ∷ 15 ∷ []) $ free1 ! $ move ! (12 ∷ 13 ∷ []) $ free1 ! $ move ! (10 ∷ 11 ∷ []) $ free1 ! $ move ! (8 ∷ 9 ∷ []) $ free1 ! $ move ! (6 ∷ 7 ∷ []) $ free1 ! $ move ! (4 ∷ 5 ∷ []) $ free1 ! $ move ! (2 ∷ 3 ∷ []) $ free1 ! $ free0 ! $
+        move ! (20 ∷ 21 ∷ []) $ free1 ! $ move ! (18 ∷ 19 ∷ []) $ free1 ! $ move ! (16 ∷ 17 ∷ []) $ free1 ! $ move ! (14 ∷ 15 ∷ []) $ free1 ! $ move ! (12 ∷ 13 ∷ []) $
+        free1 ! $ move ! (10 ∷ 11 ∷ []) $ free1 ! $ move ! (8 ∷ 9 ∷ []) $ free1 ! $ move ! (6 ∷ 7 ∷ []) $ free1 ! $ move ! (4 ∷ 5 ∷ []) $ free1 ! $ move ! (2 ∷ 3 ∷ []) $
+        free1 ! $ free0 ! $
         keep ! (0 ∷ 1 ∷ []) $ by ! (exits 255 (turn-last ys r t (ltb-false _ _ e)) (lit< tt))
 
-    turns : (l₀ l₁ l₂ l₃ l₄ l₅ l₆ l₇ l₈ l₉ : ℕ) (n : CoreRecord) (u : Val) (en : n ≡ noRecord) (n-is : Is R n (u ∷ [])) (t : Turn ys r) → Sq W (I l₀ l₁ l₂ l₃ l₄ l₅ l₆ l₇ l₈ l₉ u t) (runs (𝓣 .C) (𝓣 .Λ) (E l₀ l₁ l₂ l₃ l₄ l₅ l₆ l₇ l₈ l₉) code-mir.turn-1 (anyQ (afterTurn 𝓤 H (Below 𝓤 H A sooner (I l₀ l₁ l₂ l₃ l₄ l₅ l₆ l₇ l₈ l₉ u) t) (Left l₀ l₁ l₂ l₃ l₄ l₅ l₆ l₇ l₈ l₉))))
+    turns : (l₀ l₁ l₂ l₃ l₄ l₅ l₆ l₇ l₈ l₉ : ℕ) (n : CoreRecord) (u : Val) (en : n ≡ noRecord) (n-is : Is R n (u ∷ [])) (t : Turn ys r)
+        → Sq W (I l₀ l₁ l₂ l₃ l₄ l₅ l₆ l₇ l₈ l₉ u t)
+        (runs (𝓣 .C) (𝓣 .Λ) (E l₀ l₁ l₂ l₃ l₄ l₅ l₆ l₇ l₈ l₉) code-mir.turn-1
+        (anyQ (afterTurn 𝓤 H (Below 𝓤 H A sooner (I l₀ l₁ l₂ l₃ l₄ l₅ l₆ l₇ l₈ l₉ u) t) (Left l₀ l₁ l₂ l₃ l₄ l₅ l₆ l₇ l₈ l₉))))
     turns l₀ l₁ l₂ l₃ l₄ l₅ l₆ l₇ l₈ l₉ n u en n-is t = by-test (ltb (t .i) (r .cores)) (more l₀ l₁ l₂ l₃ l₄ l₅ l₆ l₇ l₈ l₉ n u en n-is t) (ends l₀ l₁ l₂ l₃ l₄ l₅ l₆ l₇ l₈ l₉ n u en n-is t)
 
-    looped : (l₀ l₁ l₂ l₃ l₄ l₅ l₆ l₇ l₈ l₉ : ℕ) (n : CoreRecord) (u : Val) → n ≡ noRecord → Is R n (u ∷ []) → ent 𝓤 (⋆ 𝓤 H A (I l₀ l₁ l₂ l₃ l₄ l₅ l₆ l₇ l₈ l₉ u (turn-first ys r))) (Wp 𝓤 H (𝓣 .C) (𝓣 .Λ) (E l₀ l₁ l₂ l₃ l₄ l₅ l₆ l₇ l₈ l₉) code-mir.t-3 (atReturn 𝓤 H (E l₀ l₁ l₂ l₃ l₄ l₅ l₆ l₇ l₈ l₉) Post))
+    looped : (l₀ l₁ l₂ l₃ l₄ l₅ l₆ l₇ l₈ l₉ : ℕ) (n : CoreRecord) (u : Val) → n ≡ noRecord → Is R n (u ∷ [])
+        → ent 𝓤 (⋆ 𝓤 H A (I l₀ l₁ l₂ l₃ l₄ l₅ l₆ l₇ l₈ l₉ u (turn-first ys r)))
+        (Wp 𝓤 H (𝓣 .C) (𝓣 .Λ) (E l₀ l₁ l₂ l₃ l₄ l₅ l₆ l₇ l₈ l₉) code-mir.t-3 (atReturn 𝓤 H (E l₀ l₁ l₂ l₃ l₄ l₅ l₆ l₇ l₈ l₉) Post))
     looped l₀ l₁ l₂ l₃ l₄ l₅ l₆ l₇ l₈ l₉ n u en n-is =
         qed W (I l₀ l₁ l₂ l₃ l₄ l₅ l₆ l₇ l₈ l₉ u (turn-first ys r)) ∵ exec ! (𝓣 .C) (𝓣 .Λ) (E l₀ l₁ l₂ l₃ l₄ l₅ l₆ l₇ l₈ l₉) code-mir.t-3 (atRet (E l₀ l₁ l₂ l₃ l₄ l₅ l₆ l₇ l₈ l₉) Post) $
         first ! $ blocks ! $ loops ! 𝓣 sooner sooner-ends (I l₀ l₁ l₂ l₃ l₄ l₅ l₆ l₇ l₈ l₉ u) (turns l₀ l₁ l₂ l₃ l₄ l₅ l₆ l₇ l₈ l₉ n u en n-is) (turn-first ys r)
 
     -- what stands once the parameters are passed
     abbrev J : ℕ → ℕ → ℕ → ℕ → ℕ → ℕ → ℕ → ℕ → ℕ → ℕ → List (Item 𝓤)
-    J l₀ l₁ l₂ l₃ l₄ l₅ l₆ l₇ l₈ l₉ = (‵ (flft κ q) ⊛ ‵ ftrue) ∷ ‵ Own ∷ ‵ (froom (τ 9) l₉ 0) ∷ ‵ (fdies (τ 9) l₉) ∷ ‵ (froom (τ 8) l₈ 0) ∷ ‵ (fdies (τ 8) l₈) ∷ ‵ (froom (τ 7) l₇ 0) ∷ ‵ (fdies (τ 7) l₇) ∷ ‵ (froom (τ 6) l₆ 0) ∷ ‵ (fdies (τ 6) l₆) ∷ ‵ (froom (τ 5) l₅ 0) ∷ ‵ (fdies (τ 5) l₅) ∷ ‵ (froom (τ 4) l₄ 0) ∷ ‵ (fdies (τ 4) l₄) ∷ ‵ (froom (τ 3) l₃ 0) ∷ ‵ (fdies (τ 3) l₃) ∷ ‵ (fat fullShare (τ 2) l₂ 0 (mach-ring r)) ∷ ‵ (fdies (τ 2) l₂) ∷ ‵ (fat fullShare (τ 1) l₁ 0 s) ∷ ‵ (fdies (τ 1) l₁) ∷ ‵ (froom (τ 0) l₀ 0) ∷ ‵ (fdies (τ 0) l₀) ∷ []
+    J l₀ l₁ l₂ l₃ l₄ l₅ l₆ l₇ l₈ l₉ =
+        (‵ (flft κ q) ⊛ ‵ ftrue) ∷ ‵ Own ∷ ‵ (froom (τ 9) l₉ 0) ∷ ‵ (fdies (τ 9) l₉) ∷ ‵ (froom (τ 8) l₈ 0) ∷ ‵ (fdies (τ 8) l₈) ∷ ‵ (froom (τ 7) l₇ 0)
+        ∷ ‵ (fdies (τ 7) l₇) ∷ ‵ (froom (τ 6) l₆ 0) ∷ ‵ (fdies (τ 6) l₆) ∷ ‵ (froom (τ 5) l₅ 0) ∷ ‵ (fdies (τ 5) l₅) ∷ ‵ (froom (τ 4) l₄ 0) ∷ ‵ (fdies (τ 4) l₄)
+        ∷ ‵ (froom (τ 3) l₃ 0) ∷ ‵ (fdies (τ 3) l₃) ∷ ‵ (fat fullShare (τ 2) l₂ 0 (mach-ring r)) ∷ ‵ (fdies (τ 2) l₂) ∷ ‵ (fat fullShare (τ 1) l₁ 0 s)
+        ∷ ‵ (fdies (τ 1) l₁) ∷ ‵ (froom (τ 0) l₀ 0) ∷ ‵ (fdies (τ 0) l₀) ∷ []
 
     begun : (l₀ l₁ l₂ l₃ l₄ l₅ l₆ l₇ l₈ l₉ : ℕ) → ent 𝓤 (⋆ 𝓤 H A (J l₀ l₁ l₂ l₃ l₄ l₅ l₆ l₇ l₈ l₉)) (Wp 𝓤 H (𝓣 .C) (𝓣 .Λ) (E l₀ l₁ l₂ l₃ l₄ l₅ l₆ l₇ l₈ l₉) code-mir.t-1 (atReturn 𝓤 H (E l₀ l₁ l₂ l₃ l₄ l₅ l₆ l₇ l₈ l₉) Post))
     begun l₀ l₁ l₂ l₃ l₄ l₅ l₆ l₇ l₈ l₉ =
@@ -254,12 +282,16 @@ module _ {M : Type 1} (𝓤 : URA M) (H : Heap 𝓤) (A : Atoms 𝓤) (W : Given
         keep ! (0 ∷ 1 ∷ 2 ∷ 3 ∷ 4 ∷ 5 ∷ 6 ∷ 7 ∷ 8 ∷ 9 ∷ 10 ∷ 11 ∷ 12 ∷ 13 ∷ 14 ∷ 15 ∷ 16 ∷ 17 ∷ 18 ∷ 19 ∷ 20 ∷ 21 ∷ []) $ by ! (begun l₀ l₁ l₂ l₃ l₄ l₅ l₆ l₇ l₈ l₉)))))))))))
 
 module _ {M : Type 1} (𝓤 : URA M) (H : Heap 𝓤) (A : Atoms 𝓤) (W : Given 𝓤 H A) (at-mem : Memory → SProp 𝓤) (run : Routine → Fun 𝓤) where
-  walks : (𝓣 : Tables 𝓤 H) → FmC 𝓤 H (W .laws) (𝓣 .C) → Triple 𝓤 (𝓣 .C #rikzord·get-or) (GetOr 𝓤 H A at-mem run) → Triple 𝓤 (𝓣 .C #snapshot·no-core) (NoCore 𝓤 H A at-mem run) → Triple 𝓤 (𝓣 .C #snapshot·place-after) (PlaceAfter 𝓤 H A at-mem run) → Triple 𝓤 (𝓣 .C #snapshot·moves) (Moves 𝓤 H A at-mem run)
+  walks : (𝓣 : Tables 𝓤 H) → FmC 𝓤 H (W .laws) (𝓣 .C) → Triple 𝓤 (𝓣 .C #rikzord·get-or) (GetOr 𝓤 H A at-mem run)
+      → Triple 𝓤 (𝓣 .C #snapshot·no-core) (NoCore 𝓤 H A at-mem run) → Triple 𝓤 (𝓣 .C #snapshot·place-after) (PlaceAfter 𝓤 H A at-mem run)
+      → Triple 𝓤 (𝓣 .C #snapshot·moves) (Moves 𝓤 H A at-mem run)
       → Walks 𝓤 H A f.ended stayed (WpFn 𝓤 H (𝓣 .C) (𝓣 .Λ) code.function) (f.clauses 𝓤 H A at-mem run)
   walks 𝓣 fm k₁ k₂ k₃ k₄ = walked 𝓤 H A f.ended stayed (f.clauses 𝓤 H A at-mem run) (WpFn 𝓤 H (𝓣 .C) (𝓣 .Λ) code.function) (λ κs. (slice-vals, (LL.vals Q.the-type Q′.the-laws, tt))) (λ κs. (shr-slice-tells (named 0) (κs .0) R, (LL.tells Q.the-type Q′.the-laws, tt)))
       (λ κs qs bounds a g are. via 𝓤 _ (fst∗ 𝓤 _ (emp 𝓤)) (walk 𝓤 H A W at-mem run (κs .0) (qs .0) (a .0 .ptr .0) (a .0 .ptr .1) (a .0 .name) (a .0 .now) (a .1 .0) (are .0 .0 .1) (are .1 .0) 𝓣 fm k₁ k₂ k₃ k₄))
 
-meets : {M : Type 1} (𝓤 : URA M) (H : Heap 𝓤) (A : Atoms 𝓤) → Given 𝓤 H A → (at-mem : Memory → SProp 𝓤) (run : Routine → Fun 𝓤) (𝓣 : Tables 𝓤 H) → Triple 𝓤 (𝓣 .C #rikzord·get-or) (GetOr 𝓤 H A at-mem run) → Triple 𝓤 (𝓣 .C #snapshot·no-core) (NoCore 𝓤 H A at-mem run) → Triple 𝓤 (𝓣 .C #snapshot·place-after) (PlaceAfter 𝓤 H A at-mem run) → Triple 𝓤 (𝓣 .C #snapshot·moves) (Moves 𝓤 H A at-mem run)
+meets : {M : Type 1} (𝓤 : URA M) (H : Heap 𝓤) (A : Atoms 𝓤) → Given 𝓤 H A → (at-mem : Memory → SProp 𝓤) (run : Routine → Fun 𝓤) (𝓣 : Tables 𝓤 H)
+    → Triple 𝓤 (𝓣 .C #rikzord·get-or) (GetOr 𝓤 H A at-mem run) → Triple 𝓤 (𝓣 .C #snapshot·no-core) (NoCore 𝓤 H A at-mem run)
+    → Triple 𝓤 (𝓣 .C #snapshot·place-after) (PlaceAfter 𝓤 H A at-mem run) → Triple 𝓤 (𝓣 .C #snapshot·moves) (Moves 𝓤 H A at-mem run)
     → Meets 𝓤 H A f.signature (WpFn 𝓤 H (𝓣 .C) (𝓣 .Λ) code.function) (f.spec 𝓤 H A at-mem run)
 meets 𝓤 H A W at-mem run 𝓣 k₁ k₂ k₃ k₄ = walk-meets 𝓤 H A f.ended stayed W (goes-none-slice 𝓤 H A W 1 (0 ∷ []) tt (plain (λ _. R)) yes, (goes-none 𝓤 H A W 1 (λ _. Q.the-row) yes (λ κs x f. refl), tt)) (f.clauses 𝓤 H A at-mem run)
     (WpFn 𝓤 H (𝓣 .C) (𝓣 .Λ) code.function) (WpFn-mono 𝓤 H (W .laws) 𝓣 code.function) (walks 𝓤 H A W at-mem run 𝓣 (fmOf 𝓤 H (W .laws) 𝓣) k₁ k₂ k₃ k₄)
