@@ -1,5 +1,9 @@
 pub mod Unchanged
 pub mod Back
+pub mod TableState
+pub mod OneCall
 pub mod Calling
+pub mod WithRegisters
+pub mod ByValue
 pub mod Profiles
 pub mod Rerun

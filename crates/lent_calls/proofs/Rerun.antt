@@ -37,7 +37,10 @@ use Rattle.rikzord.specs.Lent.{recordAt, loaded, storedRecords, Lent, lent, wri
 use Rattle.lent_calls.specs.Calling.{LentCall, over, leavesLent, wholeLent, countsLent, lentStepsOf}
 use Rattle.lent_calls.specs.Rerun.{writtenLentBy, writtenLentOf, LentRerun}
 use Rattle.lent_calls.proofs.Unchanged.{taken-refused}
-use Rattle.lent_calls.proofs.Calling.{byValue, Ready, state-same, stored-length, stored-at, rows-all, rows-known, lent-counted, fresh-granted, fresh-ready, lent-fresh, lent-interleaved, table-number, run-number, run-listed}
+use Rattle.lent_calls.proofs.TableState.{state-same, stored-length, stored-at}
+use Rattle.lent_calls.proofs.OneCall.{byValue, Ready, rows-all, rows-known, lent-counted}
+use Rattle.lent_calls.proofs.Calling.{fresh-granted, fresh-ready, lent-fresh, lent-interleaved}
+use Rattle.lent_calls.proofs.ByValue.{table-number, run-number, run-listed}
 
 -- ---- what a call wrote
 

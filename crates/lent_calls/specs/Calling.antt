@@ -2,8 +2,8 @@
 -- too; and step calls that are lent the registers of their core. They are those of crate calls (specs/Calling), made over the C interface.
 -- In order: a call and what it leaves; lists of calls; the steps that they count as; the claim; steps with lent registers; the same list by value; a run's takings.
 -- `lent-interleaved` of proofs/Calling proves `LentInterleaved`, which is demand 3 of every list of lent calls; `lent-fair` proves `LentFair`, the fair line of
--- document 02, 2.4 of it; `mixed-interleaved` proves
--- `MixedInterleaved`, by `registers-leave`, `lent-by-value` proves `SameCalls`, `run-listed` `RunLentListed`. Not here: what each call is for every input (specs/Lent); that a refused call leaves all (proofs/Unchanged).
+-- document 02, 2.4 of it. `mixed-interleaved` of proofs/WithRegisters proves `MixedInterleaved`, by `registers-leave`; `lent-by-value` of proofs/ByValue proves
+-- `SameCalls`, `run-listed` `RunLentListed`. Not here: what each call is for every input (specs/Lent); that a refused call leaves all (proofs/Unchanged).
 use mathlib.Core.Path.{_≡_}
 use mathlib.Core.List.{List, [], _∷_, _++_, map}
 use Prim.Native.Nat.{ℕ}
