@@ -29,7 +29,7 @@ use Rattle.protocol.specs.Instruction.{Executed, backFrom, appliedBy, applied, 
 use Rattle.protocol.specs.Variables.{In}
 use Rattle.protocol.proofs.Bytes.{in-left, in-right}
 use Rattle.races.specs.Footprint.{controlOf, stretch, DataFootprint, DataFootprintsRight}
-use Rattle.races.proofs.Footprint.{withData, by-control}
+use Rattle.races.proofs.Places.{withData, by-control}
 use Rattle.races.proofs.Stretch.{splice-outside, splice-inside, read-alike, part-alike}
 use Rattle.code.specs.declared.Instruction.{Instruction}
 use Rattle.code.specs.declared.Instruction.the-variants.{Return, Jump, JumpZero, JumpNotZero, CallInstance, CallFunction, MoveConstant, CopyMemory, ReadElement, WriteElement, Typed, CycleTime, FlagByte, Convert, Pack, Unpack, Unknown}

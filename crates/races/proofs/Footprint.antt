@@ -1,105 +1,29 @@
--- What specs/Footprint claims: footprints are right, cores do not race, and steps that do not both touch the semaphore can change places.
--- In order: places; what a step changes; on what it depends; no races; two steps; lists of steps. Assumes nothing.
+-- The first claim of specs/Footprint: footprints are right. A step changes only places that it writes, and what it writes there depends only on places
+-- that it reads. In order: what a step changes; on what it depends; the claim.
+-- Not here: the places themselves (`Places`), that cores do not race (`RaceFree`), steps that change places (`Swaps`). Assumes nothing.
 use mathlib.Core.Path.{_≡_, refl, sym, ap, _∙_, subst}
-use mathlib.Core.Logic.{_≢_, _⊎_, inl, inr}
+use mathlib.Core.Logic.{_≢_, inl, inr}
 use mathlib.Core.Bool.{Bool, true, false}
 use mathlib.Core.List.{List, [], _∷_, _++_}
-use Prim.Native.Nat.{ℕ, zero, suc, _≤_, _<_}
-use native.Mathlib.Decide.{map-dec, ℕ-discrete}
+use Prim.Native.Nat.{ℕ, zero, suc, _<_}
+use native.Mathlib.Decide.{ℕ-discrete}
 use native.Mathlib.Omega.{arith}
 use lib.Dec.{eqb}
 use lib.ListN.{length, getD, set, take, drop}
-use lib.Seq.{getD-set-other, ext-getD}
+use lib.Seq.{getD-set-other}
 use Rattle.verdict.specs.Verdict.{pick}
-use Rattle.memory.specs.Memory.{splice}
-use Rattle.protocol.specs.Registers.{readAcquired}
 use Rattle.protocol.specs.Modes.{stopped}
 use Rattle.protocol.specs.State.{Core, Semaphore, State, Move, Sample, Task, absent, mode}
-use Rattle.protocol.specs.Step.{acquiredBy, released, joinedBy, copy, uncopied, turn, readTaken, readNext, readDone, writeTaken, writeNext, writeDone, takeRead, readOn, takeWrite, writeOn, stepIn, step, run, Taking, taken, takingOf, takings}
-use Rattle.protocol.specs.Laws.{Laws, FreshStart, Holding, SemaphoreHeld}
+use Rattle.protocol.specs.Step.{acquiredBy, released, joinedBy, copy, uncopied, turn, readTaken, readNext, readDone, writeTaken, writeNext, writeDone, takeRead, readOn, takeWrite, writeOn, stepIn, step, Taking, taken, takingOf}
+use Rattle.protocol.specs.Laws.{Laws}
 use Rattle.protocol.specs.Variables.{In}
-use Rattle.races.specs.Footprint.{Place, control, local, byte, semaphore, Control, controlOf, SameAt, stretch, DataFootprints, SameSources, DataFootprintsRight, Footprint, locals, inputs, unspent, takingWrites, sources, targets, release, footprintIn, footprint, Writes, Touches, SameRead, FootprintRight, RaceFree, Independent, Alike, Swaps, none, swap, later, more}
-use Rattle.protocol.proofs.Runs.{task, start, samples, variables}
+use Rattle.races.specs.Footprint.{Place, control, local, byte, semaphore, Control, controlOf, SameAt, stretch, DataFootprints, SameSources, DataFootprintsRight, Footprint, locals, inputs, unspent, takingWrites}
+use Rattle.races.specs.Footprint.{sources, targets, release, footprintIn, footprint, Writes, SameRead, FootprintRight}
 use Rattle.protocol.proofs.View.{inside, there, Wants, after, at, Moves, rests, waits, takesRead, readsOn, readsLast, runs, takesWrite, writesOn, writesLast, view, past-modes}
-use Rattle.protocol.proofs.Bytes.{in-append, in-left, in-right}
-use Rattle.protocol.proofs.Steps.{others-stay, lengths, only, held-step, held-fresh, held-run}
+use Rattle.protocol.proofs.Bytes.{in-left, in-right}
+use Rattle.protocol.proofs.Steps.{lengths}
 use Rattle.races.proofs.Stretch.{store-same, splice-outside, splice-inside}
-
--- ---- places
-
-never : _≡_ {A = ℕ} 0 1 → ⊥
-never z = omega arith
-
--- places and lists of places can be told apart
-place? : (p q : Place) → Dec (p ≡ q)
-place? (control i) (control k) = map-dec (ap control) (λ e. cc) (ℕ-discrete i k)
-place? (local i a) (local k b) = go (ℕ-discrete i k) (ℕ-discrete a b)
-  where
-    go : Dec (i ≡ k) → Dec (a ≡ b) → Dec (local i a ≡ local k b)
-    go (yes e) (yes z) = yes (λ x. local (e x) (z x))
-    go (yes e) (no n) = no (λ z. n (cc))
-    go (no n) d = no (λ z. n (cc))
-place? (byte i) (byte k) = map-dec (ap byte) (λ e. cc) (ℕ-discrete i k)
-place? semaphore semaphore = yes refl
-place? (control i) (local k b) = no (λ e. never (cc))
-place? (control i) (byte k) = no (λ e. never (cc))
-place? (control i) semaphore = no (λ e. never (cc))
-place? (local i a) (control k) = no (λ e. never (cc))
-place? (local i a) (byte k) = no (λ e. never (cc))
-place? (local i a) semaphore = no (λ e. never (cc))
-place? (byte i) (control k) = no (λ e. never (cc))
-place? (byte i) (local k b) = no (λ e. never (cc))
-place? (byte i) semaphore = no (λ e. never (cc))
-place? semaphore (control k) = no (λ e. never (cc))
-place? semaphore (local k b) = no (λ e. never (cc))
-place? semaphore (byte k) = no (λ e. never (cc))
-
-in? : (p : Place) (ps : List Place) → Dec (In p ps)
-in? p [] = no (λ h. h)
-in? p (q ∷ ps) = go (place? p q) (in? p ps)
-  where
-    none-of : p ≢ q → (In p ps → ⊥) → In p (q ∷ ps) → ⊥
-    none-of n m (inl e) = n e
-    none-of n m (inr h) = m h
-
-    go : Dec (p ≡ q) → Dec (In p ps) → Dec (In p (q ∷ ps))
-    go (yes e) d = yes (inl e)
-    go (no n) (yes h) = yes (inr h)
-    go (no n) (no m) = no (none-of n m)
-
--- the bytes of a core's data among places
-in-locals : (k : ℕ) (is : List ℕ) (i : ℕ) → In i is → In (local k i) (locals k is)
-in-locals k [] i h = h
-in-locals k (x ∷ is) i (inl e) = inl (ap (local k) e)
-in-locals k (x ∷ is) i (inr h) = inr (in-locals k is i h)
-
-by-local : (P : Place → Type 0) (k : ℕ) (is : List ℕ) → ((i : ℕ) → In i is → P (local k i)) → (p : Place) → In p (locals k is) → P p
-by-local P k [] f p h = absurd h
-by-local P k (x ∷ is) f p (inl e) = subst P (sym e) (f x (inl refl))
-by-local P k (x ∷ is) f p (inr h) = by-local P k is (λ i m. f i (inr m)) p h
-
--- a core is its registers with its call stack, and its data
-abbrev pub withData : Control → List ℕ → Core
-withData c m = record { registers = c .registers; stack = c .stack; memory = m }
-
--- what holds of c's registers and call stack with the data of c′ holds of c′, where these are the same
-pub by-control : (P : Core → Type 0) (c c′ : Core) → controlOf c ≡ controlOf c′ → P (withData (controlOf c) (c′ .memory)) → P c′
-by-control P c c′ e x = subst (λ (z : Control). P (withData z (c′ .memory))) e x
-
-same-core : (c c′ : Core) → controlOf c ≡ controlOf c′ → length (c .memory) ≡ length (c′ .memory) → ((i : ℕ) → getD (c .memory) i 0 ≡ getD (c′ .memory) i 0) → c ≡ c′
-same-core c c′ e l m = λ x. record { registers = e x .registers; stack = e x .stack; memory = ext-getD 0 (c .memory) (c′ .memory) l (λ i h. m i) x }
-
--- states that have the same everywhere are the same
-same-state : (s s′ : State) → length (s .plant .cores) ≡ length (s′ .plant .cores) → ((k : ℕ) → length (at s k .memory) ≡ length (at s′ k .memory))
-    → length (s .plant .shared) ≡ length (s′ .plant .shared) → ((p : Place) → SameAt p s s′) → s ≡ s′
-same-state s s′ a l b h =
-    λ x. record {
-      plant = record {
-        cores = ext-getD absent (s .plant .cores) (s′ .plant .cores) a (λ k z. same-core (at s k) (at s′ k) (h (control k)) (l k) (λ i. h (local k i))) x;
-        shared = ext-getD 0 (s .plant .shared) (s′ .plant .shared) b (λ i z. h (byte i)) x;
-      };
-      semaphore = h semaphore x;
-    }
+use Rattle.races.proofs.Places.{in?, in-locals, by-local, withData, by-control}
 
 -- ---- what a step changes
 
@@ -170,13 +94,13 @@ module _ (t : Task) (o : DataFootprints) (right : DataFootprintsRight t o) (k : 
       elsewhere s k _ _ _ i p (λ z. n (inl z)) (λ a z. refl) (copy-kept byte (uncopied (at s k) (t .writes k)) (at s k .memory) (s .plant .shared) p (λ h. n (inr (inr h))))
       (λ z. absurd (n (inr (inl z))))
 
-  unwritten : (p : Place) → (Writes t o k s p → ⊥) → SameAt p s (step t k s)
+  pub unwritten : (p : Place) → (Writes t o k s p → ⊥) → SameAt p s (step t k s)
   unwritten = changes-of (step t k s) (takingOf t k s) (view t k s)
 
 -- ---- on what a step depends
 
 -- a stopped core reads its registers, and writes nothing
-stopped-places : (n : ℕ) (t : Task) (o : DataFootprints) (k : ℕ) (c : Core) (b : Bool) → footprintIn (suc (suc (suc (suc (suc n))))) t o k c b ≡ record { reads = control k ∷ []; writes = [] }
+pub stopped-places : (n : ℕ) (t : Task) (o : DataFootprints) (k : ℕ) (c : Core) (b : Bool) → footprintIn (suc (suc (suc (suc (suc n))))) t o k c b ≡ record { reads = control k ∷ []; writes = [] }
 unfolding pick
 stopped-places n t o k c b =
     let past : (i : ℕ) → i < stopped → eqb (suc (suc (suc (suc (suc n))))) i ≡ false = λ i l. past-modes (suc (suc (suc (suc (suc n))))) i (omega arith) l in
@@ -348,13 +272,13 @@ module _ (t : Task) (o : DataFootprints) (right : DataFootprintsRight t o) (k : 
   unfolding footprint
   control-too = a .read (control k) (control-read (mode (at s k)) t o k (at s k) (turn (s .semaphore) k))
 
-  same-places : footprint t o k s ≡ footprint t o k s′
+  pub same-places : footprint t o k s ≡ footprint t o k s′
   unfolding footprint
   same-places =
       by-control (λ (c : Core). footprintIn (mode (at s k)) t o k (at s k) (turn (s .semaphore) k) ≡ footprintIn (mode c) t o k c (turn (s′ .semaphore) k)) (at s k) (at s′ k) control-too
       (places-in t o right k s s′ (a .size) control-too (a .data-size) (mode (at s k)) (a .read))
 
-  same-written : (p : Place) → Writes t o k s p → SameAt p (step t k s) (step t k s′)
+  pub same-written : (p : Place) → Writes t o k s p → SameAt p (step t k s) (step t k s′)
   unfolding footprint step
   same-written p h =
       by-control (λ (c : Core). SameAt p (stepIn (mode (at s k)) t k (at s k) s) (stepIn (mode c) t k c s′)) (at s k) (at s′ k) control-too
@@ -368,7 +292,7 @@ module _ (t : Task) (o : DataFootprints) (right : DataFootprintsRight t o) (k : 
       go (yes h) = same-written (control k) h
       go (no n) = sym (unwritten t o right k s (control k) n) ∙ control-too ∙ unwritten t o right k s′ (control k) (rw same-places at n)
 
-  same-taking : takingOf t k s ≡ takingOf t k s′
+  pub same-taking : takingOf t k s ≡ takingOf t k s′
   unfolding takingOf
   same-taking = λ x. taken (control-too x .registers .mode) (same-control-after x .registers .mode) k
 
@@ -383,309 +307,3 @@ footprint-right t l o right k s = record {
   written = same-written t o right k s;
   taking = same-taking t o right k s;
 }
-
--- ---- no races
-
--- a place of core k's step: its registers, a byte of its data, the semaphore, or in an exchange a shared byte
-data Kind (k : ℕ) (c : Core) (p : Place) : Type 0 where
-  its-control : p ≡ control k → Kind k c p
-  its-data : (i : ℕ) → p ≡ local k i → Kind k c p
-  asked : p ≡ semaphore → Kind k c p
-  copied : (i : ℕ) → p ≡ byte i → Holding c → Kind k c p
-
-record Kinds (k : ℕ) (c : Core) (ps : List Place) : Type 0 where
-  each : (p : Place) → In p ps → Kind k c p
-
-module _ (t : Task) (o : DataFootprints) (k : ℕ) (c : Core) where
-  none-at-all : Kinds k c []
-  none-at-all = record { each = λ p h. absurd h }
-
-  -- one place more
-  with-one : (q : Place) {ps : List Place} → Kind k c q → Kinds k c ps → Kinds k c (q ∷ ps)
-  with-one q {ps} x z = record { each = go }
-    where
-      go : (p : Place) → In p (q ∷ ps) → Kind k c p
-      go p (inl e) = subst (Kind k c) (sym e) x
-      go p (inr h) = z .each p h
-
-  with-control : {ps : List Place} → Kinds k c ps → Kinds k c (control k ∷ ps)
-  with-control z = with-one (control k) (its-control refl) z
-
-  with-semaphore : {ps : List Place} → Kinds k c ps → Kinds k c (semaphore ∷ ps)
-  with-semaphore z = with-one semaphore (asked refl) z
-
-  with-release : (ms : List Move) (ps : List Place) → Kinds k c ps → Kinds k c (release ms ++ ps)
-  with-release [] ps z = with-semaphore z
-  with-release (m ∷ ms) ps z = z
-
-  kinds-locals : (is : List ℕ) → Kinds k c (locals k is)
-  kinds-locals is = record { each = by-local (Kind k c) k is (λ i m. its-data i refl) }
-
-  -- the byte that is copied, of data or of shared memory
-  kinds-sources : (place : ℕ → Place) (ms : List Move) → ((i : ℕ) → Kind k c (place i)) → Kinds k c (sources place ms)
-  kinds-sources place [] y = none-at-all
-  kinds-sources place (m ∷ ms) y = with-one (place (m .source)) (y (m .source)) none-at-all
-
-  kinds-targets : (place : ℕ → Place) (ms : List Move) → ((i : ℕ) → Kind k c (place i)) → Kinds k c (targets place ms)
-  kinds-targets place [] y = none-at-all
-  kinds-targets place (m ∷ ms) y = with-one (place (m .target)) (y (m .target)) none-at-all
-
-  kinds-unspent : (rs : List Sample) (ps : List Place) → Kinds k c ps → Kinds k c (unspent rs ps)
-  kinds-unspent [] ps z = none-at-all
-  kinds-unspent (r ∷ rs) ps z = z
-
-  kinds-turn : (b : Bool) (ps : List Place) → Kinds k c ps → Kinds k c (takingWrites b k ps)
-  kinds-turn true ps z = with-control (with-semaphore z)
-  kinds-turn false ps z = with-semaphore none-at-all
-
-  kinds-inputs : (rs : List Sample) → Kinds k c (inputs k rs)
-  kinds-inputs [] = none-at-all
-  kinds-inputs (r ∷ rs) = kinds-locals (stretch 0 (length (r .input)))
-
-  reads-kinds : (n : ℕ) (b : Bool) → mode c ≡ n → Kinds k c (footprintIn n t o k c b .reads)
-  unfolding pick
-  reads-kinds zero b e = with-control (kinds-unspent (drop (c .registers .cycles) (t .samples k)) (semaphore ∷ []) (with-semaphore none-at-all))
-  reads-kinds (suc zero) b e =
-      let ms = uncopied c (t .reads k) in with-control (with-release (drop 1 ms) (sources byte ms) (kinds-sources byte ms (λ i. copied i refl (inl e))))
-  reads-kinds (suc (suc zero)) b e = with-control (kinds-locals (o k c .reads))
-  reads-kinds (suc (suc (suc zero))) b e = with-control (with-semaphore none-at-all)
-  reads-kinds (suc (suc (suc (suc zero)))) b e =
-      let ms = uncopied c (t .writes k) in with-control (with-release (drop 1 ms) (sources (local k) ms) (kinds-sources (local k) ms (λ i. its-data i refl)))
-  reads-kinds (suc (suc (suc (suc (suc n))))) b e = rw (stopped-places n t o k c b) (with-control none-at-all)
-
-  writes-kinds : (n : ℕ) (b : Bool) → mode c ≡ n → Kinds k c (footprintIn n t o k c b .writes)
-  unfolding pick
-  writes-kinds zero b e =
-      let rs = drop (c .registers .cycles) (t .samples k) in kinds-unspent rs (takingWrites b k (inputs k rs)) (kinds-turn b (inputs k rs) (kinds-inputs rs))
-  writes-kinds (suc zero) b e =
-      let ms = uncopied c (t .reads k) in with-control (with-release (drop 1 ms) (targets (local k) ms) (kinds-targets (local k) ms (λ i. its-data i refl)))
-  writes-kinds (suc (suc zero)) b e = with-control (kinds-locals (o k c .writes))
-  writes-kinds (suc (suc (suc zero))) b e = kinds-turn b [] none-at-all
-  writes-kinds (suc (suc (suc (suc zero)))) b e =
-      let ms = uncopied c (t .writes k) in with-control (with-release (drop 1 ms) (targets byte ms) (kinds-targets byte ms (λ i. copied i refl (inr e))))
-  writes-kinds (suc (suc (suc (suc (suc n))))) b e = rw (stopped-places n t o k c b) none-at-all
-
-kind : (t : Task) (o : DataFootprints) (k : ℕ) (s : State) (p : Place) → Touches t o k s p → Kind k (at s k) p
-unfolding footprint
-kind t o k s p (inl h) = reads-kinds t o k (at s k) (mode (at s k)) (turn (s .semaphore) k) refl .each p h
-kind t o k s p (inr h) = writes-kinds t o k (at s k) (mode (at s k)) (turn (s .semaphore) k) refl .each p h
-
-module _ (t : Task) (o : DataFootprints) (s : State) (x : SemaphoreHeld s) where
-  kinds-meet : (j k : ℕ) → j ≢ k → (p : Place) → Kind j (at s j) p → Kind k (at s k) p → p ≡ semaphore
-  kinds-meet j k n p (asked e) b = e
-  kinds-meet j k n p (its-control e) (asked f) = f
-  kinds-meet j k n p (its-data i e) (asked f) = f
-  kinds-meet j k n p (copied i e y) (asked f) = f
-  kinds-meet j k n p (its-control e) (its-control f) = absurd (n (cc))
-  kinds-meet j k n p (its-data i e) (its-data i′ f) = absurd (n (cc))
-  kinds-meet j k n p (its-control e) (its-data i f) = absurd (never (cc))
-  kinds-meet j k n p (its-data i e) (its-control f) = absurd (never (cc))
-  kinds-meet j k n p (its-control e) (copied i f y) = absurd (never (cc))
-  kinds-meet j k n p (its-data i e) (copied i′ f y) = absurd (never (cc))
-  kinds-meet j k n p (copied i e y) (its-control f) = absurd (never (cc))
-  kinds-meet j k n p (copied i e y) (its-data i′ f) = absurd (never (cc))
-  kinds-meet j k n p (copied i e y) (copied i′ f y′) = absurd (only s x k y′ j n y)
-
-  kind-byte : (k i : ℕ) → Kind k (at s k) (byte i) → s .semaphore .holder ≡ suc k
-  kind-byte k i (its-control e) = absurd (never (cc))
-  kind-byte k i (its-data i′ e) = absurd (never (cc))
-  kind-byte k i (asked e) = absurd (never (cc))
-  kind-byte k i (copied i′ e y) = x .held k y
-
-  kind-control : (j k : ℕ) → Kind k (at s k) (control j) → j ≡ k
-  kind-control j k (its-control e) = cc
-  kind-control j k (its-data i e) = absurd (never (cc))
-  kind-control j k (asked e) = absurd (never (cc))
-  kind-control j k (copied i e y) = absurd (never (cc))
-
-  kind-local : (j i k : ℕ) → Kind k (at s k) (local j i) → j ≡ k
-  kind-local j i k (its-data i′ e) = cc
-  kind-local j i k (its-control e) = absurd (never (cc))
-  kind-local j i k (asked e) = absurd (never (cc))
-  kind-local j i k (copied i′ e y) = absurd (never (cc))
-
-  -- In every state whose holder is the core in an exchange, cores do not race
-  pub race-free-held : RaceFree t o s
-  race-free-held = record {
-    no-race = λ j k n p w h. kinds-meet j k n p (kind t o j s p (inr w)) (kind t o k s p h);
-    by-holder = λ k i h. kind-byte k i (kind t o k s (byte i) h);
-    control-alone = λ j k h. kind-control j k (kind t o k s (control j) h);
-    local-alone = λ j i k h. kind-local j i k (kind t o k s (local j i) h);
-  }
-
--- After every list of steps from a fresh state, cores do not race
-pub race-free : (t : Task) → Laws t → (o : DataFootprints) (s : State) → FreshStart s → (ks : List ℕ) → RaceFree t o (run t ks s)
-race-free t l o s f ks = race-free-held t o (run t ks s) (held-run t l s f ks)
-
--- ---- two steps
-
-turned : {t : Task} {o : DataFootprints} {j k : ℕ} {s : State} → Independent t o j k s → Independent t o k j s
-turned d = record { different = λ e. d .different (sym e); not-both = λ a b. d .not-both b a }
-
-module _ (t : Task) (l : Laws t) (o : DataFootprints) (right : DataFootprintsRight t o) (s : State) (x : SemaphoreHeld s) where
-  -- what one writes, the other does not touch
-  apart : {j k : ℕ} → Independent t o j k s → (p : Place) → Writes t o j s p → Touches t o k s p → ⊥
-  apart {j} {k} d p w h = let e = race-free-held t o s x .no-race j k (d .different) p w h in d .not-both (inr (rw e at w)) (rw e at h)
-
-  -- core k's step does not change what core j's reads
-  still-read : {j k : ℕ} → Independent t o j k s → SameRead t o j s (step t k s)
-  still-read {j} {k} d = record {
-    size = sym (lengths t l k s .shared);
-    data-size = sym (lengths t l k s .memories j);
-    read = λ p h. unwritten t o right k s p (λ w. apart (turned d) p w (inl h));
-  }
-
-  -- what core k's step does not write from s, it does not write after core j's step either
-  then-kept : {j k : ℕ} → Independent t o j k s → (p : Place) → (Writes t o k s p → ⊥) → SameAt p (step t j s) (step t k (step t j s))
-  then-kept {j} {k} d p n = unwritten t o right k (step t j s) p (λ w. n (rw (← same-places t o right k s (step t j s) (still-read (turned d))) at w))
-
-  -- what core j's step writes stands there in the end, whichever comes first
-  either-way : {j k : ℕ} → Independent t o j k s → (p : Place) → Writes t o j s p → SameAt p (step t k (step t j s)) (step t j (step t k s))
-  either-way {j} {k} d p w = sym (then-kept d p (λ h. apart d p w (inr h))) ∙ same-written t o right j s (step t k s) (still-read d) p w
-
-  commute : {j k : ℕ} → Independent t o j k s → step t k (step t j s) ≡ step t j (step t k s)
-  commute {j} {k} d =
-      same-state (step t k (step t j s)) (step t j (step t k s))
-      (lengths t l k (step t j s) .cores ∙ lengths t l j s .cores ∙ sym (lengths t l j (step t k s) .cores ∙ lengths t l k s .cores))
-      (λ i. lengths t l k (step t j s) .memories i ∙ lengths t l j s .memories i ∙ sym (lengths t l j (step t k s) .memories i ∙ lengths t l k s .memories i))
-      (lengths t l k (step t j s) .shared ∙ lengths t l j s .shared ∙ sym (lengths t l j (step t k s) .shared ∙ lengths t l k s .shared))
-      (λ p. go p (in? p (footprint t o j s .writes)) (in? p (footprint t o k s .writes)))
-    where
-      go : (p : Place) → Dec (Writes t o j s p) → Dec (Writes t o k s p) → SameAt p (step t k (step t j s)) (step t j (step t k s))
-      go p (yes w) b = either-way d p w
-      go p (no a) (yes w) = sym (either-way (turned d) p w)
-      go p (no a) (no b) = sym (unwritten t o right j s p a ∙ then-kept d p b) ∙ unwritten t o right k s p b ∙ then-kept (turned d) p a
-
--- a taking touches the semaphore
-taking-asks : (t : Task) (o : DataFootprints) (k : ℕ) (s s′ : State) (ts : List Taking) → Moves t k s s′ ts → (ts ≡ []) ⊎ Touches t o k s semaphore
-unfolding footprint pick
-taking-asks t o k s s′ ts (rests z) = inl refl
-taking-asks t o k s s′ ts (waits i w b) = inl refl
-taking-asks t o k s s′ ts (takesRead r rs i f b e d) = inr (inl (rw (e, d) (inr (inl refl))))
-taking-asks t o k s s′ ts (readsOn m ms i e d) = inl refl
-taking-asks t o k s s′ ts (readsLast i e d) = inl refl
-taking-asks t o k s s′ ts (runs i e) = inl refl
-taking-asks t o k s s′ ts (takesWrite i f b e) = inr (inl (rw e (inr (inl refl))))
-taking-asks t o k s s′ ts (writesOn m ms i e d) = inl refl
-taking-asks t o k s s′ ts (writesLast i e d) = inl refl
-
--- of two such steps at most one is a taking
-one-takes : (t : Task) (o : DataFootprints) (j k : ℕ) (s : State) → Independent t o j k s → (ts : List Taking)
-    → takingOf t j s ++ (takingOf t k s ++ ts) ≡ takingOf t k s ++ (takingOf t j s ++ ts)
-one-takes t o j k s d ts = go (taking-asks t o j s _ _ (view t j s)) (taking-asks t o k s _ _ (view t k s))
-  where
-    go : (takingOf t j s ≡ []) ⊎ Touches t o j s semaphore → (takingOf t k s ≡ []) ⊎ Touches t o k s semaphore
-        → takingOf t j s ++ (takingOf t k s ++ ts) ≡ takingOf t k s ++ (takingOf t j s ++ ts)
-    go (inl e) y = rw e
-    go (inr h) (inl e) = rw e
-    go (inr h) (inr i) = absurd (d .not-both h i)
-
--- ---- lists of steps
-
-module _ (t : Task) (l : Laws t) (o : DataFootprints) (right : DataFootprintsRight t o) where
-  swap-alike : {j k : ℕ} (ks : List ℕ) (s : State) → SemaphoreHeld s → Independent t o j k s → Alike t (j ∷ k ∷ ks) (k ∷ j ∷ ks) s
-  swap-alike {j} {k} ks s x d = record {
-    end = ap (run t ks) (commute t l o right s x d);
-    takings-same =
-        rw (← same-taking t o right j s (step t k s) (still-read t l o right s x d), ← same-taking t o right k s (step t j s) (still-read t l o right s x (turned d)), commute t l o right s x d)
-        (one-takes t o j k s d (takings t ks (step t j (step t k s))));
-  }
-
-  -- Lists of steps from such a state that differ by such changes of places end alike, with the same takings
-  pub alike : {s : State} {js ks : List ℕ} → SemaphoreHeld s → Swaps t o s js ks → Alike t js ks s
-  alike x none = record { end = refl; takings-same = refl }
-  alike {s} x (swap {ks = ks} d) = swap-alike ks s x d
-  alike {s} x (later {k = k} w) =
-      let y = alike (held-step t l k s x) w in record { end = y .end; takings-same = ap (λ (ts : List Taking). takingOf t k s ++ ts) (y .takings-same) }
-  alike x (more v w) = let y = alike x v in let z = alike x w in record { end = y .end ∙ z .end; takings-same = y .takings-same ∙ z .takings-same }
-
-  -- After every list of steps from a fresh state: two steps of different cores that do not both touch the semaphore can change places
-  pub steps-commute : (s : State) → FreshStart s → (is : List ℕ) (j k : ℕ) → Independent t o j k (run t is s) → Alike t (j ∷ k ∷ []) (k ∷ j ∷ []) (run t is s)
-  steps-commute s f is j k d = swap-alike [] (run t is s) (held-run t l s f is) d
-
-  -- Lists of steps from a fresh state that differ by such changes of places end alike, with the same takings
-  pub swaps-alike : (s : State) → FreshStart s → (js ks : List ℕ) → Swaps t o s js ks → Alike t js ks s
-  swaps-alike s f js ks w = alike (held-fresh s f) w
-
--- Changes of places can be taken back
-pub swaps-back : {t : Task} {o : DataFootprints} {s : State} {js ks : List ℕ} → Swaps t o s js ks → Swaps t o s ks js
-swaps-back none = none
-swaps-back (swap d) = swap (turned d)
-swaps-back (later w) = later (swaps-back w)
-swaps-back (more v w) = more (swaps-back w) (swaps-back v)
-
--- data, or a byte that is copied, is not the semaphore
-not-data : (k : ℕ) (is : List ℕ) → In semaphore (locals k is) → ⊥
-not-data k is h = go (by-local (λ (p : Place). p ≢ semaphore) k is (λ i m e. never (cc)) semaphore h)
-  where
-    go : semaphore ≢ semaphore → ⊥
-    go n = n refl
-
-not-target : (place : ℕ → Place) → ((i : ℕ) → semaphore ≢ place i) → (ms : List Move) → In semaphore (targets place ms) → ⊥
-not-target place n [] h = h
-not-target place n (m ∷ ms) (inl e) = n (m .target) e
-not-target place n (m ∷ ms) (inr h) = h
-
--- An instruction does not touch the semaphore
-pub instruction-alone : (t : Task) (o : DataFootprints) (k : ℕ) (s : State) → mode (at s k) ≡ 2 → Touches t o k s semaphore → ⊥
-unfolding footprint pick
-instruction-alone t o k s e h = go (rw e at h)
-  where
-    go : In semaphore (control k ∷ locals k (o k (at s k) .reads)) ⊎ In semaphore (control k ∷ locals k (o k (at s k) .writes)) → ⊥
-    go (inl (inl z)) = never (cc)
-    go (inl (inr m)) = not-data k (o k (at s k) .reads) m
-    go (inr (inl z)) = never (cc)
-    go (inr (inr m)) = not-data k (o k (at s k) .writes) m
-
--- a step that touches the semaphore reads it, whosever turn it is
-module _ (t : Task) (o : DataFootprints) (k : ℕ) (c : Core) (b b′ : Bool) where
-  released-read : (place from-place : ℕ → Place) → ((i : ℕ) → semaphore ≢ place i) → (ns ms : List Move) → In semaphore (control k ∷ release ns ++ targets place ms)
-      → In semaphore (control k ∷ release ns ++ sources from-place ms)
-  released-read place from-place n ns ms (inl z) = inl z
-  released-read place from-place n ns ms (inr h) = go (in-append semaphore (release ns) (targets place ms) h)
-    where
-      go : In semaphore (release ns) ⊎ In semaphore (targets place ms) → In semaphore (control k ∷ release ns ++ sources from-place ms)
-      go (inl r) = inr (in-left semaphore (release ns) (sources from-place ms) r)
-      go (inr r) = absurd (not-target place n ms r)
-
-  asks-in : (n : ℕ) → In semaphore (footprintIn n t o k c b .reads) ⊎ In semaphore (footprintIn n t o k c b .writes) → In semaphore (footprintIn n t o k c b′ .reads)
-  unfolding pick
-  asks-in zero (inl h) = h
-  asks-in zero (inr h) = go (drop (c .registers .cycles) (t .samples k)) h
-    where
-      go : (rs : List Sample) → In semaphore (unspent rs (takingWrites b k (inputs k rs))) → In semaphore (control k ∷ unspent rs (semaphore ∷ []))
-      go [] h = absurd h
-      go (r ∷ rs) h = inr (inl refl)
-  asks-in (suc zero) (inl h) = h
-  asks-in (suc zero) (inr h) = let ms = uncopied c (t .reads k) in released-read (local k) byte (λ i e. never (cc)) (drop 1 ms) ms h
-  asks-in (suc (suc zero)) (inl h) = h
-  asks-in (suc (suc zero)) (inr (inl z)) = inl z
-  asks-in (suc (suc zero)) (inr (inr h)) = absurd (not-data k (o k c .writes) h)
-  asks-in (suc (suc (suc zero))) h = inr (inl refl)
-  asks-in (suc (suc (suc (suc zero)))) (inl h) = h
-  asks-in (suc (suc (suc (suc zero)))) (inr h) = let ms = uncopied c (t .writes k) in released-read byte (local k) (λ i e. never (cc)) (drop 1 ms) ms h
-  asks-in (suc (suc (suc (suc (suc n))))) (inl h) = rw (stopped-places n t o k c b′) (rw (stopped-places n t o k c b) at h)
-  asks-in (suc (suc (suc (suc (suc n))))) (inr h) = absurd (rw (stopped-places n t o k c b) at h)
-
--- the step of another core leaves it so that a step does not touch the semaphore
-still-alone : (t : Task) (o : DataFootprints) (j k : ℕ) (s : State) → k ≢ j → (Touches t o k s semaphore → ⊥) → Touches t o k (step t j s) semaphore → ⊥
-unfolding footprint
-still-alone t o j k s n u h = u (inl (asks-in t o k (at s k) (turn (step t j s .semaphore) k) (turn (s .semaphore) k) (mode (at s k)) (rw (others-stay t j s k n) at h)))
-
--- A step that does not touch the semaphore can go before any steps of other cores
-pub step-first : (t : Task) (o : DataFootprints) (s : State) (k : ℕ) (js ks : List ℕ) → ((j : ℕ) → In j js → j ≢ k) → (Touches t o k s semaphore → ⊥)
-    → Swaps t o s (js ++ (k ∷ ks)) (k ∷ (js ++ ks))
-step-first t o s k [] ks n u = none
-step-first t o s k (j ∷ js) ks n u =
-    more
-    (later (step-first t o (step t j s) k js ks (λ i h. n i (inr h)) (still-alone t o j k s (λ e. n j (inl refl) (sym e)) u)))
-    (swap record { different = n j (inl refl); not-both = λ a b. u b })
-
--- the first steps of both cores of a small task set, in two orders: who steps first holds the semaphore
-first-holds : (run task (0 ∷ 1 ∷ []) start .semaphore .holder ≡ 1) × (run task (1 ∷ 0 ∷ []) start .semaphore .holder ≡ 2)
-unfolding step task start samples variables pick splice readTaken readAcquired
-first-holds = (refl, refl)
-
--- Two takings cannot change places: who steps first holds the semaphore
-pub takings-stay : Alike task (0 ∷ 1 ∷ []) (1 ∷ 0 ∷ []) start → ⊥
-takings-stay a = let e = ap (λ (s : State). s .semaphore .holder) (a .end) in let z : _≡_ {A = ℕ} 1 2 = rw (first-holds .0, first-holds .1) at e in omega arith

@@ -1,7 +1,7 @@
 -- What a step touches: the places that a step of a core reads and writes, mode by mode, after document 01, "One step of a core"; and
 -- which neighbouring steps can change places: those of different cores that do not both touch the semaphore.
 -- In order: places; the data of an instruction, over any instruction; the places of a step; what makes them right; no races; changing places.
--- The claims, of every list of steps, are proved in proofs/Footprint: `footprint-right`, `race-free`, `steps-commute`, `swaps-alike`.
+-- The claims, of every list of steps, are proved in proofs/: `footprint-right` in Footprint, `race-free` in RaceFree, `steps-commute` and `swaps-alike` in Swaps.
 -- Not here: which data document 01's instructions read and write (crate operands).
 use mathlib.Core.Path.{_≡_}
 use mathlib.Core.Logic.{_≢_, _⊎_}

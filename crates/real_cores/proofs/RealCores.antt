@@ -7,7 +7,9 @@ use lib.ListN.{length, getD}
 use Rattle.protocol.specs.State.{State}
 use Rattle.protocol.specs.Laws.{Laws}
 use Rattle.races.specs.Footprint.{DataFootprintsRight, RaceFree, Swaps}
-use Rattle.races.proofs.Footprint.{footprint-right, race-free, race-free-held, steps-commute, swaps-alike}
+use Rattle.races.proofs.Footprint.{footprint-right}
+use Rattle.races.proofs.RaceFree.{race-free, race-free-held}
+use Rattle.races.proofs.Swaps.{steps-commute, swaps-alike}
 use Rattle.processor.proofs.Kept.{instruction-laws}
 use Rattle.operands.proofs.Operands.{data-footprints-right}
 use Rattle.taskset.specs.Judge.{codeOf}
