@@ -45,20 +45,20 @@ loop-less : tie.Need-loop-less Inv-loop μ-loop
 loop-less c = omega arith
 
 loop-again : tie.Need-loop-again Inv-loop μ-loop
-loop-again c =
-    let after-write-line = c .before .before in
-    let turn = after-write-line .before .before .before .before in
-    let after-table-of = turn .before .before in
-    let start = after-table-of .before .before in
-    let h : turn .loop .k < min (start .args .n) (length (after-table-of .table-of .result)) = omega (arith, after-table-of .table-of .ensures .1) in (
-      omega arith,
-      search needs,
-      omega arith,
+loop-again c = (
+  omega arith,
+  search needs,
+  omega arith,
+  let after-write-line = c .before .before in
+      let turn = after-write-line .before .before .before .before in
+      let after-table-of = turn .before .before in
+      let start = after-table-of .before .before in
+      let h : turn .loop .k < min (start .args .n) (length (after-table-of .table-of .result)) = omega (arith, after-table-of .table-of .ensures .1) in
       writing-more (coreLine (turn .loop .k) (getD (after-table-of .table-of .result) (turn .loop .k) noRegisters))
-          (coreLines (turn .loop .k + 1) (drop (turn .loop .k + 1) (take (start .args .n) (after-table-of .table-of .result))))
-          (turn .loop .inv .3) (first-line (after-table-of .table-of .result) (start .args .n) (turn .loop .k) noRegisters h)
-          (after-write-line .write-line .ensures .0) (after-write-line .write-line .ensures .1),
-    )
+      (coreLines (turn .loop .k + 1) (drop (turn .loop .k + 1) (take (start .args .n) (after-table-of .table-of .result))))
+      (turn .loop .inv .3) (first-line (after-table-of .table-of .result) (start .args .n) (turn .loop .k) noRegisters h)
+      (after-write-line .write-line .ensures .0) (after-write-line .write-line .ensures .1),
+)
 
 same-length : tie.Need-same-length Inv-loop μ-loop
 same-length c = search needs

@@ -40,19 +40,19 @@ loop-less : tie.Need-loop-less Inv-loop μ-loop
 loop-less c = omega arith
 
 loop-again : tie.Need-loop-again Inv-loop μ-loop
-loop-again c =
-    let after-write-taking = c .before .before in
-    let turn = after-write-taking .before .before .before .before in
-    let start = turn .before .before .before .before in
-    let list = start .args .list .now in
-    let h : turn .loop .i < min (start .args .taken) (length list) = omega arith in (
-      omega arith,
-      search needs,
-      omega arith,
+loop-again c = (
+  omega arith,
+  search needs,
+  omega arith,
+  let after-write-taking = c .before .before in
+      let turn = after-write-taking .before .before .before .before in
+      let start = turn .before .before .before .before in
+      let list = start .args .list .now in
+      let h : turn .loop .i < min (start .args .taken) (length list) = omega arith in
       writing-more (takingText (getD list (turn .loop .i) 0)) (flat (map takingText (drop (turn .loop .i + 1) (take (start .args .taken) list))))
-          (turn .loop .inv .3) (first-taking list (start .args .taken) (turn .loop .i) h) (after-write-taking .write-taking .ensures .0)
-          (after-write-taking .write-taking .ensures .1 ∙ ap (λ (n : ℕ). turn .loop .next + n) (length-taking (getD list (turn .loop .i) 0))),
-    )
+      (turn .loop .inv .3) (first-taking list (start .args .taken) (turn .loop .i) h) (after-write-taking .write-taking .ensures .0)
+      (after-write-taking .write-taking .ensures .1 ∙ ap (λ (n : ℕ). turn .loop .next + n) (length-taking (getD list (turn .loop .i) 0))),
+)
 
 same-length : tie.Need-same-length Inv-loop μ-loop
 same-length c = search needs

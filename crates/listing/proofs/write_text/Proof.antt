@@ -33,18 +33,18 @@ loop-less : tie.Need-loop-less Inv-loop μ-loop
 loop-less c = omega arith
 
 loop-again : tie.Need-loop-again Inv-loop μ-loop
-loop-again c =
-    let after-put = c .before .before in
-    let turn = after-put .before .before .before .before in
-    let start = turn .before .before .before in
-    let text = start .args .text .now in
-    let h : turn .loop .i < length text = omega arith in (
-      omega arith,
-      search needs,
-      omega arith,
+loop-again c = (
+  omega arith,
+  search needs,
+  omega arith,
+  let after-put = c .before .before in
+      let turn = after-put .before .before .before .before in
+      let start = turn .before .before .before in
+      let text = start .args .text .now in
+      let h : turn .loop .i < length text = omega arith in
       writing-more (getD text (turn .loop .i) 0 ∷ []) (drop (turn .loop .i + 1) text)
-          (turn .loop .inv .3) (one-of text (turn .loop .i) 0 h) (after-put .put .ensures .0) (after-put .put .ensures .1),
-    )
+      (turn .loop .inv .3) (one-of text (turn .loop .i) 0 h) (after-put .put .ensures .0) (after-put .put .ensures .1),
+)
 
 same-length : tie.Need-same-length Inv-loop μ-loop
 same-length c = search needs
