@@ -1,5 +1,5 @@
--- The line stays fit (specs/Fair): those in line are different cores below n that want the semaphore, none of them the holder, and each has a sample
--- to read. In order: who joins and leaves; one step; lists of steps; the fresh state.
+-- The line stays fit (specs/Fair): it names no core twice, none from n on, none that is not in mode 0 or 3, and none that is out of records.
+-- In order: who joins and leaves; one step; lists of steps; the fresh state.
 -- Not here: lists of core numbers alone (`Line`), how long a core stands in line (`Fair`). Assumes nothing.
 use mathlib.Core.Path.{_≡_, refl, sym, _∙_, subst}
 use mathlib.Core.Logic.{_≢_, _⊎_, inl, inr}
