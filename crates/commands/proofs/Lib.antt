@@ -1,3 +1,4 @@
 pub mod Arms
 pub mod Attempts
+pub mod Dispatch
 pub mod Known

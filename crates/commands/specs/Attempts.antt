@@ -47,6 +47,10 @@ pub record OperandsGiven (code : ℕ) (o : Operands) : Type 0 where
   pub first-low : o .first < 98304
   pub second-low : o .second < 98304
 
+-- of the typed commands NOT alone has no second source
+abbrev pub ThreeOperands : ℕ → Type 0
+ThreeOperands code = (code ≡ 27 → ⊥)
+
 -- every operand lies inside the data
 abbrev pub Inside : ℕ → Operands → List ℕ → Type 0
 Inside code o s = typedBeyond code (o .kind) (length s) (o .to) (o .first) (o .second) ≡ false
