@@ -314,43 +314,25 @@ fn near_end(size: usize, o: Operands) -> bool
     false
 }
 
-// Whether one of the operands is beyond the data, by the type: of commands whose result and sources are of the type,
-fn alike_beyond(size: usize, o: Operands) -> bool
-    requires { ⌜ (o .kind < 12) × (o .to < 98304) × (o .first < 98304) × (o .second < 98304) ⌝ }
-    ensures { λ r. ⌜ r ≡ either (beyond size (o .to) (widthOf (o .kind))) (anyBeyond size (o .first) (widthOf (o .kind)) (o .second) (widthOf (o .kind))) ⌝ }
+// Whether one of the operands is beyond the data, by the command and its type.
+fn typed_beyond(size: usize, op: u8, o: Operands) -> bool
+    requires { ⌜ ThreeOperands op × OperandsGiven op o ⌝ }
+    ensures { λ r. ⌜ r ≡ typedBeyond op (o .kind) size (o .to) (o .first) (o .second) ⌝ }
 {
     if near_end(size, o) {
-        let w = values::width_of(o.kind);
-        return beyond(size, o, w, w, w);
+        let width = values::width_of(o.kind);
+        if op < 28 {
+            return beyond(size, o, width, width, width);
+        }
+        if op < 32 {
+            return beyond(size, o, width, width, 1);
+        }
+        return beyond(size, o, 1, width, width);
     }
     false
 }
 
-// of comparisons,
-fn compared_beyond(size: usize, o: Operands) -> bool
-    requires { ⌜ (o .kind < 12) × (o .to < 98304) × (o .first < 98304) × (o .second < 98304) ⌝ }
-    ensures { λ r. ⌜ r ≡ either (beyond size (o .to) 1) (anyBeyond size (o .first) (widthOf (o .kind)) (o .second) (widthOf (o .kind))) ⌝ }
-{
-    if near_end(size, o) {
-        let w = values::width_of(o.kind);
-        return beyond(size, o, 1, w, w);
-    }
-    false
-}
-
-// of shifts,
-fn shifted_beyond(size: usize, o: Operands) -> bool
-    requires { ⌜ (o .kind < 12) × (o .to < 98304) × (o .first < 98304) × (o .second < 98304) ⌝ }
-    ensures { λ r. ⌜ r ≡ either (beyond size (o .to) (widthOf (o .kind))) (anyBeyond size (o .first) (widthOf (o .kind)) (o .second) 1) ⌝ }
-{
-    if near_end(size, o) {
-        let w = values::width_of(o.kind);
-        return beyond(size, o, w, w, 1);
-    }
-    false
-}
-
-// and of NOT.
+// The same of NOT, which has one source.
 fn single_beyond(size: usize, o: Operands) -> bool
     requires { ⌜ (o .kind < 12) × (o .to < 98304) × (o .first < 98304) × (o .second < 98304) ⌝ }
     ensures { λ r. ⌜ r ≡ either (beyond size (o .to) (widthOf (o .kind))) (anyBeyond size (o .first) (widthOf (o .kind)) (o .second) 0) ⌝ }
@@ -434,29 +416,6 @@ fn add_typed(d: &mut [u8], t: u8, o: Operands) -> Performed
     )
 }
 
-pub fn add_at(d: &mut [u8], o: Operands) -> Performed
-    requires { ⌜ OperandsGiven 16 o ⌝ }
-    ensures { λ r. ⌜ attempt r (now (d .exit)) ≡ attempted 16 o (now (d .entry)) ⌝ }
-{
-    if alike_beyond(d.len(), o) {
-        return Performed::Beyond;
-    }
-    let t = o.kind;
-    match t {
-        1 => add_typed(d, 1, o),
-        2 => add_typed(d, 2, o),
-        3 => add_typed(d, 3, o),
-        4 => add_typed(d, 4, o),
-        5 => add_typed(d, 5, o),
-        6 => add_typed(d, 6, o),
-        7 => add_typed(d, 7, o),
-        8 => add_typed(d, 8, o),
-        9 => add_typed(d, 9, o),
-        10 => add_typed(d, 10, o),
-        _ => add_typed(d, 11, o),
-    }
-}
-
 fn sub_of(d: &[u8], t: u8, a: usize, b: usize) -> u64
     requires { ⌜ (takes 17 t ≡ true) × (a + widthOf t ≤ length (now d)) × (b + widthOf t ≤ length (now d)) ⌝ }
     ensures { λ r. ⌜ r ≡ command 17 t (readLE (now (d .entry)) a (widthOf t)) (readLE (now (d .entry)) b (widthOf t)) ⌝ }
@@ -488,29 +447,6 @@ fn sub_typed(d: &mut [u8], t: u8, o: Operands) -> Performed
     )
 }
 
-pub fn sub_at(d: &mut [u8], o: Operands) -> Performed
-    requires { ⌜ OperandsGiven 17 o ⌝ }
-    ensures { λ r. ⌜ attempt r (now (d .exit)) ≡ attempted 17 o (now (d .entry)) ⌝ }
-{
-    if alike_beyond(d.len(), o) {
-        return Performed::Beyond;
-    }
-    let t = o.kind;
-    match t {
-        1 => sub_typed(d, 1, o),
-        2 => sub_typed(d, 2, o),
-        3 => sub_typed(d, 3, o),
-        4 => sub_typed(d, 4, o),
-        5 => sub_typed(d, 5, o),
-        6 => sub_typed(d, 6, o),
-        7 => sub_typed(d, 7, o),
-        8 => sub_typed(d, 8, o),
-        9 => sub_typed(d, 9, o),
-        10 => sub_typed(d, 10, o),
-        _ => sub_typed(d, 11, o),
-    }
-}
-
 fn mul_of(d: &[u8], t: u8, a: usize, b: usize) -> u64
     requires { ⌜ (takes 18 t ≡ true) × (a + widthOf t ≤ length (now d)) × (b + widthOf t ≤ length (now d)) ⌝ }
     ensures { λ r. ⌜ r ≡ command 18 t (readLE (now (d .entry)) a (widthOf t)) (readLE (now (d .entry)) b (widthOf t)) ⌝ }
@@ -539,28 +475,6 @@ fn mul_typed(d: &mut [u8], t: u8, o: Operands) -> Performed
         o.to,
         mul_of(d, t, o.first, o.second),
     )
-}
-
-pub fn mul_at(d: &mut [u8], o: Operands) -> Performed
-    requires { ⌜ OperandsGiven 18 o ⌝ }
-    ensures { λ r. ⌜ attempt r (now (d .exit)) ≡ attempted 18 o (now (d .entry)) ⌝ }
-{
-    if alike_beyond(d.len(), o) {
-        return Performed::Beyond;
-    }
-    let t = o.kind;
-    match t {
-        1 => mul_typed(d, 1, o),
-        2 => mul_typed(d, 2, o),
-        3 => mul_typed(d, 3, o),
-        4 => mul_typed(d, 4, o),
-        5 => mul_typed(d, 5, o),
-        6 => mul_typed(d, 6, o),
-        7 => mul_typed(d, 7, o),
-        8 => mul_typed(d, 8, o),
-        9 => mul_typed(d, 9, o),
-        _ => mul_typed(d, 10, o),
-    }
 }
 
 fn div_of(d: &[u8], t: u8, a: usize, b: usize) -> u64
@@ -596,28 +510,6 @@ fn div_typed(d: &mut [u8], t: u8, o: Operands) -> Performed
     )
 }
 
-pub fn div_at(d: &mut [u8], o: Operands) -> Performed
-    requires { ⌜ OperandsGiven 19 o ⌝ }
-    ensures { λ r. ⌜ attempt r (now (d .exit)) ≡ attempted 19 o (now (d .entry)) ⌝ }
-{
-    if alike_beyond(d.len(), o) {
-        return Performed::Beyond;
-    }
-    let t = o.kind;
-    match t {
-        1 => div_typed(d, 1, o),
-        2 => div_typed(d, 2, o),
-        3 => div_typed(d, 3, o),
-        4 => div_typed(d, 4, o),
-        5 => div_typed(d, 5, o),
-        6 => div_typed(d, 6, o),
-        7 => div_typed(d, 7, o),
-        8 => div_typed(d, 8, o),
-        9 => div_typed(d, 9, o),
-        _ => div_typed(d, 10, o),
-    }
-}
-
 fn modulo_of(d: &[u8], t: u8, a: usize, b: usize) -> u64
     requires { ⌜ (takes 20 t ≡ true) × (a + widthOf t ≤ length (now d)) × (b + widthOf t ≤ length (now d)) ⌝ }
     ensures { λ r. ⌜ r ≡ command 20 t (readLE (now (d .entry)) a (widthOf t)) (readLE (now (d .entry)) b (widthOf t)) ⌝ }
@@ -646,26 +538,6 @@ fn modulo_typed(d: &mut [u8], t: u8, o: Operands) -> Performed
     )
 }
 
-pub fn modulo_at(d: &mut [u8], o: Operands) -> Performed
-    requires { ⌜ OperandsGiven 20 o ⌝ }
-    ensures { λ r. ⌜ attempt r (now (d .exit)) ≡ attempted 20 o (now (d .entry)) ⌝ }
-{
-    if alike_beyond(d.len(), o) {
-        return Performed::Beyond;
-    }
-    let t = o.kind;
-    match t {
-        1 => modulo_typed(d, 1, o),
-        2 => modulo_typed(d, 2, o),
-        3 => modulo_typed(d, 3, o),
-        4 => modulo_typed(d, 4, o),
-        5 => modulo_typed(d, 5, o),
-        6 => modulo_typed(d, 6, o),
-        7 => modulo_typed(d, 7, o),
-        _ => modulo_typed(d, 8, o),
-    }
-}
-
 fn and_of(d: &[u8], t: u8, a: usize, b: usize) -> u64
     requires { ⌜ (takes 24 t ≡ true) × (a + widthOf t ≤ length (now d)) × (b + widthOf t ≤ length (now d)) ⌝ }
     ensures { λ r. ⌜ r ≡ command 24 t (readLE (now (d .entry)) a (widthOf t)) (readLE (now (d .entry)) b (widthOf t)) ⌝ }
@@ -691,23 +563,6 @@ fn and_typed(d: &mut [u8], t: u8, o: Operands) -> Performed
     )
 }
 
-pub fn and_at(d: &mut [u8], o: Operands) -> Performed
-    requires { ⌜ OperandsGiven 24 o ⌝ }
-    ensures { λ r. ⌜ attempt r (now (d .exit)) ≡ attempted 24 o (now (d .entry)) ⌝ }
-{
-    if alike_beyond(d.len(), o) {
-        return Performed::Beyond;
-    }
-    let t = o.kind;
-    match t {
-        0 => and_typed(d, 0, o),
-        2 => and_typed(d, 2, o),
-        4 => and_typed(d, 4, o),
-        6 => and_typed(d, 6, o),
-        _ => and_typed(d, 8, o),
-    }
-}
-
 fn or_of(d: &[u8], t: u8, a: usize, b: usize) -> u64
     requires { ⌜ (takes 25 t ≡ true) × (a + widthOf t ≤ length (now d)) × (b + widthOf t ≤ length (now d)) ⌝ }
     ensures { λ r. ⌜ r ≡ command 25 t (readLE (now (d .entry)) a (widthOf t)) (readLE (now (d .entry)) b (widthOf t)) ⌝ }
@@ -726,23 +581,6 @@ fn or_typed(d: &mut [u8], t: u8, o: Operands) -> Performed
     ensures { λ r. ⌜ attempt r (now (d .exit)) ≡ attempted 25 o (now (d .entry)) ⌝ }
 {
     put(d, values::width_of(t), o.to, or_of(d, t, o.first, o.second))
-}
-
-pub fn or_at(d: &mut [u8], o: Operands) -> Performed
-    requires { ⌜ OperandsGiven 25 o ⌝ }
-    ensures { λ r. ⌜ attempt r (now (d .exit)) ≡ attempted 25 o (now (d .entry)) ⌝ }
-{
-    if alike_beyond(d.len(), o) {
-        return Performed::Beyond;
-    }
-    let t = o.kind;
-    match t {
-        0 => or_typed(d, 0, o),
-        2 => or_typed(d, 2, o),
-        4 => or_typed(d, 4, o),
-        6 => or_typed(d, 6, o),
-        _ => or_typed(d, 8, o),
-    }
 }
 
 fn xor_of(d: &[u8], t: u8, a: usize, b: usize) -> u64
@@ -768,23 +606,6 @@ fn xor_typed(d: &mut [u8], t: u8, o: Operands) -> Performed
         o.to,
         xor_of(d, t, o.first, o.second),
     )
-}
-
-pub fn xor_at(d: &mut [u8], o: Operands) -> Performed
-    requires { ⌜ OperandsGiven 26 o ⌝ }
-    ensures { λ r. ⌜ attempt r (now (d .exit)) ≡ attempted 26 o (now (d .entry)) ⌝ }
-{
-    if alike_beyond(d.len(), o) {
-        return Performed::Beyond;
-    }
-    let t = o.kind;
-    match t {
-        0 => xor_typed(d, 0, o),
-        2 => xor_typed(d, 2, o),
-        4 => xor_typed(d, 4, o),
-        6 => xor_typed(d, 6, o),
-        _ => xor_typed(d, 8, o),
-    }
 }
 
 fn not_of(d: &[u8], t: u8, a: usize) -> u64
@@ -849,22 +670,6 @@ fn shl_typed(d: &mut [u8], t: u8, o: Operands) -> Performed
     )
 }
 
-pub fn shl_at(d: &mut [u8], o: Operands) -> Performed
-    requires { ⌜ OperandsGiven 28 o ⌝ }
-    ensures { λ r. ⌜ attempt r (now (d .exit)) ≡ attempted 28 o (now (d .entry)) ⌝ }
-{
-    if shifted_beyond(d.len(), o) {
-        return Performed::Beyond;
-    }
-    let t = o.kind;
-    match t {
-        2 => shl_typed(d, 2, o),
-        4 => shl_typed(d, 4, o),
-        6 => shl_typed(d, 6, o),
-        _ => shl_typed(d, 8, o),
-    }
-}
-
 fn shr_of(d: &[u8], t: u8, a: usize, b: usize) -> u64
     requires { ⌜ (takes 29 t ≡ true) × (a + widthOf t ≤ length (now d)) × (b < length (now d)) ⌝ }
     ensures { λ r. ⌜ r ≡ command 29 t (readLE (now (d .entry)) a (widthOf t)) (readLE (now (d .entry)) b 1) ⌝ }
@@ -888,22 +693,6 @@ fn shr_typed(d: &mut [u8], t: u8, o: Operands) -> Performed
         o.to,
         shr_of(d, t, o.first, o.second),
     )
-}
-
-pub fn shr_at(d: &mut [u8], o: Operands) -> Performed
-    requires { ⌜ OperandsGiven 29 o ⌝ }
-    ensures { λ r. ⌜ attempt r (now (d .exit)) ≡ attempted 29 o (now (d .entry)) ⌝ }
-{
-    if shifted_beyond(d.len(), o) {
-        return Performed::Beyond;
-    }
-    let t = o.kind;
-    match t {
-        2 => shr_typed(d, 2, o),
-        4 => shr_typed(d, 4, o),
-        6 => shr_typed(d, 6, o),
-        _ => shr_typed(d, 8, o),
-    }
 }
 
 fn rol_of(d: &[u8], t: u8, a: usize, b: usize) -> u64
@@ -931,22 +720,6 @@ fn rol_typed(d: &mut [u8], t: u8, o: Operands) -> Performed
     )
 }
 
-pub fn rol_at(d: &mut [u8], o: Operands) -> Performed
-    requires { ⌜ OperandsGiven 30 o ⌝ }
-    ensures { λ r. ⌜ attempt r (now (d .exit)) ≡ attempted 30 o (now (d .entry)) ⌝ }
-{
-    if shifted_beyond(d.len(), o) {
-        return Performed::Beyond;
-    }
-    let t = o.kind;
-    match t {
-        2 => rol_typed(d, 2, o),
-        4 => rol_typed(d, 4, o),
-        6 => rol_typed(d, 6, o),
-        _ => rol_typed(d, 8, o),
-    }
-}
-
 fn ror_of(d: &[u8], t: u8, a: usize, b: usize) -> u64
     requires { ⌜ (takes 31 t ≡ true) × (a + widthOf t ≤ length (now d)) × (b < length (now d)) ⌝ }
     ensures { λ r. ⌜ r ≡ command 31 t (readLE (now (d .entry)) a (widthOf t)) (readLE (now (d .entry)) b 1) ⌝ }
@@ -970,22 +743,6 @@ fn ror_typed(d: &mut [u8], t: u8, o: Operands) -> Performed
         o.to,
         ror_of(d, t, o.first, o.second),
     )
-}
-
-pub fn ror_at(d: &mut [u8], o: Operands) -> Performed
-    requires { ⌜ OperandsGiven 31 o ⌝ }
-    ensures { λ r. ⌜ attempt r (now (d .exit)) ≡ attempted 31 o (now (d .entry)) ⌝ }
-{
-    if shifted_beyond(d.len(), o) {
-        return Performed::Beyond;
-    }
-    let t = o.kind;
-    match t {
-        2 => ror_typed(d, 2, o),
-        4 => ror_typed(d, 4, o),
-        6 => ror_typed(d, 6, o),
-        _ => ror_typed(d, 8, o),
-    }
 }
 
 // A comparison has one body, which each arm calls with its type: compiled it is the same. The other commands do not become so small
@@ -1024,30 +781,6 @@ fn gt_typed(d: &mut [u8], t: u8, o: Operands) -> Performed
     put(d, 1, o.to, gt_of(d, t, o.first, o.second))
 }
 
-pub fn gt_at(d: &mut [u8], o: Operands) -> Performed
-    requires { ⌜ OperandsGiven 32 o ⌝ }
-    ensures { λ r. ⌜ attempt r (now (d .exit)) ≡ attempted 32 o (now (d .entry)) ⌝ }
-{
-    if compared_beyond(d.len(), o) {
-        return Performed::Beyond;
-    }
-    let t = o.kind;
-    match t {
-        0 => gt_typed(d, 0, o),
-        1 => gt_typed(d, 1, o),
-        2 => gt_typed(d, 2, o),
-        3 => gt_typed(d, 3, o),
-        4 => gt_typed(d, 4, o),
-        5 => gt_typed(d, 5, o),
-        6 => gt_typed(d, 6, o),
-        7 => gt_typed(d, 7, o),
-        8 => gt_typed(d, 8, o),
-        9 => gt_typed(d, 9, o),
-        10 => gt_typed(d, 10, o),
-        _ => gt_typed(d, 11, o),
-    }
-}
-
 fn ge_in(d: &[u8], t: u8, a: usize, b: usize) -> u64
     requires { ⌜ (t < 12) × (a + widthOf t ≤ length (now d)) × (b + widthOf t ≤ length (now d)) ⌝ }
     ensures { λ r. ⌜ r ≡ command 33 t (readLE (now (d .entry)) a (widthOf t)) (readLE (now (d .entry)) b (widthOf t)) ⌝ }
@@ -1080,30 +813,6 @@ fn ge_typed(d: &mut [u8], t: u8, o: Operands) -> Performed
     ensures { λ r. ⌜ attempt r (now (d .exit)) ≡ attempted 33 o (now (d .entry)) ⌝ }
 {
     put(d, 1, o.to, ge_of(d, t, o.first, o.second))
-}
-
-pub fn ge_at(d: &mut [u8], o: Operands) -> Performed
-    requires { ⌜ OperandsGiven 33 o ⌝ }
-    ensures { λ r. ⌜ attempt r (now (d .exit)) ≡ attempted 33 o (now (d .entry)) ⌝ }
-{
-    if compared_beyond(d.len(), o) {
-        return Performed::Beyond;
-    }
-    let t = o.kind;
-    match t {
-        0 => ge_typed(d, 0, o),
-        1 => ge_typed(d, 1, o),
-        2 => ge_typed(d, 2, o),
-        3 => ge_typed(d, 3, o),
-        4 => ge_typed(d, 4, o),
-        5 => ge_typed(d, 5, o),
-        6 => ge_typed(d, 6, o),
-        7 => ge_typed(d, 7, o),
-        8 => ge_typed(d, 8, o),
-        9 => ge_typed(d, 9, o),
-        10 => ge_typed(d, 10, o),
-        _ => ge_typed(d, 11, o),
-    }
 }
 
 fn eq_in(d: &[u8], t: u8, a: usize, b: usize) -> u64
@@ -1140,30 +849,6 @@ fn eq_typed(d: &mut [u8], t: u8, o: Operands) -> Performed
     put(d, 1, o.to, eq_of(d, t, o.first, o.second))
 }
 
-pub fn eq_at(d: &mut [u8], o: Operands) -> Performed
-    requires { ⌜ OperandsGiven 34 o ⌝ }
-    ensures { λ r. ⌜ attempt r (now (d .exit)) ≡ attempted 34 o (now (d .entry)) ⌝ }
-{
-    if compared_beyond(d.len(), o) {
-        return Performed::Beyond;
-    }
-    let t = o.kind;
-    match t {
-        0 => eq_typed(d, 0, o),
-        1 => eq_typed(d, 1, o),
-        2 => eq_typed(d, 2, o),
-        3 => eq_typed(d, 3, o),
-        4 => eq_typed(d, 4, o),
-        5 => eq_typed(d, 5, o),
-        6 => eq_typed(d, 6, o),
-        7 => eq_typed(d, 7, o),
-        8 => eq_typed(d, 8, o),
-        9 => eq_typed(d, 9, o),
-        10 => eq_typed(d, 10, o),
-        _ => eq_typed(d, 11, o),
-    }
-}
-
 fn le_in(d: &[u8], t: u8, a: usize, b: usize) -> u64
     requires { ⌜ (t < 12) × (a + widthOf t ≤ length (now d)) × (b + widthOf t ≤ length (now d)) ⌝ }
     ensures { λ r. ⌜ r ≡ command 35 t (readLE (now (d .entry)) a (widthOf t)) (readLE (now (d .entry)) b (widthOf t)) ⌝ }
@@ -1196,30 +881,6 @@ fn le_typed(d: &mut [u8], t: u8, o: Operands) -> Performed
     ensures { λ r. ⌜ attempt r (now (d .exit)) ≡ attempted 35 o (now (d .entry)) ⌝ }
 {
     put(d, 1, o.to, le_of(d, t, o.first, o.second))
-}
-
-pub fn le_at(d: &mut [u8], o: Operands) -> Performed
-    requires { ⌜ OperandsGiven 35 o ⌝ }
-    ensures { λ r. ⌜ attempt r (now (d .exit)) ≡ attempted 35 o (now (d .entry)) ⌝ }
-{
-    if compared_beyond(d.len(), o) {
-        return Performed::Beyond;
-    }
-    let t = o.kind;
-    match t {
-        0 => le_typed(d, 0, o),
-        1 => le_typed(d, 1, o),
-        2 => le_typed(d, 2, o),
-        3 => le_typed(d, 3, o),
-        4 => le_typed(d, 4, o),
-        5 => le_typed(d, 5, o),
-        6 => le_typed(d, 6, o),
-        7 => le_typed(d, 7, o),
-        8 => le_typed(d, 8, o),
-        9 => le_typed(d, 9, o),
-        10 => le_typed(d, 10, o),
-        _ => le_typed(d, 11, o),
-    }
 }
 
 fn lt_in(d: &[u8], t: u8, a: usize, b: usize) -> u64
@@ -1256,30 +917,6 @@ fn lt_typed(d: &mut [u8], t: u8, o: Operands) -> Performed
     put(d, 1, o.to, lt_of(d, t, o.first, o.second))
 }
 
-pub fn lt_at(d: &mut [u8], o: Operands) -> Performed
-    requires { ⌜ OperandsGiven 36 o ⌝ }
-    ensures { λ r. ⌜ attempt r (now (d .exit)) ≡ attempted 36 o (now (d .entry)) ⌝ }
-{
-    if compared_beyond(d.len(), o) {
-        return Performed::Beyond;
-    }
-    let t = o.kind;
-    match t {
-        0 => lt_typed(d, 0, o),
-        1 => lt_typed(d, 1, o),
-        2 => lt_typed(d, 2, o),
-        3 => lt_typed(d, 3, o),
-        4 => lt_typed(d, 4, o),
-        5 => lt_typed(d, 5, o),
-        6 => lt_typed(d, 6, o),
-        7 => lt_typed(d, 7, o),
-        8 => lt_typed(d, 8, o),
-        9 => lt_typed(d, 9, o),
-        10 => lt_typed(d, 10, o),
-        _ => lt_typed(d, 11, o),
-    }
-}
-
 fn ne_in(d: &[u8], t: u8, a: usize, b: usize) -> u64
     requires { ⌜ (t < 12) × (a + widthOf t ≤ length (now d)) × (b + widthOf t ≤ length (now d)) ⌝ }
     ensures { λ r. ⌜ r ≡ command 37 t (readLE (now (d .entry)) a (widthOf t)) (readLE (now (d .entry)) b (widthOf t)) ⌝ }
@@ -1312,48 +949,6 @@ fn ne_typed(d: &mut [u8], t: u8, o: Operands) -> Performed
     ensures { λ r. ⌜ attempt r (now (d .exit)) ≡ attempted 37 o (now (d .entry)) ⌝ }
 {
     put(d, 1, o.to, ne_of(d, t, o.first, o.second))
-}
-
-pub fn ne_at(d: &mut [u8], o: Operands) -> Performed
-    requires { ⌜ OperandsGiven 37 o ⌝ }
-    ensures { λ r. ⌜ attempt r (now (d .exit)) ≡ attempted 37 o (now (d .entry)) ⌝ }
-{
-    if compared_beyond(d.len(), o) {
-        return Performed::Beyond;
-    }
-    let t = o.kind;
-    match t {
-        0 => ne_typed(d, 0, o),
-        1 => ne_typed(d, 1, o),
-        2 => ne_typed(d, 2, o),
-        3 => ne_typed(d, 3, o),
-        4 => ne_typed(d, 4, o),
-        5 => ne_typed(d, 5, o),
-        6 => ne_typed(d, 6, o),
-        7 => ne_typed(d, 7, o),
-        8 => ne_typed(d, 8, o),
-        9 => ne_typed(d, 9, o),
-        10 => ne_typed(d, 10, o),
-        _ => ne_typed(d, 11, o),
-    }
-}
-
-// Whether one of the operands is beyond the data, by the command and its type.
-fn typed_beyond(size: usize, op: u8, o: Operands) -> bool
-    requires { ⌜ ThreeOperands op × OperandsGiven op o ⌝ }
-    ensures { λ r. ⌜ r ≡ typedBeyond op (o .kind) size (o .to) (o .first) (o .second) ⌝ }
-{
-    if near_end(size, o) {
-        let width = values::width_of(o.kind);
-        if op < 28 {
-            return beyond(size, o, width, width, width);
-        }
-        if op < 32 {
-            return beyond(size, o, width, width, 1);
-        }
-        return beyond(size, o, 1, width, width);
-    }
-    false
 }
 
 // A command and its type as one number: 16 for each code byte, and the type.
