@@ -1,4 +1,4 @@
 pub mod Arms
 pub mod Attempts
-pub mod Dispatch
 pub mod Known
+pub mod Pairs
