@@ -1,5 +1,6 @@
-// ADD SUB MUL DIV MOD, first on values: whole numbers wrap at the width, floats round once. Then from memory to memory, each by two functions: one reads the sources and gives
-// the pattern to be stored; the other stores it, DIV after it has tried the divisor.
+// ADD SUB MUL DIV MOD, first on values: whole numbers wrap at the width, floats round once. Then from memory to memory, each by two functions. The first reads the sources
+// and gives the pattern to be stored; the second stores it, DIV after it has tried the divisor. The second is called with the type as a constant, and of the first's `match`
+// the compiler keeps the one arm that a constant leads to (docs/PERFORMANCE.md).
 ghost use mathlib.Core.Path.{_≡_};
 ghost use mathlib.Core.Bool.{true, false};
 ghost use Prim.Native.Nat.{_+_, _≤_, _<_};

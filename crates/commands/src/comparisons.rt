@@ -1,4 +1,4 @@
-// GT GE EQ LE LT NE, on values, and from memory to memory. False is below true; with NaN only NE is true.
+// GT GE EQ LE LT NE, on values, and from memory to memory as in `arithmetic`. False is below true; with NaN only NE is true.
 ghost use mathlib.Core.Path.{_≡_};
 ghost use mathlib.Core.Bool.{true};
 ghost use Prim.Native.Nat.{_+_, _≤_, _<_};

@@ -1,4 +1,4 @@
-// A typed command of an instruction: its addresses are tried, and one jump leads to code for that command and that type alone.
+// A typed command of an instruction: its addresses are tried, then its type leads to code for that type alone.
 ghost use mathlib.Core.Path.{_≡_};
 ghost use Prim.Native.Nat.{_+_, _*_};
 ghost use Rattle.commands.specs.Attempts.{attempt, attempted, OperandsGiven, ThreeOperands};
@@ -33,7 +33,8 @@ fn command_and_type(op: u8, kind: u8) -> usize
     op as usize * 16 + kind as usize
 }
 
-// A typed command with three operands, by its code byte. One jump leads to code for that command and that type alone.
+// A typed command with three operands, by its code byte. One jump leads to code for that command and that type alone: of two jumps, by the command and then by the type,
+// an order of mixed commands lets no processor foresee the second.
 pub fn typed_at(d: &mut [u8], op: u8, o: Operands) -> Performed
     requires { ⌜ ThreeOperands op × OperandsGiven op o ⌝ }
     ensures { λ r. ⌜ attempt r (now (d .exit)) ≡ attempted op o (now (d .entry)) ⌝ }
@@ -217,6 +218,7 @@ pub fn typed_at(d: &mut [u8], op: u8, o: Operands) -> Performed
     }
 }
 
+// NOT, which has one source.
 pub fn not_at(d: &mut [u8], o: Operands) -> Performed
     requires { ⌜ OperandsGiven 27 o ⌝ }
     ensures { λ r. ⌜ attempt r (now (d .exit)) ≡ attempted 27 o (now (d .entry)) ⌝ }

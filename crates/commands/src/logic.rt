@@ -1,4 +1,4 @@
-// AND OR XOR NOT, on values, and from memory to memory.
+// AND OR XOR NOT, on values, and from memory to memory by two functions each, as in `arithmetic`.
 ghost use mathlib.Core.Path.{_≡_};
 ghost use mathlib.Core.Bool.{true};
 ghost use Prim.Native.Nat.{_+_, _≤_};

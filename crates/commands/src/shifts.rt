@@ -1,4 +1,4 @@
-// SHL SHR ROL ROR, by a BYTE count, on values, and from memory to memory.
+// SHL SHR ROL ROR, by a BYTE count, on values, and from memory to memory by two functions each, as in `arithmetic`.
 ghost use mathlib.Core.Path.{_≡_};
 ghost use mathlib.Core.Bool.{true};
 ghost use Prim.Native.Nat.{_+_, _≤_, _<_};
