@@ -146,26 +146,8 @@ fn perform(code: u8, d: &mut [u8], o: Operands) -> Performed
     requires { ⌜ OperandsGiven code o ⌝ }
 {
     match code {
-        16 => commands::add_at(d, o),
-        17 => commands::sub_at(d, o),
-        18 => commands::mul_at(d, o),
-        19 => commands::div_at(d, o),
-        20 => commands::modulo_at(d, o),
-        24 => commands::and_at(d, o),
-        25 => commands::or_at(d, o),
-        26 => commands::xor_at(d, o),
         27 => commands::not_at(d, o),
-        28 => commands::shl_at(d, o),
-        29 => commands::shr_at(d, o),
-        30 => commands::rol_at(d, o),
-        31 => commands::ror_at(d, o),
-        32 => commands::gt_at(d, o),
-        33 => commands::ge_at(d, o),
-        34 => commands::eq_at(d, o),
-        35 => commands::le_at(d, o),
-        36 => commands::lt_at(d, o),
-        37 => commands::ne_at(d, o),
-        _ => Performed::Beyond,
+        _ => commands::typed_at(d, code, o),
     }
 }
 
