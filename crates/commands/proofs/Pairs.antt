@@ -91,26 +91,26 @@ unfoldable pub NoneOf : (ℕ → Bool) → ℕ → ℕ → Type 0
 NoneOf f n zero = Unit {0}
 NoneOf f n (suc m) = pick (f m) (NoneOf f n m × (n ≡ m → ⊥)) (NoneOf f n m)
 
-none-of : (f : ℕ → Bool) (n m : ℕ) → NoneOf f n m → f n ≡ true → n < m → ⊥
+past-arms : (f : ℕ → Bool) (n m : ℕ) → NoneOf f n m → f n ≡ true → n < m → ⊥
 unfolding NoneOf pick
-none-of f n zero r e l = omega arith
-none-of f n (suc m) r e l = go (λ p d. none-of f n m p e (omega arith)) (f m) refl r
+past-arms f n zero r e l = omega arith
+past-arms f n (suc m) r e l = go (λ p d. past-arms f n m p e (omega arith)) (f m) refl r
   where
     go : (NoneOf f n m → (n ≡ m → ⊥) → ⊥) → (b : Bool) → f m ≡ b → pick b (NoneOf f n m × (n ≡ m → ⊥)) (NoneOf f n m) → ⊥
     go before true h r = before (r .0) (r .1)
     go before false h r = before r (λ j. absurd-bool (sym h ∙ sym (ap f j) ∙ e))
 
--- the number of a command with three operands and of a type that it takes
-unfoldable pub listed : ℕ → Bool
-listed n = both (takes (n / 16) (n % 16)) (not (eqb (n / 16) 27))
+-- the numbers that have an arm: of a command with three operands and a type that it takes
+unfoldable pub hasArm : ℕ → Bool
+hasArm n = both (takes (n / 16) (n % 16)) (not (eqb (n / 16) 27))
 
-pub last-arm : {op : ℕ} {o : Operands} → OperandsGiven op o → ThreeOperands op → (number : ℕ) → number ≡ op * 16 + o .kind → NoneOf listed number 603 → number ≡ 603
-unfolding listed
+pub last-arm : {op : ℕ} {o : Operands} → OperandsGiven op o → ThreeOperands op → (number : ℕ) → number ≡ op * 16 + o .kind → NoneOf hasArm number 603 → number ≡ 603
+unfolding hasArm
 last-arm {op} {o} g three number e none =
     let l : o .kind < 12 = given-type g in
     let i : op ≤ 37 = taken-command op (o .kind) (g .taken) in
     let p : op ≡ number / 16 = omega arith in
     let q : o .kind ≡ number % 16 = omega arith in
-    let f : listed number ≡ true = rw (← p, ← q, g .taken, ne-eqb op 27 three) refl in
-    let n : (number < 603 → ⊥) = none-of listed number 603 none f in
+    let f : hasArm number ≡ true = rw (← p, ← q, g .taken, ne-eqb op 27 three) refl in
+    let n : (number < 603 → ⊥) = past-arms hasArm number 603 none f in
     omega arith

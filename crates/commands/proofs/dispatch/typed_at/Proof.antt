@@ -7,7 +7,7 @@ use Rattle.values.specs.Types.{takes}
 use Rattle.commands.specs.Attempts.{Attempt, attempted, OperandsGiven, Inside}
 use Rattle.commands.proofs.Attempts.{was-beyond}
 use Rattle.commands.proofs.Known.{not-beyond}
-use Rattle.commands.proofs.Pairs.{arm-asks, arm-answers, NoneOf, listed, last-arm}
+use Rattle.commands.proofs.Pairs.{arm-asks, arm-answers, NoneOf, hasArm, last-arm}
 use borrow.Author.Needs.{needs}
 use Rattle.commands.proofs.dispatch.typed_at.Statement.{statement}
 use Rattle.commands.proofs.dispatch.typed_at.Tie as tie
@@ -25,11 +25,11 @@ module _ (k : tie.After-command-and-type) where
       → a ≡ attempted (start .args .op) (start .args .o) (start .args .d .now)
   answers key h = arm-answers (start .pre .1) _ (k .command-and-type .ensures) key (start .args .d .now) h
 
-  last : NoneOf listed (k .command-and-type .result) 603 → k .command-and-type .result ≡ 603
+  last : NoneOf hasArm (k .command-and-type .result) 603 → k .command-and-type .result ≡ 603
   last none = last-arm (start .pre .1) (start .pre .0) _ (k .command-and-type .ensures) none
 
 pub typed-at-spec : {M : Type 1} → statement M
-unfolding takes pick NoneOf listed
+unfolding takes pick NoneOf hasArm
 typed-at-spec =
     tie.close
     (tie.spec
