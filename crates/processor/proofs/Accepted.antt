@@ -4,29 +4,28 @@ use mathlib.Core.Path.{_≡_, refl, sym, ap, _∙_}
 use mathlib.Core.Bool.{Bool, true, false}
 use mathlib.Core.Logic.{_⊎_, inl, inr, ⊎-elim}
 use mathlib.Core.List.{List}
-use Prim.Native.Nat.{ℕ, suc, _+_, _≤_, _<_}
+use Prim.Native.Nat.{ℕ, suc, _+_, _/_, _%_, _^_, _≤_, _<_}
 use native.Mathlib.Omega.{arith}
-use borrow.Author.Tests.{eqb-true, eqb-false, ne-eqb}
-use lib.Dec.{eqb}
+use borrow.Author.Tests.{eqb-true, eqb-false, ne-eqb, ltb-true}
+use lib.Dec.{eqb, ltb, eqb→eq}
 use lib.ListN.{length}
 use mir.Syntax.{w16}
 use mir.Val.{Fits}
 use Rattle.verdict.specs.Verdict.{pick, either, within}
-use Rattle.verdict.proofs.Verdict.{absurd-bool, both-true, inside-true}
+use Rattle.verdict.proofs.Verdict.{absurd-bool, below, both-true, inside-true}
 use Rattle.memory.specs.Memory.{byte, word}
 use Rattle.protocol.specs.declared.Registers.{Registers}
 use Rattle.code.specs.declared.Instruction.the-variants.{Typed, Unknown}
 use Rattle.code.specs.Commands.{three, Passes, rowOf, lengthOf}
 use Rattle.code.specs.Flow.{kindAt}
 use Rattle.code.specs.Instructions.{typedAt, instructionAt, instructionLength}
-use Rattle.code.proofs.Laws.{three-length, typed-left, kind-passes}
+use Rattle.code.proofs.Laws.{either-T, same, same-is, three-length, typed-left, kind-passes}
 use Rattle.values.specs.Types.{takes}
-use Rattle.code.specs.Code.{isWidth, convertible, packable, operandsOk}
+use Rattle.code.specs.Code.{isWidth, convertible, packable, operandsOk, judgeCode, isStart}
 use Rattle.code.proofs.Sound.{Sound, sound}
 use Rattle.values.specs.Width.{Width}
-use Rattle.values.proofs.Commands.{last-code}
 use Rattle.commands.specs.declared.Operands.{Operands}
-use Rattle.commands.specs.Attempts.{OperandsGiven}
+use Rattle.commands.specs.Attempts.{ThreeOperands, OperandsGiven}
 use Rattle.processor.specs.Executable.{Executable, InstructionStands}
 use Rattle.processor.specs.Typed.{operandsAt, Low}
 
@@ -48,6 +47,9 @@ three-range op e = go (either-cases (within 16 20 op) _ e)
     go (inl f) = let h = inside-true 16 20 op f in (omega (arith, h .0), omega (arith, h .1))
     go (inr f) = rest (either-cases (within 24 26 op) _ f)
 
+pub three-operands : (op : ℕ) → three op ≡ true → ThreeOperands op
+three-operands op t e = absurd-bool (rw e at t)
+
 -- a code byte of no other command is of a typed one
 typed-instruction : (c : List ℕ) (p : ℕ) → 10 ≤ byte c p → (byte c p ≡ 41 → ⊥) → (byte c p ≡ 42 → ⊥) → (byte c p ≡ 43 → ⊥) → (byte c p ≡ 44 → ⊥) → (byte c p ≡ 45 → ⊥) → instructionAt c p ≡ typedAt c p Unknown
 typed-instruction c p l n m o i j =
@@ -56,6 +58,46 @@ typed-instruction c p l n m o i j =
   where
     off : (k : ℕ) → k < 10 → byte c p ≡ k → ⊥
     off k i e = omega arith
+
+-- AURD or AUWD
+two-of : (n op : ℕ) → op < suc (suc n) → n ≤ op → (op ≡ n) ⊎ (op ≡ suc n)
+two-of n op h l = go (eqb op n) refl
+  where
+    go : (b : Bool) → eqb op n ≡ b → (op ≡ n) ⊎ (op ≡ suc n)
+    go true e = inl (eqb-true op n e)
+    go false e =
+        let k : (op ≡ n → ⊥) = eqb-false op n e in
+        inr (omega arith)
+
+-- the code byte is not that of a command which has an arm of its own
+abbrev pub Others : ℕ → Type 0
+Others op = ((((((((((((Unit {0} × (op ≡ 0 → ⊥)) × (op ≡ 1 → ⊥)) × (op ≡ 2 → ⊥)) × (op ≡ 3 → ⊥)) × (op ≡ 4 → ⊥)) × (op ≡ 5 → ⊥)) × (op ≡ 6 → ⊥)) × (op ≡ 7 → ⊥)) × (op ≡ 41 → ⊥)) × (op ≡ 42 → ⊥)) × (op ≡ 43 → ⊥)) × (op ≡ 44 → ⊥)) × (op ≡ 45 → ⊥)
+
+-- such a one below 10 is AURD's or AUWD's
+pub element-of : {op : ℕ} → Others op → op < 10 → (op ≡ 8) ⊎ (op ≡ 9)
+element-of {op} n h = two-of 8 op h (past (past (past (past (past (past (past (past (omega arith) (n .0 .0 .0 .0 .0 .0 .0 .0 .0 .0 .0 .0 .1)) (n .0 .0 .0 .0 .0 .0 .0 .0 .0 .0 .0 .1)) (n .0 .0 .0 .0 .0 .0 .0 .0 .0 .0 .1)) (n .0 .0 .0 .0 .0 .0 .0 .0 .0 .1)) (n .0 .0 .0 .0 .0 .0 .0 .0 .1)) (n .0 .0 .0 .0 .0 .0 .0 .1)) (n .0 .0 .0 .0 .0 .0 .1)) (n .0 .0 .0 .0 .0 .1))
+  where
+    past : {k : ℕ} → k ≤ op → (op ≡ k → ⊥) → suc k ≤ op
+    past l m = omega arith
+
+-- the code bytes that are known are below 64
+known-low : (op : ℕ) → op < 256 → 0 < lengthOf op → op < 64
+unfolding lengthOf rowOf pick
+known-low op l h = go (ltb op 64) refl
+  where
+    go : (b : Bool) → ltb op 64 ≡ b → op < 64
+    go true e = ltb-true op 64 e
+    go false e =
+        let z : lengthOf op ≡ 0 = eqb→eq (lengthOf op) 0 (either-T _ _ (below (λ k. either (ltb k 64) (eqb (lengthOf k) 0)) 256 tt op l) e) in
+        absurd (omega arith)
+
+-- the code byte where an instruction of accepted code starts
+pub command-low : (c : List ℕ) (p : ℕ) → judgeCode c ≡ 0 → isStart c p ≡ true → byte c p < 256 → byte c p < 64
+command-low c p a s l = known-low (byte c p) l (sound c p a s .here .known)
+
+-- a bit for each code byte with three addresses
+pub three-bits : (op : ℕ) → op < 64 → eqb (274728943616 / 2 ^ op % 2) 1 ≡ three op
+three-bits op l = same-is _ _ (below (λ k. same (eqb (274728943616 / 2 ^ k % 2) 1) (three k)) 64 tt op l)
 
 -- the instruction and its length, where the second source stands n bytes after the start
 pub record TypedAt (c : List ℕ) (p op n : ℕ) : Type 0 where
@@ -93,16 +135,6 @@ not-here c p e = record { is = rw e; long = rw e; passes = rw e }
 
 -- ---- what the function of each command asks
 
--- JZ or JNZ, AURD or AUWD
-pub two-of : (n op : ℕ) → op < suc (suc n) → n ≤ op → (op ≡ n) ⊎ (op ≡ suc n)
-two-of n op h l = go (eqb op n) refl
-  where
-    go : (b : Bool) → eqb op n ≡ b → (op ≡ n) ⊎ (op ≡ suc n)
-    go true e = inl (eqb-true op n e)
-    go false e =
-        let k : (op ≡ n → ⊥) = eqb-false op n e in
-        inr (omega arith)
-
 width-listed : (w : ℕ) → isWidth w ≡ true → Width w
 width-listed w e = go (either-cases (eqb w 1) _ e)
   where
@@ -128,11 +160,6 @@ module _ (c : List ℕ) (r : Registers) (d : List ℕ) (x : Executable c r d) wh
   pub stands : (op : ℕ) → byte c (r .counter) ≡ op → InstructionStands op (lengthOf op) c r
   stands op e = record { here = e; whole = rw e at (here .here .fixed); short = x .short }
 
-  pub stands-report : (op k : ℕ) → byte c (r .counter) ≡ op → op ≡ k → lengthOf k ≡ 3 → InstructionStands op 3 c r
-  stands-report op k e f l =
-      let s = stands op e in
-      record { here = e; whole = omega (arith, s .whole, ap lengthOf f ∙ l); short = x .short }
-
   pub stands-constant : byte c (r .counter) ≡ 6 → InstructionStands 6 (4 + byte c (r .counter + 3)) c r
   unfolding instructionLength lengthOf rowOf pick kindAt
   stands-constant e =
@@ -144,11 +171,10 @@ module _ (c : List ℕ) (r : Registers) (d : List ℕ) (x : Executable c r d) wh
   element-size op (inl z) e = width-listed _ (both-true _ _ (rw (e, z) at (here .here .listed)) .0)
   element-size op (inr z) e = width-listed _ (both-true _ _ (rw (e, z) at (here .here .listed)) .0)
 
-  pub stands-element : (op : ℕ) → byte c (r .counter) ≡ op → 4 ≤ op → op < 10 → (op ≡ 4 → ⊥) → (op ≡ 5 → ⊥) → (op ≡ 6 → ⊥) → (op ≡ 7 → ⊥)
+  pub stands-element : (op : ℕ) → (op ≡ 8) ⊎ (op ≡ 9) → byte c (r .counter) ≡ op
       → ((op ≡ 8) ⊎ (op ≡ 9)) × InstructionStands op 10 c r × Width (byte c (r .counter + 7))
   unfolding lengthOf rowOf pick kindAt
-  stands-element op e k h n4 n5 n6 n7 =
-      let o : (op ≡ 8) ⊎ (op ≡ 9) = two-of 8 op h (omega arith) in
+  stands-element op o e =
       let l : lengthOf op ≡ 10 = ⊎-elim (λ z. rw z) (λ z. rw z) o in
       let s = stands op e in
       (o, record { here = e; whole = omega (arith, s .whole); short = x .short }, element-size op o e)
@@ -197,13 +223,11 @@ module _ (c : List ℕ) (r : Registers) (d : List ℕ) (x : Executable c r d) wh
   next-fits = record { fits = omega (arith, here .inside, x .short) }
 
   -- a code byte of no other command is NOT's
-  pub last-here : 10 ≤ byte c (r .counter) → (byte c (r .counter) ≡ 41 → ⊥) → (byte c (r .counter) ≡ 42 → ⊥) → (byte c (r .counter) ≡ 43 → ⊥)
-      → (byte c (r .counter) ≡ 44 → ⊥) → (byte c (r .counter) ≡ 45 → ⊥) → (byte c (r .counter) ≡ 16 → ⊥) → (byte c (r .counter) ≡ 17 → ⊥) → (byte c (r .counter) ≡ 18 → ⊥) → (byte c (r .counter) ≡ 19 → ⊥)
-      → (byte c (r .counter) ≡ 20 → ⊥) → (byte c (r .counter) ≡ 24 → ⊥) → (byte c (r .counter) ≡ 25 → ⊥) → (byte c (r .counter) ≡ 26 → ⊥)
-      → (byte c (r .counter) ≡ 28 → ⊥) → (byte c (r .counter) ≡ 29 → ⊥) → (byte c (r .counter) ≡ 30 → ⊥) → (byte c (r .counter) ≡ 31 → ⊥)
-      → (byte c (r .counter) ≡ 32 → ⊥) → (byte c (r .counter) ≡ 33 → ⊥) → (byte c (r .counter) ≡ 34 → ⊥) → (byte c (r .counter) ≡ 35 → ⊥)
-      → (byte c (r .counter) ≡ 36 → ⊥) → (byte c (r .counter) ≡ 37 → ⊥) → TypedAt c (r .counter) 27 4
-  last-here l n41 n42 n43 n44 n45 n16 n17 n18 n19 n20 n24 n25 n26 n28 n29 n30 n31 n32 n33 n34 n35 n36 n37 =
-      let none : (three (byte c (r .counter)) ≡ true → ⊥) = λ t.
-      n37 (last-code _ _ (typed-taken _ 6 (three-here c (r .counter) _ refl t)) n16 n17 n18 n19 n20 n24 n25 n26 (λ z. absurd-bool (rw z at t)) n28 n29 n30 n31 n32 n33 n34 n35 n36) in
-      not-here c (r .counter) (not-listed c (r .counter) none (ap operandsOk (sym (typed-instruction c (r .counter) l n41 n42 n43 n44 n45)) ∙ here .here .listed))
+  pub not-last : {op : ℕ} → byte c (r .counter) ≡ op → three op ≡ false → Others op → 10 ≤ op → TypedAt c (r .counter) 27 4
+  not-last {op} e f n l =
+      not-here c (r .counter)
+      (not-listed c (r .counter) (λ t. absurd-bool (sym f ∙ ap three (sym e) ∙ t))
+      (ap operandsOk (sym (typed-instruction c (r .counter) (omega arith) (other (n .0 .0 .0 .0 .1)) (other (n .0 .0 .0 .1)) (other (n .0 .0 .1)) (other (n .0 .1)) (other (n .1)))) ∙ here .here .listed))
+    where
+      other : {k : ℕ} → (op ≡ k → ⊥) → byte c (r .counter) ≡ k → ⊥
+      other m z = m (sym e ∙ z)

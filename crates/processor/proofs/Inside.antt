@@ -1,6 +1,6 @@
 -- Laws of operands. In order: the place of an address; operands inside the data; copying an element as a number. Assumes nothing.
 use mathlib.Core.Path.{_≡_, refl, sym, ap, _∙_}
-use mathlib.Core.Bool.{Bool, true, false}
+use mathlib.Core.Bool.{Bool, true, false, _&&_}
 use mathlib.Core.List.{List, [], _∷_}
 use Prim.Native.Nat.{ℕ, zero, suc, _+_, _-_, _%_, _^_, _≤_, _<_}
 use native.Mathlib.Omega.{arith}
@@ -12,13 +12,19 @@ use mir.Syntax.{w8}
 use mir.Val.{Fits}
 use Rattle.verdict.specs.Verdict.{pick, either}
 use Rattle.verdict.proofs.Verdict.{absurd-bool, by-pick}
-use Rattle.memory.specs.Memory.{splice, part, bytesLE, readLE}
+use Rattle.memory.specs.Memory.{byte, word, splice, part, bytesLE, readLE}
 use Rattle.memory.proofs.Laws.{length-part}
 use Rattle.memory.proofs.Number.{bytes-value}
 use Rattle.values.specs.Commands.{beyond, anyBeyond}
+use Rattle.protocol.specs.declared.Registers.{Registers}
+use Rattle.commands.specs.declared.Operands.{Operands}
 use Rattle.processor.specs.Processor.{placeOf}
+use Rattle.processor.specs.Typed.{operandsAt, Low}
 
 -- ---- the place of an address
+
+abbrev asOperands : ℕ → ℕ → ℕ → ℕ → Operands
+asOperands kind to first second = record { kind = kind; to = to; first = first; second = second }
 
 -- a sum at 64 bits, with the offset or with what takes 32,768 away
 pub summed : (offset address b r : ℕ) → offset < 65536 → address < 65536 → b ≡ pick (ltb address 32768) offset 18446744073709518848 → r ≡ (b + address) % 2 ^ 64
@@ -37,6 +43,31 @@ summed offset address b r h l e f = go (ltb address 32768) refl
         let g : b ≡ 18446744073709518848 = rw t at e in
         let s : r ≡ address - 32768 = omega (arith, f, g) in
         (rw t s, omega arith)
+
+-- an address that is not absolute
+relative : (offset address : ℕ) → ltb address 32768 ≡ true → offset < 65536 → (offset + address ≡ placeOf offset address) × (offset + address < 98304)
+unfolding placeOf pick
+relative offset address e h = (rw e, omega (arith, ltb-true address 32768 e))
+
+and-true : (a b : Bool) → (a && b) ≡ true → (a ≡ true) × (b ≡ true)
+and-true true b e = (refl, e)
+and-true false b e = absurd-bool e
+
+-- three of them
+pub relative-operands : (c : List ℕ) (r : Registers) {to first second : ℕ} → to ≡ word c (r .counter + 2) → first ≡ word c (r .counter + 4) → second ≡ word c (r .counter + 6)
+    → ((ltb to 32768 && ltb first 32768) && ltb second 32768) ≡ true → r .offset < 65536
+    → (asOperands (byte c (r .counter + 1)) (r .offset + to) (r .offset + first) (r .offset + second) ≡ operandsAt 6 c r)
+    × Low (asOperands (byte c (r .counter + 1)) (r .offset + to) (r .offset + first) (r .offset + second))
+relative-operands c r {to} {first} {second} e f g t h =
+    let a = and-true _ _ t in
+    let b = and-true _ _ (a .0) in
+    let x = relative (r .offset) to (b .0) h in
+    let y = relative (r .offset) first (b .1) h in
+    let z = relative (r .offset) second (a .1) h in
+    let p = x .0 ∙ ap (placeOf (r .offset)) e in
+    let q = y .0 ∙ ap (placeOf (r .offset)) f in
+    let s = z .0 ∙ ap (placeOf (r .offset)) g in
+    ((λ i. asOperands (byte c (r .counter + 1)) (p i) (q i) (s i)), (x .1, y .1, z .1))
 
 -- ---- operands inside the data
 

@@ -6,6 +6,7 @@ use conversions::Conversion;
 use protocol::Outcome;
 use protocol::Registers;
 ghost use mathlib.Core.Path.{_≡_};
+ghost use mathlib.Core.Bool.{true, false};
 ghost use mathlib.Core.Logic.{_⊎_};
 ghost use Prim.Native.Nat.{_+_, _*_, _≤_, _<_};
 ghost use lib.ListN.{length};
@@ -13,6 +14,8 @@ ghost use lib.Dec.{ltb};
 ghost use Rattle.memory.specs.Memory.{byte, splice, part, word};
 ghost use Rattle.verdict.specs.Verdict.{pick};
 ghost use Rattle.values.specs.Width.{Width};
+ghost use Rattle.code.specs.Commands.{three};
+ghost use Rattle.code.specs.Code.{judgeCode, isStart};
 ghost use Rattle.values.specs.Commands.{beyond, anyBeyond};
 ghost use Rattle.processor.specs.Processor.{placeOf, answer, executed};
 ghost use Rattle.processor.specs.Typed.{operandsAt, Low, outcomeOf, conversionOutcome};
@@ -31,7 +34,7 @@ const MEMCP: u16 = code::LENGTHS[7] as u16;
 
 const ELEMENT: u16 = code::LENGTHS[8] as u16;
 
-const TYPED: u16 = code::LENGTHS[16] as u16;
+pub const TYPED: u16 = code::LENGTHS[16] as u16;
 
 const NOT: u16 = code::LENGTHS[27] as u16;
 
@@ -242,17 +245,30 @@ fn access_element(op: u8, r: Registers, code: &[u8], d: &mut [u8]) -> Outcome
 
 // ---- typed commands
 
-// The operands of a command with three addresses.
+// The operands of a command with three addresses. Mostly none of them is absolute: then the data offset is added to each.
 fn operands(r: Registers, code: &[u8]) -> Operands
     requires { ⌜ (r .counter + 8 ≤ length (now code)) × (length (now code) ≤ 8192) ⌝ }
     ensures { λ o. ⌜ (o ≡ operandsAt 6 (now (code .entry)) r) × Low o ⌝ }
 {
     let p = r.counter as usize;
+    let kind = code[p + 1];
+    let to = code::word(code, p + 2);
+    let first = code::word(code, p + 4);
+    let second = code::word(code, p + 6);
+    if (to < ABSOLUTE) & (first < ABSOLUTE) & (second < ABSOLUTE) {
+        let offset = r.offset as usize;
+        return Operands {
+            kind,
+            to: offset + to as usize,
+            first: offset + first as usize,
+            second: offset + second as usize,
+        };
+    }
     Operands {
-        kind: code[p + 1],
-        to: operand(r.offset, code, p + 2),
-        first: operand(r.offset, code, p + 4),
-        second: operand(r.offset, code, p + 6),
+        kind,
+        to: place(r.offset, to),
+        first: place(r.offset, first),
+        second: place(r.offset, second),
     }
 }
 
@@ -360,19 +376,41 @@ fn unpack(r: Registers, code: &[u8], d: &mut [u8]) -> Outcome
 
 // ---- one instruction
 
-// The instruction at the program counter, by its code byte: what it answers, and the data after it in place.
-pub fn execute(r: Registers, code: &[u8], d: &mut [u8]) -> Outcome
-    requires { ⌜ Executable (now code) r (now d) ⌝ }
+// The code bytes of the typed commands with three addresses, a bit for each.
+const THREE_ADDRESSES: u64 = 0x3ff71f0000;
+
+// Whether a code byte is one of those. Every instruction is asked, so it is one test of a bit.
+pub fn has_three(op: u8) -> bool
+    requires { ⌜ op < 64 ⌝ }
+    ensures { λ b. ⌜ b ≡ three op ⌝ }
+{
+    (THREE_ADDRESSES >> op) & 1 == 1
+}
+
+// The code byte at the program counter.
+pub fn command_at(counter: u16, code: &[u8]) -> u8
+    requires { ⌜ (judgeCode (now code) ≡ 0) × (isStart (now code) counter ≡ true) ⌝ }
+    ensures { λ op. ⌜ (op ≡ byte (now (code .entry)) counter) × (op < 64) ⌝ }
+{
+    code[counter as usize]
+}
+
+// A typed command with three addresses: how it ended, and the data after it in place.
+pub fn execute_typed(op: u8, r: Registers, code: &[u8], d: &mut [u8]) -> Performed
+    requires { ⌜ Executable (now code) r (now d) × (byte (now code) (r .counter) ≡ op) × (three op ≡ true) ⌝ }
+    ensures { λ p. ⌜ answer (outcomeOf (r .counter + 8) p) (now (d .exit)) ≡ executed (now (code .entry)) r (now (d .entry)) ⌝ }
+{
+    commands::typed_at(d, op, operands(r, code))
+}
+
+// Any other command: what it answers, and the data after it in place.
+pub fn execute_other(op: u8, r: Registers, code: &[u8], d: &mut [u8]) -> Outcome
+    requires { ⌜ Executable (now code) r (now d) × (byte (now code) (r .counter) ≡ op) × (three op ≡ false) ⌝ }
     ensures { λ o. ⌜ answer o (now (d .exit)) ≡ executed (now (code .entry)) r (now (d .entry)) ⌝ }
 {
-    let p = r.counter as usize;
-    let op = code[p];
-    // Where a typed command goes on, said once, ahead of the arms. Of a sum in each arm the compiler makes one, of the counter and of a length that the
-    // arms set, and the next instruction then waits until the type of this one is looked up (docs/PERFORMANCE.md).
-    let next = r.counter + TYPED;
     match op {
         0 => Outcome::Return,
-        1 => Outcome::Next(code::word(code, p + 1)),
+        1 => Outcome::Next(code::word(code, r.counter as usize + 1)),
         2 => branch(2, r, code, d),
         3 => branch(3, r, code, d),
         4 => call_instance(r, code, d),
@@ -380,29 +418,23 @@ pub fn execute(r: Registers, code: &[u8], d: &mut [u8]) -> Outcome
         6 => move_constant(r, code, d),
         7 => copy_memory(r, code, d),
         8 | 9 => access_element(op, r, code, d),
-        41 => store_number(op, r, code, d, 4, r.time as u64),
-        42 => store_number(op, r, code, d, 1, r.flags as u64),
-        16 => outcome(commands::add_at(d, operands(r, code)), next),
-        17 => outcome(commands::sub_at(d, operands(r, code)), next),
-        18 => outcome(commands::mul_at(d, operands(r, code)), next),
-        19 => outcome(commands::div_at(d, operands(r, code)), next),
-        20 => outcome(commands::modulo_at(d, operands(r, code)), next),
-        24 => outcome(commands::and_at(d, operands(r, code)), next),
-        25 => outcome(commands::or_at(d, operands(r, code)), next),
-        26 => outcome(commands::xor_at(d, operands(r, code)), next),
-        28 => outcome(commands::shl_at(d, operands(r, code)), next),
-        29 => outcome(commands::shr_at(d, operands(r, code)), next),
-        30 => outcome(commands::rol_at(d, operands(r, code)), next),
-        31 => outcome(commands::ror_at(d, operands(r, code)), next),
-        32 => outcome(commands::gt_at(d, operands(r, code)), next),
-        33 => outcome(commands::ge_at(d, operands(r, code)), next),
-        34 => outcome(commands::eq_at(d, operands(r, code)), next),
-        35 => outcome(commands::le_at(d, operands(r, code)), next),
-        36 => outcome(commands::lt_at(d, operands(r, code)), next),
-        37 => outcome(commands::ne_at(d, operands(r, code)), next),
+        41 => store_number(41, r, code, d, 4, r.time as u64),
+        42 => store_number(42, r, code, d, 1, r.flags as u64),
         43 => convert(r, code, d),
         44 => pack(r, code, d),
         45 => unpack(r, code, d),
         _ => outcome(commands::not_at(d, single(r, code)), r.counter + NOT),
     }
+}
+
+// The instruction at the program counter, by its code byte: what it answers, and the data after it in place.
+pub fn execute(r: Registers, code: &[u8], d: &mut [u8]) -> Outcome
+    requires { ⌜ Executable (now code) r (now d) ⌝ }
+    ensures { λ o. ⌜ answer o (now (d .exit)) ≡ executed (now (code .entry)) r (now (d .entry)) ⌝ }
+{
+    let op = command_at(r.counter, code);
+    if has_three(op) {
+        return outcome(execute_typed(op, r, code, d), r.counter + TYPED);
+    }
+    execute_other(op, r, code, d)
 }

@@ -1,4 +1,4 @@
--- Steps of one core that copy bytes of its exchange, none of them the last. In order: the order; the data; one step; a reading; a writing; both; eight steps as one number.
+-- Steps of one core that copy bytes of its exchange, none of them the last. In order: bytes that leave one; the data; one step; a reading; a writing; both; eight steps as one number.
 -- Assumes nothing.
 use mathlib.Core.Path.{_≡_, refl, sym, ap, ap₂, _∙_, subst, subst⁻¹}
 use mathlib.Core.Logic.{_≢_, inl, inr}
@@ -39,20 +39,7 @@ use Rattle.runner.specs.Running.{AllOn, bytesOn, Running, RunningAt}
 use Rattle.runner.proofs.Running.{core-in, running-on}
 use Rattle.runner.proofs.Loop.{aimed-on, holds}
 
--- ---- the order
-
-pub all-none : (order : List ℕ) (k i : ℕ) → AllOn order k i 0
-all-none order k i j a b = absurd (let z : ⊥ = omega arith in z)
-
-pub all-more : (order : List ℕ) (k i m n : ℕ) → AllOn order k i m → AllOn order k (i + m) n → AllOn order k i (m + n)
-all-more order k i m n u v j a b = go (decLe (suc j) (i + m))
-  where
-    go : Dec (j < i + m) → getD order j 0 ≡ k
-    go (yes h) = u j a h
-    go (no h) = v j (omega (arith, h)) (omega arith)
-
-pub all-one : (order : List ℕ) (k i : ℕ) → getD order i 0 ≡ k → AllOn order k i 1
-all-one order k i e j a b = let q : j ≡ i = omega arith in ap (λ (x : ℕ). getD order x 0) q ∙ e
+-- ---- bytes that leave one
 
 -- fewer bytes leave one too
 pub ahead-less : (c : CoreTask) (r : Registers) (n m : ℕ) → m ≤ n → Ahead c r n → Ahead c r m

@@ -1,3 +1,4 @@
+pub mod Stretches
 pub mod Running
 pub mod Loop
 pub mod Arms

@@ -1,14 +1,16 @@
 -- Where a run stands between two of its steps, and what its parts promise of it. In order: the order; a place of execution, and of an exchange; the invariant;
 -- steps that carry a run on.
 use mathlib.Core.Path.{_≡_}
-use mathlib.Core.Bool.{Bool}
+use mathlib.Core.Bool.{Bool, true}
 use mathlib.Core.List.{List}
+use mathlib.Core.Option.{Option, none, some}
 use Prim.Native.Nat.{ℕ, suc, _+_, _≤_, _<_}
 use lib.Dec.{ltb, eqb}
 use lib.ListN.{length, getD, set, take, drop}
 use Rattle.verdict.specs.Verdict.{both}
 use Rattle.memory.specs.Memory.{splice, total}
 use Rattle.protocol.specs.declared.Registers.{Registers}
+use Rattle.protocol.specs.Registers.{faulted}
 use Rattle.protocol.specs.State.{Semaphore, State}
 use Rattle.protocol.specs.Step.{run, takings, orderList}
 use Rattle.exchange.specs.declared.Cursor.{Cursor}
@@ -30,6 +32,13 @@ stepsOn order i k = both (ltb i (length order)) (eqb (getD order i 0) k)
 abbrev pub AllOn : List ℕ → ℕ → ℕ → ℕ → Type 0
 AllOn order k i m = (j : ℕ) → i ≤ j → j < i + m → getD order j 0 ≡ k
 
+-- the m steps from i on are of core k, m being at most this many; where the first is, and one is allowed, there is one
+pub record Stretches (order : List ℕ) (i most k m : ℕ) : Type 0 where
+  pub few : m ≤ most
+  pub within : i + m ≤ length order
+  pub all : AllOn order k i m
+  pub some : stepsOn order i k ≡ true → 0 < most → 0 < m
+
 -- ---- a place of execution, and of an exchange
 
 -- the registers r with another one
@@ -45,6 +54,11 @@ executingAt r counter offset depth count = record {
   flags = r .flags;
   time = r .time;
 }
+
+-- the registers r after a fault, if there is one
+abbrev pub faultedBy : Option ℕ → Registers → Registers
+faultedBy none r = r
+faultedBy (some bit) r = faulted bit r
 
 -- the registers r with more bytes of an exchange copied
 abbrev pub bytesOn : Registers → ℕ → Registers

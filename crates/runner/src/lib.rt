@@ -1,6 +1,11 @@
 // The steps of an order, one after another.
+use commands::Performed;
 use exchange::Cursor;
+use processor::TYPED;
+use protocol::ADDRESS;
+use protocol::DIVISOR;
 use protocol::EXECUTING;
+use protocol::LIMIT;
 use protocol::Outcome;
 use protocol::Registers;
 use states::CoreTask;
@@ -9,14 +14,15 @@ use steps::Exchange;
 ghost use mathlib.Core.Path.{_≡_};
 ghost use mathlib.Core.Bool.{true, false};
 ghost use mathlib.Core.Logic.{_≢_};
-ghost use Prim.Native.Nat.{_+_, _*_, _<_, _≤_};
+ghost use Prim.Native.Nat.{_+_, _*_, _<_, _≤_, min};
 ghost use lib.ListN.{length, getD, set};
+ghost use Rattle.commands.specs.Attempts.{flagBit};
 ghost use Rattle.records.specs.File.{cores};
 ghost use Rattle.runner.specs.Runs.{allBelow, leftAs, ranCall};
 ghost use Rattle.states.specs.Tasks.{coreTask};
 ghost use Rattle.steps.specs.Bytes.{Ahead};
 ghost use Rattle.runner.specs.Going.{RunGiven};
-ghost use Rattle.runner.specs.Running.{stepsOn, AllOn, executingAt, bytesOn, RunStands, CarriesRun};
+ghost use Rattle.runner.specs.Running.{stepsOn, AllOn, Stretches, faultedBy, executingAt, bytesOn, RunStands, CarriesRun};
 ghost use Rattle.runner.specs.Executing.{ExecutionGiven, Executes};
 ghost use Rattle.protocol.specs.Modes.{executing};
 
@@ -110,20 +116,22 @@ fn eight_on(order: &[u8], i: usize, room: usize, k: usize) -> bool
     memory::load(order, i, 8) == k as u64 * ONES
 }
 
-// How many of the steps from i on are of core k, with the registers r and the task c, and copy bytes of its exchange that leave one; 0 where the next
-// step is of another core, so that a single step is told at once.
-fn steps_ahead(order: &[u8], i: usize, k: usize, r: Registers, c: CoreTask) -> usize
-    requires { ⌜ (i < length (now order)) × (k < 4) ⌝ }
-    ensures { λ m. ⌜ (0 < m → Ahead c r m) × (i + m ≤ length (now (order .entry))) × AllOn (now (order .entry)) k i m ⌝ }
+// The lesser of two numbers.
+fn least(a: usize, b: usize) -> usize
+    ensures { λ r. ⌜ r ≡ min a b ⌝ }
 {
-    if !stays(order, i + 1, k) {
-        return 0;
+    if a < b {
+        return a;
     }
-    let most = steps::bytes_ahead(r, c);
-    let mut room = order.len() - i;
-    if most < room {
-        room = most;
-    }
+    b
+}
+
+// How many of the steps from i on are of core k, one after another, `most` of them at most.
+fn stretch(order: &[u8], i: usize, most: usize, k: usize) -> usize
+    requires { ⌜ (i ≤ length (now order)) × (k < 4) ⌝ }
+    ensures { λ m. ⌜ Stretches (now (order .entry)) i most k m ⌝ }
+{
+    let room = least(order.len() - i, most);
     let mut m: usize = 0;
     while eight_on(order, i + m, room - m, k) {
         m += 8;
@@ -137,6 +145,18 @@ fn steps_ahead(order: &[u8], i: usize, k: usize, r: Registers, c: CoreTask) -> u
     m
 }
 
+// How many of the steps from i on are of core k, with the registers r and the task c, and copy bytes of its exchange that leave one; 0 where the next
+// step is of another core, so that a single step is told at once.
+fn steps_ahead(order: &[u8], i: usize, k: usize, r: Registers, c: CoreTask) -> usize
+    requires { ⌜ (i < length (now order)) × (k < 4) ⌝ }
+    ensures { λ m. ⌜ (0 < m → Ahead c r m) × (i + m ≤ length (now (order .entry))) × AllOn (now (order .entry)) k i m ⌝ }
+{
+    if !stays(order, i + 1, k) {
+        return 0;
+    }
+    stretch(order, i, steps::bytes_ahead(r, c), k)
+}
+
 // The registers of a core that has copied `count` more bytes.
 fn bytes_on(r: Registers, count: usize) -> Registers
     requires { ⌜ r .exchange + count < 65536 ⌝ }
@@ -147,6 +167,20 @@ fn bytes_on(r: Registers, count: usize) -> Registers
     s
 }
 
+// Steps that are looked at ahead: so many that the look at them costs a step little, and so few that little is lost where the core leaves mode 2 before.
+const STRETCH: usize = 256;
+
+// The registers of a core whose typed command did not end well.
+fn stopped(r: Registers, p: Performed) -> Registers
+    ensures { λ s. ⌜ s ≡ faultedBy (flagBit p) r ⌝ }
+{
+    match p {
+        Performed::Done => r,
+        Performed::Beyond => protocol::faulted(r, ADDRESS),
+        Performed::ByZero => protocol::faulted(r, DIVISOR),
+    }
+}
+
 // What a stretch of instructions leaves: the step after them, and the registers.
 struct Reached {
     step: usize,
@@ -154,7 +188,7 @@ struct Reached {
 }
 
 // The instructions of core k with the registers `before`, from step `from` of the order on, for as long as it executes and the order stays
-// with it. What an instruction changes of the registers is kept in locals.
+// with it, up to a stretch. What an instruction changes of the registers is kept in locals; the limit and the order are tried once, before.
 fn run_core(
     file: &[u8],
     trace: &[u8],
@@ -168,60 +202,74 @@ fn run_core(
     buffer: &mut [u8],
 ) -> Reached
     requires { ⌜ RunStands (now file) (now trace) (now order) from k before (now places) (now offsets) (now buffer) × (c ≡ coreTask (now file) (now trace) k) × (stepsOn (now order) from k ≡ true) × (before .mode ≡ executing) ⌝ }
-    ensures { λ x. ⌜ (from < x .step) × CarriesRun (now (file .entry)) (now (trace .entry)) (now (order .entry)) k from before (now (places .entry)) (now (offsets .entry)) (now (buffer .entry)) (x .step) (x .registers) (now (places .exit)) (now (offsets .exit)) (now (buffer .exit)) × (x .registers .mode ≡ executing → (stepsOn (now (order .entry)) (x .step) k ≡ false) × (x .registers .count + from ≡ before .count + x .step)) ⌝ }
+    ensures { λ x. ⌜ (from < x .step) × CarriesRun (now (file .entry)) (now (trace .entry)) (now (order .entry)) k from before (now (places .entry)) (now (offsets .entry)) (now (buffer .entry)) (x .step) (x .registers) (now (places .exit)) (now (offsets .exit)) (now (buffer .exit)) × (x .registers .mode ≡ executing → x .registers .count + from ≡ before .count + x .step) ⌝ }
 {
+    if before.count as usize == c.limit {
+        return Reached {
+            step: from + 1,
+            registers: protocol::faulted(before, LIMIT),
+        };
+    }
+    let most = least(c.limit - before.count as usize, STRETCH);
+    let end = from + stretch(order, from, most, k);
     let mut counter = before.counter;
     let mut offset = before.offset;
     let mut depth = before.depth;
-    let mut count = before.count;
     let mut step = from;
-    let mut on = true;
-    while on {
-        let r = executing_at(before, counter, offset, depth, count);
-        let o = steps::instruction_of(r, k, c, file, trace, buffer);
-        step += 1;
-        match o {
-            Outcome::Fault(bit) => {
+    while step < end {
+        let r = executing_at(before, counter, offset, depth, before.count + (step - from) as u16);
+        let op = steps::command_of(counter, k, c, file, trace);
+        if processor::has_three(op) {
+            let p = steps::typed_of(op, r, k, c, file, trace, buffer);
+            if let Performed::Done = p {
+                counter += TYPED;
+            } else {
                 return Reached {
-                    step,
-                    registers: protocol::faulted(r, bit),
+                    step: step + 1,
+                    registers: stopped(r, p),
                 };
             }
-            Outcome::Next(place) => {
-                counter = place;
-            }
-            Outcome::Call(next, target, instance) => {
-                set_entry(places, k, depth, next);
-                set_entry(offsets, k, depth, offset);
-                counter = target;
-                offset = instance;
-                depth += 1;
-            }
-            Outcome::Return => {
-                if depth == 0 {
+        } else {
+            let o = steps::other_of(op, r, k, c, file, trace, buffer);
+            match o {
+                Outcome::Fault(bit) => {
                     return Reached {
-                        step,
-                        registers: protocol::cycle_ended(r),
+                        step: step + 1,
+                        registers: protocol::faulted(r, bit),
                     };
                 }
-                depth -= 1;
-                counter = entry(places, k, depth);
-                offset = entry(offsets, k, depth);
-                set_entry(places, k, depth, 0);
-                set_entry(offsets, k, depth, 0);
+                Outcome::Next(place) => {
+                    counter = place;
+                }
+                Outcome::Call(next, target, instance) => {
+                    set_entry(places, k, depth, next);
+                    set_entry(offsets, k, depth, offset);
+                    counter = target;
+                    offset = instance;
+                    depth += 1;
+                }
+                Outcome::Return => {
+                    if depth == 0 {
+                        return Reached {
+                            step: step + 1,
+                            registers: protocol::cycle_ended(r),
+                        };
+                    }
+                    depth -= 1;
+                    counter = entry(places, k, depth);
+                    offset = entry(offsets, k, depth);
+                    set_entry(places, k, depth, 0);
+                    set_entry(offsets, k, depth, 0);
+                }
             }
         }
-        count += 1;
-        on = stays(order, step, k);
+        step += 1;
     }
     Reached {
         step,
-        registers: executing_at(before, counter, offset, depth, count),
+        registers: executing_at(before, counter, offset, depth, before.count + (step - from) as u16),
     }
 }
-
-// Steps of an order that names one core alone.
-const STRETCH: usize = 256;
 
 // The instructions of core k with the registers `before`, until it leaves mode 2, where no core exchanges.
 pub fn run_alone(

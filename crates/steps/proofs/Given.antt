@@ -1,5 +1,5 @@
 -- Each case of a step, from what the functions of a step are given of their core (`StepGiven`). In order: input records; what an instruction
--- answers; the cases with the core's task: the record of a cycle, the bytes of an exchange, the instruction; the data of
+-- answers; the code of a core; the cases with the core's task: the record of a cycle, the bytes of an exchange, the instruction; the data of
 -- core k in the buffer of all. Assumes nothing.
 use mathlib.Core.Path.{_≡_, refl, sym, ap, ap₂, _∙_, subst, subst⁻¹}
 use mathlib.Core.Logic.{_≢_, inl, inr}
@@ -10,9 +10,9 @@ use native.Mathlib.Omega.{arith}
 use borrow.Author.Tests.{eq-eqb, ne-eqb}
 use lib.Dec.{eqb}
 use lib.ListN.{length, getD, set, take, drop, replicate, drop-of-length-le}
-use lib.Seq.{drop-cons, drop-drop, map-set-same}
+use lib.Seq.{drop-cons, drop-drop, map-set-same, set-getD}
 use Rattle.verdict.proofs.Verdict.{pick-true, pick-false, by-pick}
-use Rattle.memory.specs.Memory.{splice, part, readLE, start, total, split}
+use Rattle.memory.specs.Memory.{byte, splice, part, readLE, start, total, split}
 use Rattle.memory.proofs.Cores.{split-at, flat-set, split-flat-of, lengths-split, start-end}
 use Rattle.protocol.specs.declared.Registers.{Registers}
 use Rattle.protocol.specs.declared.Outcome.{Outcome}
@@ -32,16 +32,18 @@ use Rattle.exchange.proofs.Cursors.{length-reads, length-writes}
 use Rattle.exchange.proofs.Records.{bytes-few}
 use Rattle.code.specs.Commands.{Kind, Returns as Ends, Jumps, Branches, Calls as Enters, Passes}
 use Rattle.code.specs.Flow.{kindAt}
+use Rattle.code.specs.Code.{judgeCode, isStart}
 use Rattle.processor.specs.Executable.{Executable}
 use Rattle.processor.specs.Placed.{Leads}
 use Rattle.processor.specs.Processor.{Decided, refused, decided, answer, controlled, executed}
+use Rattle.processor.proofs.Accepted.{inside-code}
 use Rattle.processor.proofs.Kept.{executed-leads}
 use Rattle.states.specs.declared.CoreTask.{CoreTask}
 use Rattle.states.specs.Task.{taskOf}
 use Rattle.states.specs.Tasks.{coreTask}
-use Rattle.steps.specs.Effects.{Effect, Idle, Joined, ReadAcquired, ByteRead, ReadReleased, ByteWritten, WriteReleased, backAt, effectOf, Takes, Does, Alone, Steps}
+use Rattle.steps.specs.Effects.{Effect, Idle, Joined, ReadAcquired, ByteRead, ReadReleased, ByteWritten, WriteReleased, backAt, effectOf, Takes, Does, Alone, Steps, InstructsIn}
 use Rattle.steps.specs.Bytes.{Ahead, BytesRead, BytesWritten}
-use Rattle.steps.specs.Moving.{StepGiven}
+use Rattle.steps.specs.Moving.{StepGiven, AtInstruction}
 use Rattle.steps.proofs.Does.{does-spent, does-joined-0, does-read-acquired, does-byte-read, does-read-released, does-byte-written, does-write-released, Leaves, does-instruction}
 
 -- ---- input records
@@ -86,6 +88,23 @@ takes-outcome r c size (Failed b) a h l = a
 takes-outcome r c size (Onward p) a h l = h
 takes-outcome r c size (Calls next target offset) a h l = (h, a .3)
 takes-outcome r c size Returns a h l = back-takes r (r .depth) refl h l
+
+-- ---- the code of a core
+
+module _ {f t : List ℕ} {k : ℕ} {c : CoreTask} {counter : ℕ} (w : AtInstruction f t k c counter) where
+  pub code-inside : c .code + c .length ≤ length f
+  unfolding coreTask
+  code-inside = rw (w .task) (w .accepted .code-inside k (w .known))
+
+  -- as the file lends it
+  pub code-is : (e : ℕ) → e ≡ c .code + c .length → take (e - c .code) (drop (c .code) f) ≡ codeOf f k
+  unfolding coreTask part
+  code-is e p =
+      let n : e - c .code ≡ c .length = omega arith in
+      ap (λ (q : ℕ). take q (drop (c .code) f)) n ∙ ap (λ (x : CoreTask). take (x .length) (drop (x .code) f)) (w .task)
+
+  pub start-in : (e : ℕ) → e ≡ c .code + c .length → (judgeCode (take (e - c .code) (drop (c .code) f)) ≡ 0) × (isStart (take (e - c .code) (drop (c .code) f)) counter ≡ true)
+  start-in e p = rw (code-is e p) (w .accepted .code k (w .known), w .start)
 
 -- ---- the cases with the core's task
 
@@ -235,24 +254,23 @@ module _ {f t : List ℕ} {k : ℕ} {c : CoreTask} {r : Registers} {d : List ℕ
   unfolding coreTask
   limit-is = ap (λ (x : CoreTask). x .limit) (w .task)
 
-  pub code-inside : c .code + c .length ≤ length f
-  unfolding coreTask
-  code-inside = rw (w .task) (w .accepted .code-inside k (w .known))
+  pub at-instruction : AtInstruction f t k c (r .counter)
+  at-instruction = record { accepted = w .accepted; known = w .known; task = w .task; start = w .fit .placed .counter }
 
-  -- the code as the file lends it
-  code-is : (e : ℕ) → e ≡ c .code + c .length → take (e - c .code) (drop (c .code) f) ≡ codeOf f k
-  unfolding coreTask part
-  code-is e p =
-      let n : e - c .code ≡ c .length = omega arith in
-      ap (λ (q : ℕ). take q (drop (c .code) f)) n ∙ ap (λ (x : CoreTask). take (x .length) (drop (x .code) f)) (w .task)
+  pub limit-low : (c .limit < 65536) × (r .count ≤ c .limit)
+  limit-low = (omega (arith, w .accepted .limits k (w .known), limit-is), omega (arith, w .fit .counts, limit-is))
 
   pub executable : (e : ℕ) → e ≡ c .code + c .length → Executable (take (e - c .code) (drop (c .code) f)) r d
-  executable e p = rw (code-is e p) record {
+  executable e p = rw (code-is at-instruction e p) record {
     accepted = w .accepted .code k (w .known);
     short = omega (arith, w .accepted .code-length k (w .known), core-facts f (w .accepted .file) k (w .known) .code-length);
     start = w .fit .placed .counter;
     small = omega (arith, w .fit .size, w .accepted .data-size k (w .known));
   }
+
+  -- the code is short
+  pub counter-low : r .counter < 8192
+  counter-low = let x = executable (c .code + c .length) refl in omega (arith, inside-code _ _ _ x, x .short)
 
   module _ (x : Core) (p : x .registers ≡ r) (q : x .memory ≡ d) where
     at-limit : r .count ≡ c .limit → taskOf f t .instruction k x ≡ applied (halted 1 d) x
@@ -275,7 +293,7 @@ module _ {f t : List ℕ} {k : ℕ} {c : CoreTask} {r : Registers} {d : List ℕ
   pub instruction-done : (h : Semaphore) (e : ℕ) (o : Outcome) (d′ : List ℕ) → r .mode ≡ 2 → r .count ≢ c .limit → e ≡ c .code + c .length
       → answer o d′ ≡ executed (take (e - c .code) (drop (c .code) f)) r d → Alone f t k r d h (effectOf (r .depth) o) d′
   instruction-done h e o d′ m n p a sh =
-      let b : answer o d′ ≡ executed (codeOf f k) r d = a ∙ ap (λ (u : List ℕ). executed u r d) (code-is e p) in
+      let b : answer o d′ ≡ executed (codeOf f k) r d = a ∙ ap (λ (u : List ℕ). executed u r d) (code-is at-instruction e p) in
       let offset : r .offset < length d = omega (arith, w .fit .placed .offset, w .fit .size) in
       let leads : Leads (codeOf f k) (length d) (r .depth) o = subst⁻¹ (λ (y : Executed). Leads (codeOf f k) (length d) (r .depth) (y .outcome)) b
       (executed-leads (codeOf f k) r d offset (w .fit .placed .depth) (w .accepted .code k (w .known)) (w .fit .placed .counter)) in
@@ -314,6 +332,14 @@ module _ {f t : List ℕ} {k : ℕ} {c : CoreTask} {r : Registers} (d : List ℕ
   pub stretch-inside : c .base + c .size ≤ length d
   stretch-inside = omega (arith, base-is, size-is, start-end (sizesOf f) k core-at, n)
 
+  -- the limit is reached: a fault, and the buffer stays
+  pub limit-in : r .mode ≡ 2 → r .count ≡ c .limit → InstructsIn f t k r d (Failed 1) d
+  limit-in i j h sh = record {
+    memory = getD (split (sizesOf f) d) k [];
+    does = limit-reached w h i j sh;
+    kept = sym (set-getD (split (sizesOf f) d) k []);
+  }
+
   module _ (e : ℕ) (p : e ≡ c .base + c .size) where
     pub stretch-is : take (e - c .base) (drop (c .base) d) ≡ getD (split (sizesOf f) d) k []
     stretch-is =
@@ -334,6 +360,22 @@ module _ {f t : List ℕ} {k : ℕ} {c : CoreTask} {r : Registers} (d : List ℕ
       does = subst (λ (u : List ℕ). Does (taskOf f t) k r u sh h z m sh′) stretch-is q;
       kept = stretch-kept m l;
     }
+
+    -- an instruction in the stretch is one in the buffer; u is where the code ends
+    module _ (u : ℕ) (q : u ≡ c .code + c .length) where
+      here : StepGiven f t k c r (take (e - c .base) (drop (c .base) d))
+      here = subst⁻¹ (StepGiven f t k c r) stretch-is w
+
+      pub executable-in : Executable (take (u - c .code) (drop (c .code) f)) r (take (e - c .base) (drop (c .base) d))
+      executable-in = executable here u q
+
+      pub command-in : {op : ℕ} → byte (codeOf f k) (r .counter) ≡ op → byte (take (u - c .code) (drop (c .code) f)) (r .counter) ≡ op
+      command-in i = ap (λ (y : List ℕ). byte y (r .counter)) (code-is (at-instruction w) u q) ∙ i
+
+      pub instructs-in : r .mode ≡ 2 → r .count ≢ c .limit → (o : Outcome) (m : List ℕ)
+          → answer o m ≡ executed (take (u - c .code) (drop (c .code) f)) r (take (e - c .base) (drop (c .base) d)) → length m ≡ length (take (e - c .base) (drop (c .base) d))
+          → InstructsIn f t k r d o (take (c .base) d ++ (m ++ drop (e - c .base) (drop (c .base) d)))
+      instructs-in i j o m a l h sh = steps-in h (effectOf (r .depth) o) m sh sh (instruction-done here h u o m i j q a sh) l
 
     -- several bytes in the stretch are those in the buffer
     pub bytes-read-in : (x count : ℕ) (m sh : List ℕ) → m ≡ copy (take count (drop x (readsOf (variablesOf f) k))) sh (take (e - c .base) (drop (c .base) d))

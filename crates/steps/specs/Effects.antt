@@ -183,10 +183,6 @@ More f k r turns WriteBegun = turns ≡ true
 More f k r turns (WriteOn cursor) = (r .mode ≡ writingExchange) × At f k (r .exchange + 1) cursor
 More f k r turns WriteEnded = Unit {0}
 
--- an instruction that answers o, whatever the semaphore
-abbrev pub Instructs : List ℕ → List ℕ → ℕ → Registers → List ℕ → Outcome → List ℕ → Type 0
-Instructs f t k r d o d′ = (m : Semaphore) → Alone f t k r d m (effectOf (r .depth) o) d′
-
 -- another step that answers z, at a semaphore that the core may take or not
 abbrev pub Exchanges : List ℕ → List ℕ → ℕ → Registers → List ℕ → List ℕ → Bool → Exchange → List ℕ → List ℕ → Type 0
 Exchanges f t k r d sh turns z d′ sh′ = ((m : Semaphore) → turn m k ≡ turns → Does (taskOf f t) k r d sh m (exchanged z) d′ sh′) × More f k r turns z
@@ -204,6 +200,7 @@ pub record Steps (f t : List ℕ) (k : ℕ) (r : Registers) (d sh : List ℕ) (m
   pub does : Does (taskOf f t) k r (getD (split (sizesOf f) d) k []) sh m z memory sh′
   pub kept : split (sizesOf f) d′ ≡ set (split (sizesOf f) d) k memory
 
+-- an instruction that answers o, whatever the semaphore
 abbrev pub InstructsIn : List ℕ → List ℕ → ℕ → Registers → List ℕ → Outcome → List ℕ → Type 0
 InstructsIn f t k r d o d′ = (m : Semaphore) (sh : List ℕ) → Steps f t k r d sh m (effectOf (r .depth) o) d′ sh
 

@@ -1,25 +1,29 @@
 // Document 01, "One step of a core": what a step of a core in each mode does to its data and to shared memory, and which change of its
 // registers goes with it.
+use commands::Performed;
 use exchange::Cursor;
-use protocol::LIMIT;
 use protocol::Outcome;
 use protocol::READING;
 use protocol::Registers;
 use protocol::WRITING;
 use states::CoreTask;
 ghost use mathlib.Core.Path.{_≡_};
+ghost use mathlib.Core.Bool.{true, false};
 ghost use mathlib.Core.List.{[]};
 ghost use mathlib.Core.Logic.{_≢_};
 ghost use Prim.Native.Nat.{_+_, _<_, _≤_};
 ghost use lib.ListN.{length, getD, replicate};
-ghost use Rattle.memory.specs.Memory.{splice, total, split};
+ghost use Rattle.memory.specs.Memory.{byte, splice, split};
 ghost use Rattle.exchange.specs.Exchange.{At};
 ghost use Rattle.records.specs.File.{variables, recordPlace};
+ghost use Rattle.code.specs.Commands.{three};
+ghost use Rattle.taskset.specs.Judge.{codeOf};
 ghost use Rattle.taskset.specs.Task.{sizesOf, sampleAt};
-ghost use Rattle.steps.specs.Effects.{Instructs, Exchanges, ExchangesAlone, ExchangesOn, InstructsIn, ExchangesIn};
+ghost use Rattle.processor.specs.Typed.{outcomeOf};
+ghost use Rattle.steps.specs.Effects.{Exchanges, ExchangesAlone, ExchangesOn, InstructsIn, ExchangesIn};
 ghost use Rattle.steps.specs.declared.Exchange.the-variants.{Joins, WriteBegun};
 ghost use Rattle.verdict.specs.Verdict.{pick};
-ghost use Rattle.steps.specs.Moving.{StepGiven, CursorAimed, ExchangeGiven};
+ghost use Rattle.steps.specs.Moving.{StepGiven, AtInstruction, InstructionGiven, CursorAimed, ExchangeGiven};
 ghost use Rattle.steps.specs.Bytes.{Ahead, BytesMoved};
 ghost use Rattle.protocol.specs.Modes.{betweenCycles, readingExchange, executing, writingExchange};
 
@@ -123,19 +127,6 @@ fn read_byte(
     Exchange::ReadOn(exchange::onward(file, end, 4 + k, r.exchange, cursor))
 }
 
-// Mode 2: one instruction; the limit is tried first.
-fn execute(r: Registers, k: usize, c: CoreTask, file: &[u8], trace: &[u8], d: &mut [u8]) -> Outcome
-    requires { ⌜ StepGiven (now file) (now trace) k c r (now d) × (r .mode ≡ executing) ⌝ }
-    ensures { λ o. ⌜ Instructs (now (file .entry)) (now (trace .entry)) k r (now (d .entry)) o (now (d .exit)) ⌝ }
-{
-    if (r.count as usize) == c.limit {
-        return Outcome::Fault(LIMIT);
-    }
-    let a = c.code;
-    let e = a + c.length;
-    processor::execute(r, &file[a..e], d)
-}
-
 // Mode 3: in the core's turn a writing takes the semaphore, and out of it the core goes in line.
 fn begin_writing(turn: bool) -> Exchange
     ensures { λ z. ⌜ z ≡ pick turn WriteBegun Joins ⌝ }
@@ -200,8 +191,39 @@ fn exchange_in(
 
 // ---- the same in the data buffer of all cores, of which the step is lent the stretch of core k
 
-// An instruction.
-pub fn instruction_of(
+// The code byte of the instruction at the program counter.
+pub fn command_of(counter: u16, k: usize, c: CoreTask, file: &[u8], trace: &[u8]) -> u8
+    requires { ⌜ AtInstruction (now file) (now trace) k c counter ⌝ }
+    ensures { λ op. ⌜ (op ≡ byte (codeOf (now (file .entry)) k) counter) × (op < 64) ⌝ }
+{
+    let a = c.code;
+    let e = a + c.length;
+    processor::command_at(counter, &file[a..e])
+}
+
+// Mode 2, below the limit: a typed command with three addresses, and how it ended.
+pub fn typed_of(
+    op: u8,
+    r: Registers,
+    k: usize,
+    c: CoreTask,
+    file: &[u8],
+    trace: &[u8],
+    buffer: &mut [u8],
+) -> Performed
+    requires { ⌜ InstructionGiven (now file) (now trace) k c r (now buffer) op × (three op ≡ true) ⌝ }
+    ensures { λ p. ⌜ InstructsIn (now (file .entry)) (now (trace .entry)) k r (now (buffer .entry)) (outcomeOf (r .counter + 8) p) (now (buffer .exit)) ⌝ }
+{
+    let a = c.code;
+    let e = a + c.length;
+    let b = c.base;
+    let f = b + c.size;
+    processor::execute_typed(op, r, &file[a..e], &mut buffer[b..f])
+}
+
+// The same of any other command, and what it answers.
+pub fn other_of(
+    op: u8,
     r: Registers,
     k: usize,
     c: CoreTask,
@@ -209,12 +231,14 @@ pub fn instruction_of(
     trace: &[u8],
     buffer: &mut [u8],
 ) -> Outcome
-    requires { ⌜ StepGiven (now file) (now trace) k c r (getD (split (sizesOf (now file)) (now buffer)) k []) × (length (now buffer) ≡ total (sizesOf (now file))) × (r .mode ≡ executing) ⌝ }
+    requires { ⌜ InstructionGiven (now file) (now trace) k c r (now buffer) op × (three op ≡ false) ⌝ }
     ensures { λ o. ⌜ InstructsIn (now (file .entry)) (now (trace .entry)) k r (now (buffer .entry)) o (now (buffer .exit)) ⌝ }
 {
-    let a = c.base;
-    let e = a + c.size;
-    execute(r, k, c, file, trace, &mut buffer[a..e])
+    let a = c.code;
+    let e = a + c.length;
+    let b = c.base;
+    let f = b + c.size;
+    processor::execute_other(op, r, &file[a..e], &mut buffer[b..f])
 }
 
 // Any other step; `turn` says whether the core may take the semaphore.

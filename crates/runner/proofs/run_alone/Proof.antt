@@ -28,7 +28,7 @@ run-core-requires : tie.Need-run-core-requires Inv-loop μ-loop
 run-core-requires c κs = (standing-alone _ (executing-on (c .before .before .before .before .before .before .before .before .before .before .pre .0) (c .before .before .before .before .before .before .loop .inv)), c .before .before .before .before .before .before .before .before .before .before .pre .1, steps-alone 256 (c .before .before .before .before .before .before .before .before .before .before .args .k) (omega arith), c .before .before .before .before .if1 .taken)
 
 loop-less : tie.Need-loop-less Inv-loop μ-loop
-loop-less c = left-less (c .before .before .before .before .before .before .before .before .before .before .loop .r) (c .before .before .before .run-core .result .registers) (c .before .before .before .run-core .result .step) (c .before .before .before .before .before .before .before .before .if1 .taken) (executing-count (executing-on (c .before .before .before .before .before .before .before .before .before .before .before .before .before .before .pre .0) (c .before .before .before .before .before .before .before .before .before .before .loop .inv))) (c .before .before .before .run-core .ensures .0) (λ e. c .before .before .before .run-core .ensures .2 e .1)
+loop-less c = left-less (c .before .before .before .before .before .before .before .before .before .before .loop .r) (c .before .before .before .run-core .result .registers) (c .before .before .before .run-core .result .step) (c .before .before .before .before .before .before .before .before .if1 .taken) (executing-count (executing-on (c .before .before .before .before .before .before .before .before .before .before .before .before .before .before .pre .0) (c .before .before .before .before .before .before .before .before .before .before .loop .inv))) (c .before .before .before .run-core .ensures .0) (c .before .before .before .run-core .ensures .2)
 
 loop-again : tie.Need-loop-again Inv-loop μ-loop
 loop-again c = executes-on (c .before .before .before .before .before .before .before .before .before .before .before .before .before .before .pre .0 .accepted) (c .before .before .before .before .before .before .before .before .before .before .before .before .before .before .pre .0 .known) (c .before .before .before .before .before .before .before .before .before .before .loop .inv) (executes-alone 256 (c .before .before .before .before .before .before .before .before .before .before .before .before .before .before .pre .0 .accepted) refl (c .before .before .before .run-core .ensures .1))

@@ -1,112 +1,280 @@
 -- `runner::run_core` meets its contract. The invariant: any run that stood before the first step stands before this one. Assumes nothing.
 use mathlib.Core.Path.{_≡_, refl, sym, ap, _∙_}
-use mathlib.Core.Bool.{true, false}
 use mathlib.Core.Logic.{⊎-elim}
-use Prim.Native.Nat.{_+_, _-_, _<_, _≤_}
+use Prim.Native.Nat.{_+_, _-_, _≤_}
 use native.Mathlib.Omega.{arith}
-use lib.ListN.{length}
 use borrow.Author.Needs.{needs}
-use Rattle.verdict.proofs.Verdict.{absurd-bool}
 use Rattle.protocol.specs.declared.Registers.{Registers}
 use Rattle.protocol.specs.Registers.{cycleEnded, faulted}
-use Rattle.runner.specs.Running.{stepsOn, executingAt, CarriesRun}
-use Rattle.runner.proofs.Carrying.{step-in, carry-none, carries-as, instructs-as, ended-takes, returned-takes, advanced-at, called-at, returned-at, ready-now, buffer-now, length-now, core-few, faulted-mode, ended-mode, takes-outcome, carry-next, carry-fault, carry-ended, carry-call, carry-return}
+use Rattle.protocol.specs.declared.Outcome.the-variants.{Fault as Failed}
+use Rattle.processor.specs.Typed.{outcomeOf}
+use Rattle.steps.proofs.Given.{at-instruction, counter-low, limit-in, limit-low}
+use Rattle.runner.specs.Running.{executingAt, CarriesRun}
+use Rattle.runner.proofs.Stretches.{step-in}
+use Rattle.runner.proofs.Carrying.{carry-none, carries-as, Instructed, turn-of, doing, given-at, stopped-by, ended-takes, returned-takes, advanced-at, called-at, returned-at, ready-now, length-now, core-few, faulted-mode, ended-mode, takes-outcome, carry-next, carry-fault, carry-ended, carry-call, carry-return}
 use Rattle.runner.proofs.run_core.Statement.{statement}
 use Rattle.runner.proofs.run_core.Tie as tie
 
 abbrev Inv-loop : tie.InvT-loop
-Inv-loop file trace c order from k before places₀ offsets₀ buffer₀ counter₀ offset₀ depth₀ count₀ step₀ on₀ places offsets buffer counter offset depth count step on =
-    (from ≤ step) × (on ≡ false → from < step) × (on ≡ true → stepsOn order step k ≡ true) × CarriesRun file trace order k from before places₀ offsets₀ buffer₀ step (executingAt before counter offset depth count) places offsets buffer × (on ≡ false → stepsOn order step k ≡ false) × (count + from ≡ before .count + step)
+Inv-loop file trace c order from k before places₀ offsets₀ buffer₀ most end counter₀ offset₀ depth₀ step₀ places offsets buffer counter offset depth step =
+    (from ≤ step) × (step ≤ end) × CarriesRun file trace order k from before places₀ offsets₀ buffer₀ step (executingAt before counter offset depth (before .count + (step - from))) places offsets buffer
 
 abbrev μ-loop : tie.MeasureT-loop
-μ-loop file trace c order from k before places₀ offsets₀ buffer₀ counter₀ offset₀ depth₀ count₀ step₀ on₀ places offsets buffer counter offset depth count step on = length order - step
+μ-loop file trace c order from k before places₀ offsets₀ buffer₀ most end counter₀ offset₀ depth₀ step₀ places offsets buffer counter offset depth step = end - step
 
-loop-holds : tie.Need-loop-holds Inv-loop μ-loop
-loop-holds c = (omega arith, (λ e. absurd-bool (sym e)), (λ e. c .before .before .before .before .pre .2), carry-none _ _ _ _ _ _ _ _ _, (λ e. absurd-bool (sym e)), refl)
-
-executing-at-requires : tie.Need-executing-at-requires Inv-loop μ-loop
-executing-at-requires c κs = search needs
-
-instruction-of-requires : tie.Need-instruction-of-requires Inv-loop μ-loop
-instruction-of-requires c κs = rw (c .before .executing-at .ensures) (ready-now (c .before .before .before .before .before .before .before .before .pre .0) (c .before .before .before .loop .inv .3) (c .before .before .before .before .before .before .before .before .pre .1), buffer-now (c .before .before .before .before .before .before .before .before .pre .0) (c .before .before .before .loop .inv .3), c .before .before .before .before .before .before .before .before .pre .3)
-
-add-step : tie.Need-add-step Inv-loop μ-loop
-add-step c = record { fits = omega (arith, step-in (c .before .before .before .before .before .before .before .before .before .before .before .args .order .now) (c .before .before .before .before .before .before .loop .step) (c .before .before .before .before .before .before .before .before .before .before .before .args .k) (c .before .before .before .before .before .before .loop .inv .2 (c .before .before .before .before .before .loop-test .taken)) .0) }
-
-enum-known-o : tie.Need-enum-known-o Inv-loop μ-loop
-enum-known-o c = search needs
+add-t28 : tie.Need-add-t28 Inv-loop μ-loop
+add-t28 c = let good = c .before .before .before .before .before .before .before .good in record { fits = omega (arith, step-in (c .before .before .before .before .before .before .before .args .order .now) (c .before .before .before .before .before .before .before .args .from) (c .before .before .before .before .before .before .before .args .k) (c .before .before .before .before .before .before .before .pre .2) .0) }
 
 faulted-requires : tie.Need-faulted-requires Inv-loop μ-loop
-faulted-requires c κs = takes-outcome (c .before .before .before .before .before .before .before .before .before .before .before .before .before .before .pre .0 .accepted) (c .before .before .before .before .before .before .before .before .before .loop .inv .2 (c .before .before .before .before .before .before .before .before .loop-test .taken)) (c .before .before .before .before .before .before .before .before .before .before .before .before .before .before .pre .0 .known) (c .before .before .before .before .before .before .before .before .before .loop .inv .3) (c .before .before .before .before .before .instruction-of .result) (instructs-as (c .before .before .before .before .before .instruction-of .result) (c .before .before .before .before .before .before .before .executing-at .ensures) (c .before .before .before .before .before .instruction-of .ensures)) (search (needs, c .before .before .before .before .buffer .given)) _ (c .before .o .given .1)
-
-same-length : tie.Need-same-length Inv-loop μ-loop
-same-length c = search (needs, length-now (c .before .before .before .before .before .before .before .before .before .before .before .before .before .before .before .pre .0) (c .before .before .before .before .before .before .before .before .before .before .loop .inv .3), c .before .before .before .before .before .buffer .given)
+faulted-requires c κs = omega arith
 
 returns : tie.Need-returns Inv-loop μ-loop
-returns c = (omega (arith, c .before .before .before .before .before .before .before .before .before .before .loop .inv .0), carries-as (c .faulted .ensures ∙ ap (faulted _) (c .before .before .before .before .before .before .before .before .executing-at .ensures)) refl refl (carry-fault (c .before .before .before .before .before .before .before .before .before .before .before .before .before .before .before .pre .0 .accepted) (c .before .before .before .before .before .before .before .before .before .before .loop .inv .2 (c .before .before .before .before .before .before .before .before .before .loop-test .taken)) (c .before .before .before .before .before .before .before .before .before .before .before .before .before .before .before .pre .0 .known) (c .before .before .before .before .before .before .before .before .before .before .loop .inv .3) (c .before .before .before .before .before .before .instruction-of .result) (instructs-as (c .before .before .before .before .before .before .instruction-of .result) (c .before .before .before .before .before .before .before .before .executing-at .ensures) (c .before .before .before .before .before .before .instruction-of .ensures)) (search (needs, c .before .before .before .before .before .buffer .given)) _ (c .before .before .o .given .1)), (λ e. absurd (omega (arith, sym (ap (λ (r : Registers). r .mode) (c .faulted .ensures) ∙ faulted-mode _ _) ∙ e))))
+returns c =
+    let given = c .before .before .before .before .before .before .before .before .pre in
+    let start = c .before .before .before .before .before .before .before .before .args in
+    let ready = ready-now (given .0) (carry-none _ _ _ _ _ _ _ _ _) (given .1) in
+    let done : Instructed (start .file .now) (start .trace .now) (start .order .now) (start .k) (start .from) (start .before) (start .places .now) (start .offsets .now) (start .buffer .now) (start .from) (start .before) (start .places .now) (start .offsets .now) (start .buffer .now) (Failed 1) (start .buffer .now) =
+        record { accepted = given .0 .accepted; on = given .2; known = given .0 .known; carried = carry-none _ _ _ _ _ _ _ _ _; answered = limit-in _ ready (given .0 .loops .running .buffer) (given .3) (c .before .if1 .taken); same = refl } in
+    (omega arith, carries-as (c .faulted .ensures) refl refl refl (carry-fault done _ refl), (λ e. absurd (omega (arith, sym (ap (λ (r : Registers). r .mode) (c .faulted .ensures) ∙ faulted-mode _ _) ∙ e))))
 
-enum-known-o-2 : tie.Need-enum-known-o-2 Inv-loop μ-loop
-enum-known-o-2 c = search needs
+sub-least : tie.Need-sub-least Inv-loop μ-loop
+sub-least c =
+    let given = c .before .before .before .before .before .before .before .before .before .pre in
+    let limit = limit-low (ready-now (given .0) (carry-none _ _ _ _ _ _ _ _ _) (given .1)) in
+    omega (arith, limit .1)
 
-enum-known-o-3 : tie.Need-enum-known-o-3 Inv-loop μ-loop
-enum-known-o-3 c = search needs
+stretch-requires : tie.Need-stretch-requires Inv-loop μ-loop
+stretch-requires c κs = let given = c .before .before .before .before .before .before .before .before .before .before .pre in (omega (arith, step-in (c .before .before .before .before .before .before .before .before .before .before .args .order .now) (c .before .before .before .before .before .before .before .before .before .before .args .from) (c .before .before .before .before .before .before .before .before .before .before .args .k) (c .before .before .before .before .before .before .before .before .before .before .pre .2) .0), core-few (given .0))
 
-set-entry-requires : tie.Need-set-entry-requires Inv-loop μ-loop
-set-entry-requires c κs = (core-few (c .before .before .before .before .before .before .before .before .before .before .before .before .before .before .before .pre .0), takes-outcome (c .before .before .before .before .before .before .before .before .before .before .before .before .before .before .before .pre .0 .accepted) (c .before .before .before .before .before .before .before .before .before .before .loop .inv .2 (c .before .before .before .before .before .before .before .before .before .loop-test .taken)) (c .before .before .before .before .before .before .before .before .before .before .before .before .before .before .before .pre .0 .known) (c .before .before .before .before .before .before .before .before .before .before .loop .inv .3) (c .before .before .before .before .before .before .instruction-of .result) (instructs-as (c .before .before .before .before .before .before .instruction-of .result) (c .before .before .before .before .before .before .before .before .executing-at .ensures) (c .before .before .before .before .before .before .instruction-of .ensures)) (search (needs, c .before .before .before .before .before .buffer .given)) _ (c .before .before .o3 .given .1) .1)
+add-end : tie.Need-add-end Inv-loop μ-loop
+add-end c = let good = c .before .before .before .before .before .before .before .before .before .before .before .good in record { fits = omega (arith, c .stretch .ensures .within) }
 
-set-entry-requires-2 : tie.Need-set-entry-requires-2 Inv-loop μ-loop
-set-entry-requires-2 c κs = (core-few (c .before .before .before .before .before .before .before .before .before .before .before .before .before .before .before .before .before .pre .0), takes-outcome (c .before .before .before .before .before .before .before .before .before .before .before .before .before .before .before .before .before .pre .0 .accepted) (c .before .before .before .before .before .before .before .before .before .before .before .before .loop .inv .2 (c .before .before .before .before .before .before .before .before .before .before .before .loop-test .taken)) (c .before .before .before .before .before .before .before .before .before .before .before .before .before .before .before .before .before .pre .0 .known) (c .before .before .before .before .before .before .before .before .before .before .before .before .loop .inv .3) (c .before .before .before .before .before .before .before .before .instruction-of .result) (instructs-as (c .before .before .before .before .before .before .before .before .instruction-of .result) (c .before .before .before .before .before .before .before .before .before .before .executing-at .ensures) (c .before .before .before .before .before .before .before .before .instruction-of .ensures)) (search (needs, c .before .before .before .before .before .before .before .buffer .given)) _ (c .before .before .before .before .o3 .given .1) .1)
+loop-holds : tie.Need-loop-holds Inv-loop μ-loop
+loop-holds c =
+    let given = c .before .before .before .before .before .before .before .before .before .before .before in
+    let at : given .args .before .count + (given .args .from - given .args .from) ≡ given .args .before .count = omega arith in
+    (omega arith, omega arith, carries-as (λ i. executingAt (given .args .before) (given .args .before .counter) (given .args .before .offset) (given .args .before .depth) (at i)) refl refl refl (carry-none _ _ _ _ _ _ _ _ _))
 
-add-depth : tie.Need-add-depth Inv-loop μ-loop
-add-depth c = record { fits = omega (arith, takes-outcome (c .before .before .before .before .before .before .before .before .before .before .before .before .before .before .before .before .before .before .pre .0 .accepted) (c .before .before .before .before .before .before .before .before .before .before .before .before .before .loop .inv .2 (c .before .before .before .before .before .before .before .before .before .before .before .before .loop-test .taken)) (c .before .before .before .before .before .before .before .before .before .before .before .before .before .before .before .before .before .before .pre .0 .known) (c .before .before .before .before .before .before .before .before .before .before .before .before .before .loop .inv .3) (c .before .before .before .before .before .before .before .before .before .instruction-of .result) (instructs-as (c .before .before .before .before .before .before .before .before .before .instruction-of .result) (c .before .before .before .before .before .before .before .before .before .before .before .executing-at .ensures) (c .before .before .before .before .before .before .before .before .before .instruction-of .ensures)) (search (needs, c .before .before .before .before .before .before .before .before .buffer .given)) _ (c .before .before .before .before .before .o3 .given .1) .1) }
+sub-executing-at : tie.Need-sub-executing-at Inv-loop μ-loop
+sub-executing-at c = omega (arith, c .before .loop .inv .0)
 
-enum-told : tie.Need-enum-told Inv-loop μ-loop
-enum-told c = search needs
+cast-executing-at : tie.Need-cast-executing-at Inv-loop μ-loop
+cast-executing-at c =
+    let given = c .before .before .before .before .before .before .before .before .before .before .before .before .before .pre in
+    let here = c .before .loop in
+    let now = turn-of (given .0) (given .1) (given .3) (c .before .before .before .before .before .before .if1 .left) (c .before .before .before .least .ensures) (c .before .before .stretch .ensures) (here .inv .0) (c .loop-test .taken) (here .inv .2) in
+    record { fits = omega (arith, now .below, now .low) }
 
-cycle-ended-requires : tie.Need-cycle-ended-requires Inv-loop μ-loop
-cycle-ended-requires c κs = rw (c .before .before .before .before .before .before .before .executing-at .ensures) (ended-takes (c .before .before .before .before .before .before .before .before .before .before .before .before .before .before .pre .0 .accepted) (c .before .before .before .before .before .before .before .before .before .loop .inv .2 (c .before .before .before .before .before .before .before .before .loop-test .taken)) (c .before .before .before .before .before .before .before .before .before .before .before .before .before .before .pre .0 .known) (c .before .before .before .before .before .before .before .before .before .loop .inv .3) (c .before .before .before .before .before .instruction-of .result) (instructs-as (c .before .before .before .before .before .instruction-of .result) (c .before .before .before .before .before .before .before .executing-at .ensures) (c .before .before .before .before .before .instruction-of .ensures)) (search (needs, c .before .before .before .before .buffer .given)) (c .before .enum-told .given .1) (c .if1 .taken))
+add-executing-at : tie.Need-add-executing-at Inv-loop μ-loop
+add-executing-at c =
+    let given = c .before .before .before .before .before .before .before .before .before .before .before .before .before .before .pre in
+    let here = c .before .before .loop in
+    let now = turn-of (given .0) (given .1) (given .3) (c .before .before .before .before .before .before .before .if1 .left) (c .before .before .before .before .least .ensures) (c .before .before .before .stretch .ensures) (here .inv .0) (c .before .loop-test .taken) (here .inv .2) in
+    record { fits = omega (arith, now .below, now .low) }
 
-same-length-2 : tie.Need-same-length-2 Inv-loop μ-loop
-same-length-2 c = search (needs, length-now (c .before .before .before .before .before .before .before .before .before .before .before .before .before .before .before .pre .0) (c .before .before .before .before .before .before .before .before .before .before .loop .inv .3), c .before .before .before .before .before .buffer .given)
+command-of-requires : tie.Need-command-of-requires Inv-loop μ-loop
+command-of-requires c κs =
+    let given = c .before .before .before .before .before .before .before .before .before .before .before .before .before .before .before .pre in
+    let here = c .before .before .before .loop in
+    let now = turn-of (given .0) (given .1) (given .3) (c .before .before .before .before .before .before .before .before .if1 .left) (c .before .before .before .before .before .least .ensures) (c .before .before .before .before .stretch .ensures) (here .inv .0) (c .before .before .loop-test .taken) (here .inv .2) in
+    at-instruction (now .ready)
+
+has-three-requires : tie.Need-has-three-requires Inv-loop μ-loop
+has-three-requires c κs = c .command-of .ensures .1
+
+typed-of-requires : tie.Need-typed-of-requires Inv-loop μ-loop
+typed-of-requires c κs =
+    let given = c .before .before .before .before .before .before .before .before .before .before .before .before .before .before .before .before .before .before .before .pre in
+    let here = c .before .before .before .before .before .before .before .loop in
+    let now = turn-of (given .0) (given .1) (given .3) (c .before .before .before .before .before .before .before .before .before .before .before .before .if1 .left) (c .before .before .before .before .before .before .before .before .before .least .ensures) (c .before .before .before .before .before .before .before .before .stretch .ensures) (here .inv .0) (c .before .before .before .before .before .before .loop-test .taken) (here .inv .2) in
+    (given-at now (c .before .before .before .before .executing-at .ensures) (c .before .before .before .command-of .ensures .0), sym (c .before .before .has-three .ensures) ∙ c .before .if2 .taken)
+
+add-counter : tie.Need-add-counter Inv-loop μ-loop
+add-counter c =
+    let given = c .before .before .before .before .before .before .before .before .before .before .before .before .before .before .before .before .before .before .before .before .before .before .before .before .pre in
+    let here = c .before .before .before .before .before .before .before .before .before .before .before .before .loop in
+    record { fits = omega (arith, counter-low (turn-of (given .0) (given .1) (given .3) (c .before .before .before .before .before .before .before .before .before .before .before .before .before .before .before .before .before .if1 .left) (c .before .before .before .before .before .before .before .before .before .before .before .before .before .before .least .ensures) (c .before .before .before .before .before .before .before .before .before .before .before .before .before .stretch .ensures) (here .inv .0) (c .before .before .before .before .before .before .before .before .before .before .before .loop-test .taken) (here .inv .2) .ready)) }
+
+add-t38 : tie.Need-add-t38 Inv-loop μ-loop
+add-t38 c = let good = c .before .before .before .before .before .before .before .before .before .before .before .before .before .before .before .before .before .before .before .before .before .before .before .good in record { fits = omega (arith, c .before .before .before .before .before .before .before .before .before .before .loop-test .taken, c .before .before .before .before .before .before .before .before .before .before .before .before .stretch .ensures .within) }
+
+same-length : tie.Need-same-length Inv-loop μ-loop
+same-length c =
+    let given = c .before .before .before .before .before .before .before .before .before .before .before .before .before .before .before .before .before .before .before .before .before .before .before .before .pre in
+    let here = c .before .before .before .before .before .before .before .before .before .before .before .before .loop in
+    search (needs, length-now (given .0) (here .inv .2), c .before .before .before .buffer .given)
 
 returns-2 : tie.Need-returns-2 Inv-loop μ-loop
-returns-2 c = (omega (arith, c .before .before .before .before .before .before .before .before .before .before .loop .inv .0), carries-as (c .cycle-ended .ensures ∙ ap cycleEnded (c .before .before .before .before .before .before .before .before .executing-at .ensures)) refl refl (carry-ended (c .before .before .before .before .before .before .before .before .before .before .before .before .before .before .before .pre .0 .accepted) (c .before .before .before .before .before .before .before .before .before .before .loop .inv .2 (c .before .before .before .before .before .before .before .before .before .loop-test .taken)) (c .before .before .before .before .before .before .before .before .before .before .before .before .before .before .before .pre .0 .known) (c .before .before .before .before .before .before .before .before .before .before .loop .inv .3) (c .before .before .before .before .before .before .instruction-of .result) (instructs-as (c .before .before .before .before .before .before .instruction-of .result) (c .before .before .before .before .before .before .before .before .executing-at .ensures) (c .before .before .before .before .before .before .instruction-of .ensures)) (search (needs, c .before .before .before .before .before .buffer .given)) (c .before .before .enum-told .given .1) (c .before .if1 .taken)), (λ e. absurd (omega (arith, sym (ap (λ (r : Registers). r .mode) (c .cycle-ended .ensures) ∙ ended-mode _) ∙ e))))
+returns-2 c =
+    let given = c .before .before .before .before .before .before .before .before .before .before .before .before .before .before .before .before .before .before .before .before .before .before .before .before .pre in
+    let here = c .before .before .before .before .before .before .before .before .before .before .before .before .loop in
+    let done = doing (given .0) (given .1) (given .3) (c .before .before .before .before .before .before .before .before .before .before .before .before .before .before .before .before .before .if1 .left) (c .before .before .before .before .before .before .before .before .before .before .before .before .before .before .least .ensures) (c .before .before .before .before .before .before .before .before .before .before .before .before .before .stretch .ensures) (here .inv .0) (c .before .before .before .before .before .before .before .before .before .before .before .loop-test .taken) (here .inv .2) (c .before .before .before .before .before .before .before .before .before .executing-at .ensures) _ (c .before .before .before .before .typed-of .ensures) (search (needs, c .before .before .before .buffer .given)) in
+    let wrong = stopped-by _ (c .before .before .before .before .typed-of .result) _ (λ e. ⊎-elim (λ z. absurd (omega arith)) (λ z. absurd (omega arith)) (rw e at (c .before .match .keys2))) in
+    let marked = c .stopped .ensures ∙ wrong .marked in
+    (omega (arith, here .inv .0), carries-as (marked ∙ ap (faulted _) (c .before .before .before .before .before .before .before .before .before .executing-at .ensures)) refl refl refl (carry-fault done _ (wrong .failed)),
+    (λ e. absurd (omega (arith, sym (ap (λ (r : Registers). r .mode) marked ∙ faulted-mode _ _) ∙ e))))
 
-sub-depth : tie.Need-sub-depth Inv-loop μ-loop
-sub-depth c = search needs
+other-of-requires : tie.Need-other-of-requires Inv-loop μ-loop
+other-of-requires c κs =
+    let given = c .before .before .before .before .before .before .before .before .before .before .before .before .before .before .before .before .before .before .before .pre in
+    let here = c .before .before .before .before .before .before .before .loop in
+    let now = turn-of (given .0) (given .1) (given .3) (c .before .before .before .before .before .before .before .before .before .before .before .before .if1 .left) (c .before .before .before .before .before .before .before .before .before .least .ensures) (c .before .before .before .before .before .before .before .before .stretch .ensures) (here .inv .0) (c .before .before .before .before .before .before .loop-test .taken) (here .inv .2) in
+    (given-at now (c .before .before .before .before .executing-at .ensures) (c .before .before .before .command-of .ensures .0), sym (c .before .before .has-three .ensures) ∙ c .before .if2 .left)
 
-entry-requires : tie.Need-entry-requires Inv-loop μ-loop
-entry-requires c κs = (core-few (c .before .before .before .before .before .before .before .before .before .before .before .before .before .before .before .pre .0), omega (arith, returned-takes (c .before .before .before .before .before .before .before .before .before .before .before .before .before .before .before .pre .0 .accepted) (c .before .before .before .before .before .before .before .before .before .before .loop .inv .2 (c .before .before .before .before .before .before .before .before .before .loop-test .taken)) (c .before .before .before .before .before .before .before .before .before .before .before .before .before .before .before .pre .0 .known) (c .before .before .before .before .before .before .before .before .before .before .loop .inv .3) (c .before .before .before .before .before .before .instruction-of .result) (instructs-as (c .before .before .before .before .before .before .instruction-of .result) (c .before .before .before .before .before .before .before .before .executing-at .ensures) (c .before .before .before .before .before .before .instruction-of .ensures)) (search (needs, c .before .before .before .before .before .buffer .given)) (c .before .before .enum-told .given .1) (c .before .if1 .left) .1))
+add-t42 : tie.Need-add-t42 Inv-loop μ-loop
+add-t42 c = let good = c .before .before .before .before .before .before .before .before .before .before .before .before .before .before .before .before .before .before .before .before .before .before .before .before .before .good in record { fits = omega (arith, c .before .before .before .before .before .before .before .before .before .before .before .before .loop-test .taken, c .before .before .before .before .before .before .before .before .before .before .before .before .before .before .stretch .ensures .within) }
 
-entry-requires-2 : tie.Need-entry-requires-2 Inv-loop μ-loop
-entry-requires-2 c κs = (core-few (c .before .before .before .before .before .before .before .before .before .before .before .before .before .before .before .before .before .pre .0), omega (arith, returned-takes (c .before .before .before .before .before .before .before .before .before .before .before .before .before .before .before .before .before .pre .0 .accepted) (c .before .before .before .before .before .before .before .before .before .before .before .before .loop .inv .2 (c .before .before .before .before .before .before .before .before .before .before .before .loop-test .taken)) (c .before .before .before .before .before .before .before .before .before .before .before .before .before .before .before .before .before .pre .0 .known) (c .before .before .before .before .before .before .before .before .before .before .before .before .loop .inv .3) (c .before .before .before .before .before .before .before .before .instruction-of .result) (instructs-as (c .before .before .before .before .before .before .before .before .instruction-of .result) (c .before .before .before .before .before .before .before .before .before .before .executing-at .ensures) (c .before .before .before .before .before .before .before .before .instruction-of .ensures)) (search (needs, c .before .before .before .before .before .before .before .buffer .given)) (c .before .before .before .before .enum-told .given .1) (c .before .before .before .if1 .left) .1))
+faulted-requires-2 : tie.Need-faulted-requires-2 Inv-loop μ-loop
+faulted-requires-2 c κs =
+    let given = c .before .before .before .before .before .before .before .before .before .before .before .before .before .before .before .before .before .before .before .before .before .before .before .before .before .pre in
+    let here = c .before .before .before .before .before .before .before .before .before .before .before .before .before .loop in
+    let done = doing (given .0) (given .1) (given .3) (c .before .before .before .before .before .before .before .before .before .before .before .before .before .before .before .before .before .before .if1 .left) (c .before .before .before .before .before .before .before .before .before .before .before .before .before .before .before .least .ensures) (c .before .before .before .before .before .before .before .before .before .before .before .before .before .before .stretch .ensures) (here .inv .0) (c .before .before .before .before .before .before .before .before .before .before .before .before .loop-test .taken) (here .inv .2) (c .before .before .before .before .before .before .before .before .before .before .executing-at .ensures) _ (c .before .before .before .before .before .other-of .ensures) (search (needs, c .before .before .before .before .buffer2 .given)) in
+    takes-outcome done _ (c .before .o .given .1)
 
-set-entry-requires-3 : tie.Need-set-entry-requires-3 Inv-loop μ-loop
-set-entry-requires-3 c κs = (core-few (c .before .before .before .before .before .before .before .before .before .before .before .before .before .before .before .before .before .before .before .pre .0), omega (arith, returned-takes (c .before .before .before .before .before .before .before .before .before .before .before .before .before .before .before .before .before .before .before .pre .0 .accepted) (c .before .before .before .before .before .before .before .before .before .before .before .before .before .before .loop .inv .2 (c .before .before .before .before .before .before .before .before .before .before .before .before .before .loop-test .taken)) (c .before .before .before .before .before .before .before .before .before .before .before .before .before .before .before .before .before .before .before .pre .0 .known) (c .before .before .before .before .before .before .before .before .before .before .before .before .before .before .loop .inv .3) (c .before .before .before .before .before .before .before .before .before .before .instruction-of .result) (instructs-as (c .before .before .before .before .before .before .before .before .before .before .instruction-of .result) (c .before .before .before .before .before .before .before .before .before .before .before .before .executing-at .ensures) (c .before .before .before .before .before .before .before .before .before .before .instruction-of .ensures)) (search (needs, c .before .before .before .before .before .before .before .before .before .buffer .given)) (c .before .before .before .before .before .before .enum-told .given .1) (c .before .before .before .before .before .if1 .left) .1))
-
-set-entry-requires-4 : tie.Need-set-entry-requires-4 Inv-loop μ-loop
-set-entry-requires-4 c κs = (core-few (c .before .before .before .before .before .before .before .before .before .before .before .before .before .before .before .before .before .before .before .before .before .pre .0), omega (arith, returned-takes (c .before .before .before .before .before .before .before .before .before .before .before .before .before .before .before .before .before .before .before .before .before .pre .0 .accepted) (c .before .before .before .before .before .before .before .before .before .before .before .before .before .before .before .before .loop .inv .2 (c .before .before .before .before .before .before .before .before .before .before .before .before .before .before .before .loop-test .taken)) (c .before .before .before .before .before .before .before .before .before .before .before .before .before .before .before .before .before .before .before .before .before .pre .0 .known) (c .before .before .before .before .before .before .before .before .before .before .before .before .before .before .before .before .loop .inv .3) (c .before .before .before .before .before .before .before .before .before .before .before .before .instruction-of .result) (instructs-as (c .before .before .before .before .before .before .before .before .before .before .before .before .instruction-of .result) (c .before .before .before .before .before .before .before .before .before .before .before .before .before .before .executing-at .ensures) (c .before .before .before .before .before .before .before .before .before .before .before .before .instruction-of .ensures)) (search (needs, c .before .before .before .before .before .before .before .before .before .before .before .buffer .given)) (c .before .before .before .before .before .before .before .before .enum-told .given .1) (c .before .before .before .before .before .before .before .if1 .left) .1))
-
-add-count : tie.Need-add-count Inv-loop μ-loop
-add-count c = record { fits = ⊎-elim (λ w. omega (arith, takes-outcome (c .before .before .before .before .before .before .before .before .before .before .before .before .pre .0 .accepted) (c .before .before .before .before .before .before .before .loop .inv .2 (c .before .before .before .before .before .before .loop-test .taken)) (c .before .before .before .before .before .before .before .before .before .before .before .before .pre .0 .known) (c .before .before .before .before .before .before .before .loop .inv .3) (c .before .before .before .instruction-of .result) (instructs-as (c .before .before .before .instruction-of .result) (c .before .before .before .before .before .executing-at .ensures) (c .before .before .before .instruction-of .ensures)) (search (needs, c .before .before .buffer .given)) _ (w .1 .given .1))) (⊎-elim (λ w. omega (arith, takes-outcome (c .before .before .before .before .before .before .before .before .before .before .before .before .pre .0 .accepted) (c .before .before .before .before .before .before .before .loop .inv .2 (c .before .before .before .before .before .before .loop-test .taken)) (c .before .before .before .before .before .before .before .before .before .before .before .before .pre .0 .known) (c .before .before .before .before .before .before .before .loop .inv .3) (c .before .before .before .instruction-of .result) (instructs-as (c .before .before .before .instruction-of .result) (c .before .before .before .before .before .executing-at .ensures) (c .before .before .before .instruction-of .ensures)) (search (needs, c .before .before .buffer .given)) _ (w .1 .given .1) .0)) (λ w. omega (arith, returned-takes (c .before .before .before .before .before .before .before .before .before .before .before .before .pre .0 .accepted) (c .before .before .before .before .before .before .before .loop .inv .2 (c .before .before .before .before .before .before .loop-test .taken)) (c .before .before .before .before .before .before .before .before .before .before .before .before .pre .0 .known) (c .before .before .before .before .before .before .before .loop .inv .3) (c .before .before .before .instruction-of .result) (instructs-as (c .before .before .before .instruction-of .result) (c .before .before .before .before .before .executing-at .ensures) (c .before .before .before .instruction-of .ensures)) (search (needs, c .before .before .buffer .given)) (w .1 .given .1) (w .2 .left) .0))) (c .match .came) }
-
-stays-requires : tie.Need-stays-requires Inv-loop μ-loop
-stays-requires c κs = search needs
-
-loop-less : tie.Need-loop-less Inv-loop μ-loop
-loop-less c = omega (arith, step-in (c .before .before .before .before .before .before .before .before .before .before .before .before .before .args .order .now) (c .before .before .before .before .before .before .before .before .loop .step) (c .before .before .before .before .before .before .before .before .before .before .before .before .before .args .k) (c .before .before .before .before .before .before .before .before .loop .inv .2 (c .before .before .before .before .before .before .before .loop-test .taken)) .0)
-
-loop-again : tie.Need-loop-again Inv-loop μ-loop
-loop-again c = ⊎-elim (λ w. (omega (arith, c .before .before .before .before .before .before .before .before .loop .inv .0), (λ e. omega (arith, c .before .before .before .before .before .before .before .before .loop .inv .0)), (λ e. sym (c .stays .ensures) ∙ e), carries-as (advanced-at (c .before .before .before .before .before .before .before .before .before .before .before .before .before .args .before) (c .before .before .before .before .before .before .before .before .loop .counter) (c .before .before .before .before .before .before .before .before .loop .offset) (c .before .before .before .before .before .before .before .before .loop .depth) (c .before .before .before .before .before .before .before .before .loop .count) (w .5) (w .6) (w .7)) (w .3) (w .4) (carry-next (c .before .before .before .before .before .before .before .before .before .before .before .before .before .pre .0 .accepted) (c .before .before .before .before .before .before .before .before .loop .inv .2 (c .before .before .before .before .before .before .before .loop-test .taken)) (c .before .before .before .before .before .before .before .before .before .before .before .before .before .pre .0 .known) (c .before .before .before .before .before .before .before .before .loop .inv .3) (c .before .before .before .before .instruction-of .result) (instructs-as (c .before .before .before .before .instruction-of .result) (c .before .before .before .before .before .before .executing-at .ensures) (c .before .before .before .before .instruction-of .ensures)) (search (needs, c .before .before .before .buffer .given)) _ (w .1 .given .1)), (λ e. sym (c .stays .ensures) ∙ e), omega (arith, c .before .before .before .before .before .before .before .before .loop .inv .5))) (⊎-elim (λ w. (omega (arith, c .before .before .before .before .before .before .before .before .loop .inv .0), (λ e. omega (arith, c .before .before .before .before .before .before .before .before .loop .inv .0)), (λ e. sym (c .stays .ensures) ∙ e), carries-as (called-at (c .before .before .before .before .before .before .before .before .before .before .before .before .before .args .before) (c .before .before .before .before .before .before .before .before .loop .counter) (c .before .before .before .before .before .before .before .before .loop .offset) (c .before .before .before .before .before .before .before .before .loop .depth) (c .before .before .before .before .before .before .before .before .loop .count) (w .9) (w .10) (w .11)) (w .7 ∙ w .4 .ensures) (w .8 ∙ w .6 .ensures) (carry-call (c .before .before .before .before .before .before .before .before .before .before .before .before .before .pre .0 .accepted) (c .before .before .before .before .before .before .before .before .loop .inv .2 (c .before .before .before .before .before .before .before .loop-test .taken)) (c .before .before .before .before .before .before .before .before .before .before .before .before .before .pre .0 .known) (c .before .before .before .before .before .before .before .before .loop .inv .3) (c .before .before .before .before .instruction-of .result) (instructs-as (c .before .before .before .before .instruction-of .result) (c .before .before .before .before .before .before .executing-at .ensures) (c .before .before .before .before .instruction-of .ensures)) (search (needs, c .before .before .before .buffer .given)) _ _ _ (w .1 .given .1)), (λ e. sym (c .stays .ensures) ∙ e), omega (arith, c .before .before .before .before .before .before .before .before .loop .inv .5))) (λ w. (omega (arith, c .before .before .before .before .before .before .before .before .loop .inv .0), (λ e. omega (arith, c .before .before .before .before .before .before .before .before .loop .inv .0)), (λ e. sym (c .stays .ensures) ∙ e), carries-as (returned-at (c .before .before .before .before .before .before .before .before .before .before .before .before .before .args .before) (c .before .before .before .before .before .before .before .before .loop .counter) (c .before .before .before .before .before .before .before .before .loop .offset) (c .before .before .before .before .before .before .before .before .loop .depth) (c .before .before .before .before .before .before .before .before .loop .count) (w .13 ∙ w .4 .ensures) (w .14 ∙ w .6 .ensures) (w .15)) (w .11 ∙ w .8 .ensures) (w .12 ∙ w .10 .ensures) (carry-return (c .before .before .before .before .before .before .before .before .before .before .before .before .before .pre .0 .accepted) (c .before .before .before .before .before .before .before .before .loop .inv .2 (c .before .before .before .before .before .before .before .loop-test .taken)) (c .before .before .before .before .before .before .before .before .before .before .before .before .before .pre .0 .known) (c .before .before .before .before .before .before .before .before .loop .inv .3) (c .before .before .before .before .instruction-of .result) (instructs-as (c .before .before .before .before .instruction-of .result) (c .before .before .before .before .before .before .executing-at .ensures) (c .before .before .before .before .instruction-of .ensures)) (search (needs, c .before .before .before .buffer .given)) (c .before .before .before .before .before .before .before .before .loop .depth - 1) (w .1 .given .1) (omega (arith, w .2 .left))), (λ e. sym (c .stays .ensures) ∙ e), omega (arith, c .before .before .before .before .before .before .before .before .loop .inv .5)))) (c .before .match .came)
-
-executing-at-requires-2 : tie.Need-executing-at-requires-2 Inv-loop μ-loop
-executing-at-requires-2 c κs = search needs
-
-same-length-3 : tie.Need-same-length-3 Inv-loop μ-loop
-same-length-3 c = length-now (c .before .before .before .before .before .before .before .pre .0) (c .before .before .loop .inv .3)
+same-length-2 : tie.Need-same-length-2 Inv-loop μ-loop
+same-length-2 c =
+    let given = c .before .before .before .before .before .before .before .before .before .before .before .before .before .before .before .before .before .before .before .before .before .before .before .before .before .before .pre in
+    let here = c .before .before .before .before .before .before .before .before .before .before .before .before .before .before .loop in
+    search (needs, length-now (given .0) (here .inv .2), c .before .before .before .before .before .buffer2 .given)
 
 returns-3 : tie.Need-returns-3 Inv-loop μ-loop
-returns-3 c = (c .before .before .loop .inv .1 (c .before .loop-test .left), carries-as (c .executing-at2 .ensures) refl refl (c .before .before .loop .inv .3), (λ e. (c .before .before .loop .inv .4 (c .before .loop-test .left), omega (arith, ap (λ (r : Registers). r .count) (c .executing-at2 .ensures), c .before .before .loop .inv .5))))
+returns-3 c =
+    let given = c .before .before .before .before .before .before .before .before .before .before .before .before .before .before .before .before .before .before .before .before .before .before .before .before .before .before .pre in
+    let here = c .before .before .before .before .before .before .before .before .before .before .before .before .before .before .loop in
+    let done = doing (given .0) (given .1) (given .3) (c .before .before .before .before .before .before .before .before .before .before .before .before .before .before .before .before .before .before .before .if1 .left) (c .before .before .before .before .before .before .before .before .before .before .before .before .before .before .before .before .least .ensures) (c .before .before .before .before .before .before .before .before .before .before .before .before .before .before .before .stretch .ensures) (here .inv .0) (c .before .before .before .before .before .before .before .before .before .before .before .before .before .loop-test .taken) (here .inv .2) (c .before .before .before .before .before .before .before .before .before .before .before .executing-at .ensures) _ (c .before .before .before .before .before .before .other-of .ensures) (search (needs, c .before .before .before .before .before .buffer2 .given)) in
+    (omega (arith, here .inv .0), carries-as (c .faulted2 .ensures ∙ ap (faulted _) (c .before .before .before .before .before .before .before .before .before .before .before .executing-at .ensures)) refl refl refl (carry-fault done _ (c .before .before .o .given .1)),
+    (λ e. absurd (omega (arith, sym (ap (λ (r : Registers). r .mode) (c .faulted2 .ensures) ∙ faulted-mode _ _) ∙ e))))
+
+set-entry-requires : tie.Need-set-entry-requires Inv-loop μ-loop
+set-entry-requires c κs =
+    let given = c .before .before .before .before .before .before .before .before .before .before .before .before .before .before .before .before .before .before .before .before .before .before .before .before .before .before .pre in
+    let here = c .before .before .before .before .before .before .before .before .before .before .before .before .before .before .loop in
+    let done = doing (given .0) (given .1) (given .3) (c .before .before .before .before .before .before .before .before .before .before .before .before .before .before .before .before .before .before .before .if1 .left) (c .before .before .before .before .before .before .before .before .before .before .before .before .before .before .before .before .least .ensures) (c .before .before .before .before .before .before .before .before .before .before .before .before .before .before .before .stretch .ensures) (here .inv .0) (c .before .before .before .before .before .before .before .before .before .before .before .before .before .loop-test .taken) (here .inv .2) (c .before .before .before .before .before .before .before .before .before .before .before .executing-at .ensures) _ (c .before .before .before .before .before .before .other-of .ensures) (search (needs, c .before .before .before .before .before .buffer2 .given)) in
+    (core-few (given .0), takes-outcome done _ (c .before .before .o3 .given .1) .1)
+
+set-entry-requires-2 : tie.Need-set-entry-requires-2 Inv-loop μ-loop
+set-entry-requires-2 c κs =
+    let given = c .before .before .before .before .before .before .before .before .before .before .before .before .before .before .before .before .before .before .before .before .before .before .before .before .before .before .before .before .pre in
+    let here = c .before .before .before .before .before .before .before .before .before .before .before .before .before .before .before .before .loop in
+    let done = doing (given .0) (given .1) (given .3) (c .before .before .before .before .before .before .before .before .before .before .before .before .before .before .before .before .before .before .before .before .before .if1 .left) (c .before .before .before .before .before .before .before .before .before .before .before .before .before .before .before .before .before .before .least .ensures) (c .before .before .before .before .before .before .before .before .before .before .before .before .before .before .before .before .before .stretch .ensures) (here .inv .0) (c .before .before .before .before .before .before .before .before .before .before .before .before .before .before .before .loop-test .taken) (here .inv .2) (c .before .before .before .before .before .before .before .before .before .before .before .before .before .executing-at .ensures) _ (c .before .before .before .before .before .before .before .before .other-of .ensures) (search (needs, c .before .before .before .before .before .before .before .buffer2 .given)) in
+    (core-few (given .0), takes-outcome done _ (c .before .before .before .before .o3 .given .1) .1)
+
+add-depth : tie.Need-add-depth Inv-loop μ-loop
+add-depth c =
+    let given = c .before .before .before .before .before .before .before .before .before .before .before .before .before .before .before .before .before .before .before .before .before .before .before .before .before .before .before .before .before .pre in
+    let here = c .before .before .before .before .before .before .before .before .before .before .before .before .before .before .before .before .before .loop in
+    let done = doing (given .0) (given .1) (given .3) (c .before .before .before .before .before .before .before .before .before .before .before .before .before .before .before .before .before .before .before .before .before .before .if1 .left) (c .before .before .before .before .before .before .before .before .before .before .before .before .before .before .before .before .before .before .before .least .ensures) (c .before .before .before .before .before .before .before .before .before .before .before .before .before .before .before .before .before .before .stretch .ensures) (here .inv .0) (c .before .before .before .before .before .before .before .before .before .before .before .before .before .before .before .before .loop-test .taken) (here .inv .2) (c .before .before .before .before .before .before .before .before .before .before .before .before .before .before .executing-at .ensures) _ (c .before .before .before .before .before .before .before .before .before .other-of .ensures) (search (needs, c .before .before .before .before .before .before .before .before .buffer2 .given)) in
+    record { fits = omega (arith, takes-outcome done _ (c .before .before .before .before .before .o3 .given .1) .1) }
+
+add-t48 : tie.Need-add-t48 Inv-loop μ-loop
+add-t48 c = let good = c .before .before .before .before .before .before .before .before .before .before .before .before .before .before .before .before .before .before .before .before .before .before .before .before .before .good in record { fits = omega (arith, c .before .before .before .before .before .before .before .before .before .before .before .before .loop-test .taken, c .before .before .before .before .before .before .before .before .before .before .before .before .before .before .stretch .ensures .within) }
+
+cycle-ended-requires : tie.Need-cycle-ended-requires Inv-loop μ-loop
+cycle-ended-requires c κs =
+    let given = c .before .before .before .before .before .before .before .before .before .before .before .before .before .before .before .before .before .before .before .before .before .before .before .before .before .pre in
+    let here = c .before .before .before .before .before .before .before .before .before .before .before .before .before .loop in
+    let done = doing (given .0) (given .1) (given .3) (c .before .before .before .before .before .before .before .before .before .before .before .before .before .before .before .before .before .before .if1 .left) (c .before .before .before .before .before .before .before .before .before .before .before .before .before .before .before .least .ensures) (c .before .before .before .before .before .before .before .before .before .before .before .before .before .before .stretch .ensures) (here .inv .0) (c .before .before .before .before .before .before .before .before .before .before .before .before .loop-test .taken) (here .inv .2) (c .before .before .before .before .before .before .before .before .before .before .executing-at .ensures) _ (c .before .before .before .before .before .other-of .ensures) (search (needs, c .before .before .before .before .buffer2 .given)) in
+    rw (c .before .before .before .before .before .before .before .before .before .before .executing-at .ensures) (ended-takes done (c .before .enum-told2 .given .1) (c .if3 .taken))
+
+same-length-3 : tie.Need-same-length-3 Inv-loop μ-loop
+same-length-3 c =
+    let given = c .before .before .before .before .before .before .before .before .before .before .before .before .before .before .before .before .before .before .before .before .before .before .before .before .before .before .pre in
+    let here = c .before .before .before .before .before .before .before .before .before .before .before .before .before .before .loop in
+    search (needs, length-now (given .0) (here .inv .2), c .before .before .before .before .before .buffer2 .given)
+
+returns-4 : tie.Need-returns-4 Inv-loop μ-loop
+returns-4 c =
+    let given = c .before .before .before .before .before .before .before .before .before .before .before .before .before .before .before .before .before .before .before .before .before .before .before .before .before .before .pre in
+    let here = c .before .before .before .before .before .before .before .before .before .before .before .before .before .before .loop in
+    let done = doing (given .0) (given .1) (given .3) (c .before .before .before .before .before .before .before .before .before .before .before .before .before .before .before .before .before .before .before .if1 .left) (c .before .before .before .before .before .before .before .before .before .before .before .before .before .before .before .before .least .ensures) (c .before .before .before .before .before .before .before .before .before .before .before .before .before .before .before .stretch .ensures) (here .inv .0) (c .before .before .before .before .before .before .before .before .before .before .before .before .before .loop-test .taken) (here .inv .2) (c .before .before .before .before .before .before .before .before .before .before .before .executing-at .ensures) _ (c .before .before .before .before .before .before .other-of .ensures) (search (needs, c .before .before .before .before .before .buffer2 .given)) in
+    (omega (arith, here .inv .0), carries-as (c .cycle-ended .ensures ∙ ap cycleEnded (c .before .before .before .before .before .before .before .before .before .before .before .executing-at .ensures)) refl refl refl (carry-ended done (c .before .before .enum-told2 .given .1) (c .before .if3 .taken)),
+    (λ e. absurd (omega (arith, sym (ap (λ (r : Registers). r .mode) (c .cycle-ended .ensures) ∙ ended-mode _) ∙ e))))
+
+entry-requires : tie.Need-entry-requires Inv-loop μ-loop
+entry-requires c κs =
+    let given = c .before .before .before .before .before .before .before .before .before .before .before .before .before .before .before .before .before .before .before .before .before .before .before .before .before .before .pre in
+    let here = c .before .before .before .before .before .before .before .before .before .before .before .before .before .before .loop in
+    let done = doing (given .0) (given .1) (given .3) (c .before .before .before .before .before .before .before .before .before .before .before .before .before .before .before .before .before .before .before .if1 .left) (c .before .before .before .before .before .before .before .before .before .before .before .before .before .before .before .before .least .ensures) (c .before .before .before .before .before .before .before .before .before .before .before .before .before .before .before .stretch .ensures) (here .inv .0) (c .before .before .before .before .before .before .before .before .before .before .before .before .before .loop-test .taken) (here .inv .2) (c .before .before .before .before .before .before .before .before .before .before .before .executing-at .ensures) _ (c .before .before .before .before .before .before .other-of .ensures) (search (needs, c .before .before .before .before .before .buffer2 .given)) in
+    (core-few (given .0), omega (arith, returned-takes done (c .before .before .enum-told2 .given .1) (c .before .if3 .left) .1))
+
+entry-requires-2 : tie.Need-entry-requires-2 Inv-loop μ-loop
+entry-requires-2 c κs =
+    let given = c .before .before .before .before .before .before .before .before .before .before .before .before .before .before .before .before .before .before .before .before .before .before .before .before .before .before .before .before .pre in
+    let here = c .before .before .before .before .before .before .before .before .before .before .before .before .before .before .before .before .loop in
+    let done = doing (given .0) (given .1) (given .3) (c .before .before .before .before .before .before .before .before .before .before .before .before .before .before .before .before .before .before .before .before .before .if1 .left) (c .before .before .before .before .before .before .before .before .before .before .before .before .before .before .before .before .before .before .least .ensures) (c .before .before .before .before .before .before .before .before .before .before .before .before .before .before .before .before .before .stretch .ensures) (here .inv .0) (c .before .before .before .before .before .before .before .before .before .before .before .before .before .before .before .loop-test .taken) (here .inv .2) (c .before .before .before .before .before .before .before .before .before .before .before .before .before .executing-at .ensures) _ (c .before .before .before .before .before .before .before .before .other-of .ensures) (search (needs, c .before .before .before .before .before .before .before .buffer2 .given)) in
+    (core-few (given .0), omega (arith, returned-takes done (c .before .before .before .before .enum-told2 .given .1) (c .before .before .before .if3 .left) .1))
+
+set-entry-requires-3 : tie.Need-set-entry-requires-3 Inv-loop μ-loop
+set-entry-requires-3 c κs =
+    let given = c .before .before .before .before .before .before .before .before .before .before .before .before .before .before .before .before .before .before .before .before .before .before .before .before .before .before .before .before .before .before .pre in
+    let here = c .before .before .before .before .before .before .before .before .before .before .before .before .before .before .before .before .before .before .loop in
+    let done = doing (given .0) (given .1) (given .3) (c .before .before .before .before .before .before .before .before .before .before .before .before .before .before .before .before .before .before .before .before .before .before .before .if1 .left) (c .before .before .before .before .before .before .before .before .before .before .before .before .before .before .before .before .before .before .before .before .least .ensures) (c .before .before .before .before .before .before .before .before .before .before .before .before .before .before .before .before .before .before .before .stretch .ensures) (here .inv .0) (c .before .before .before .before .before .before .before .before .before .before .before .before .before .before .before .before .before .loop-test .taken) (here .inv .2) (c .before .before .before .before .before .before .before .before .before .before .before .before .before .before .before .executing-at .ensures) _ (c .before .before .before .before .before .before .before .before .before .before .other-of .ensures) (search (needs, c .before .before .before .before .before .before .before .before .before .buffer2 .given)) in
+    (core-few (given .0), omega (arith, returned-takes done (c .before .before .before .before .before .before .enum-told2 .given .1) (c .before .before .before .before .before .if3 .left) .1))
+
+set-entry-requires-4 : tie.Need-set-entry-requires-4 Inv-loop μ-loop
+set-entry-requires-4 c κs =
+    let given = c .before .before .before .before .before .before .before .before .before .before .before .before .before .before .before .before .before .before .before .before .before .before .before .before .before .before .before .before .before .before .before .before .pre in
+    let here = c .before .before .before .before .before .before .before .before .before .before .before .before .before .before .before .before .before .before .before .before .loop in
+    let done = doing (given .0) (given .1) (given .3) (c .before .before .before .before .before .before .before .before .before .before .before .before .before .before .before .before .before .before .before .before .before .before .before .before .before .if1 .left) (c .before .before .before .before .before .before .before .before .before .before .before .before .before .before .before .before .before .before .before .before .before .before .least .ensures) (c .before .before .before .before .before .before .before .before .before .before .before .before .before .before .before .before .before .before .before .before .before .stretch .ensures) (here .inv .0) (c .before .before .before .before .before .before .before .before .before .before .before .before .before .before .before .before .before .before .before .loop-test .taken) (here .inv .2) (c .before .before .before .before .before .before .before .before .before .before .before .before .before .before .before .before .before .executing-at .ensures) _ (c .before .before .before .before .before .before .before .before .before .before .before .before .other-of .ensures) (search (needs, c .before .before .before .before .before .before .before .before .before .before .before .buffer2 .given)) in
+    (core-few (given .0), omega (arith, returned-takes done (c .before .before .before .before .before .before .before .before .enum-told2 .given .1) (c .before .before .before .before .before .before .before .if3 .left) .1))
+
+add-step : tie.Need-add-step Inv-loop μ-loop
+add-step c = let good = c .before .before .before .before .before .before .before .before .before .before .before .before .before .before .before .before .before .before .good in record { fits = omega (arith, c .before .before .before .before .before .loop-test .taken, c .before .before .before .before .before .before .before .stretch .ensures .within) }
+
+loop-less : tie.Need-loop-less Inv-loop μ-loop
+loop-less c = omega (arith, c .before .before .before .before .before .loop-test .taken)
+
+loop-again : tie.Need-loop-again Inv-loop μ-loop
+loop-again c =
+    let given = c .before .before .before .before .before .before .before .before .before .before .before .before .before .before .before .before .before .before .pre in
+    let here = c .before .before .before .before .before .before .loop in
+    let count : c .before .before .before .before .before .before .before .before .before .before .before .before .before .before .before .before .before .before .args .before .count + (here .step + 1 - c .before .before .before .before .before .before .before .before .before .before .before .before .before .before .before .before .before .before .args .from) ≡ c .before .before .before .before .before .before .before .before .before .before .before .before .before .before .before .before .before .before .args .before .count + (here .step - c .before .before .before .before .before .before .before .before .before .before .before .before .before .before .before .before .before .before .args .from) + 1 = omega (arith, here .inv .0) in
+    let at = c .before .before .before .executing-at .ensures in
+    ⊎-elim
+    (λ w. (omega (arith, here .inv .0), omega (arith, c .before .before .before .before .before .loop-test .taken),
+      carries-as (advanced-at (c .before .before .before .before .before .before .before .before .before .before .before .before .before .before .before .before .before .before .args .before) (here .counter) (here .offset) (here .depth) _ (w .10 ∙ ap (λ (r : Registers). r .counter + 8) (sym at)) (w .11) (w .12) count) (w .7) (w .8) (w .9)
+      (carry-next (doing (given .0) (given .1) (given .3) (c .before .before .before .before .before .before .before .before .before .before .before .if1 .left) (c .before .before .before .before .before .before .before .before .least .ensures) (c .before .before .before .before .before .before .before .stretch .ensures) (here .inv .0) (c .before .before .before .before .before .loop-test .taken) (here .inv .2) (c .before .before .before .executing-at .ensures) _ (w .2 .ensures) (search (needs, w .3 .given))) _ (ap (outcomeOf _) (w .6 .given .1)))))
+    (⊎-elim
+    (λ w. (omega (arith, here .inv .0), omega (arith, c .before .before .before .before .before .loop-test .taken),
+      carries-as (advanced-at (c .before .before .before .before .before .before .before .before .before .before .before .before .before .before .before .before .before .before .args .before) (here .counter) (here .offset) (here .depth) _ (w .11) (w .12) (w .13) count) (w .8) (w .9) (w .10)
+      (carry-next (doing (given .0) (given .1) (given .3) (c .before .before .before .before .before .before .before .before .before .before .before .if1 .left) (c .before .before .before .before .before .before .before .before .least .ensures) (c .before .before .before .before .before .before .before .stretch .ensures) (here .inv .0) (c .before .before .before .before .before .loop-test .taken) (here .inv .2) (c .before .before .before .executing-at .ensures) _ (w .2 .ensures) (search (needs, w .3 .given))) _ (w .6 .given .1))))
+    (⊎-elim
+    (λ w. (omega (arith, here .inv .0), omega (arith, c .before .before .before .before .before .loop-test .taken),
+      carries-as (called-at (c .before .before .before .before .before .before .before .before .before .before .before .before .before .before .before .before .before .before .args .before) (here .counter) (here .offset) (here .depth) _ (w .15) (w .16) (w .17) count) (w .12 ∙ w .9 .ensures) (w .13 ∙ w .11 .ensures) (w .14)
+      (carry-call (doing (given .0) (given .1) (given .3) (c .before .before .before .before .before .before .before .before .before .before .before .if1 .left) (c .before .before .before .before .before .before .before .before .least .ensures) (c .before .before .before .before .before .before .before .stretch .ensures) (here .inv .0) (c .before .before .before .before .before .loop-test .taken) (here .inv .2) (c .before .before .before .executing-at .ensures) _ (w .2 .ensures) (search (needs, w .3 .given))) _ _ _ (w .6 .given .1))))
+    (λ w. (omega (arith, here .inv .0), omega (arith, c .before .before .before .before .before .loop-test .taken),
+      carries-as (returned-at (c .before .before .before .before .before .before .before .before .before .before .before .before .before .before .before .before .before .before .args .before) (here .counter) (here .offset) (here .depth) _ (w .19 ∙ w .9 .ensures) (w .20 ∙ w .11 .ensures) (w .21) count) (w .16 ∙ w .13 .ensures) (w .17 ∙ w .15 .ensures) (w .18)
+      (carry-return (doing (given .0) (given .1) (given .3) (c .before .before .before .before .before .before .before .before .before .before .before .if1 .left) (c .before .before .before .before .before .before .before .before .least .ensures) (c .before .before .before .before .before .before .before .stretch .ensures) (here .inv .0) (c .before .before .before .before .before .loop-test .taken) (here .inv .2) (c .before .before .before .executing-at .ensures) _ (w .2 .ensures) (search (needs, w .3 .given))) (here .depth - 1) (w .6 .given .1) (omega (arith, w .7 .left)))))))
+    (c .if2 .came)
+
+sub-executing-at-2 : tie.Need-sub-executing-at-2 Inv-loop μ-loop
+sub-executing-at-2 c = omega (arith, c .before .loop .inv .0)
+
+cast-executing-at-2 : tie.Need-cast-executing-at-2 Inv-loop μ-loop
+cast-executing-at-2 c =
+    let given = c .before .before .before .before .before .before .before .before .before .before .before .before .before .pre in
+    let limit = limit-low (ready-now (given .0) (carry-none _ _ _ _ _ _ _ _ _) (given .1)) in
+    let here = c .before .loop in
+    let st = c .before .before .stretch .ensures in
+    record { fits = omega (arith, here .inv .1, st .few, c .before .before .before .least .ensures, limit .0, limit .1) }
+
+add-executing-at-2 : tie.Need-add-executing-at-2 Inv-loop μ-loop
+add-executing-at-2 c =
+    let given = c .before .before .before .before .before .before .before .before .before .before .before .before .before .before .pre in
+    let limit = limit-low (ready-now (given .0) (carry-none _ _ _ _ _ _ _ _ _) (given .1)) in
+    let here = c .before .before .loop in
+    let st = c .before .before .before .stretch .ensures in
+    record { fits = omega (arith, here .inv .1, st .few, c .before .before .before .before .least .ensures, limit .0, limit .1) }
+
+same-length-4 : tie.Need-same-length-4 Inv-loop μ-loop
+same-length-4 c = length-now (c .before .before .before .before .before .before .before .before .before .before .before .before .before .before .before .pre .0) (c .before .before .before .loop .inv .2)
+
+returns-5 : tie.Need-returns-5 Inv-loop μ-loop
+returns-5 c =
+    let given = c .before .before .before .before .before .before .before .before .before .before .before .before .before .before .before .pre in
+    let here = c .before .before .before .loop in
+    let more = c .before .before .before .before .stretch .ensures .some (given .2) (omega (arith, c .before .before .before .before .before .least .ensures, limit-low (ready-now (given .0) (carry-none _ _ _ _ _ _ _ _ _) (given .1)) .1, c .before .before .before .before .before .before .before .before .if1 .left)) in
+    (omega (arith, more, c .before .before .loop-test .left), carries-as (c .executing-at2 .ensures) refl refl refl (here .inv .2), (λ e. omega (arith, ap (λ (r : Registers). r .count) (c .executing-at2 .ensures), here .inv .0)))
 
 pub run-core-spec : {M : Type 1} → statement M
 run-core-spec =
@@ -114,32 +282,56 @@ run-core-spec =
     (tie.spec
     Inv-loop
     μ-loop
-    loop-holds
-    executing-at-requires
-    instruction-of-requires
-    add-step
-    enum-known-o
+    (λ c. search needs)
+    add-t28
     faulted-requires
-    same-length
     returns
-    enum-known-o-2
-    enum-known-o-3
+    (λ c. search needs)
+    sub-least
+    (λ c κs. search needs)
+    stretch-requires
+    add-end
+    loop-holds
+    sub-executing-at
+    cast-executing-at
+    add-executing-at
+    (λ c κs. search needs)
+    command-of-requires
+    has-three-requires
+    typed-of-requires
+    (λ c. search needs)
+    add-counter
+    add-t38
+    (λ c κs. search needs)
+    same-length
+    returns-2
+    other-of-requires
+    (λ c. search needs)
+    add-t42
+    faulted-requires-2
+    same-length-2
+    returns-3
+    (λ c. search needs)
+    (λ c. search needs)
     set-entry-requires
     set-entry-requires-2
     add-depth
-    enum-told
+    (λ c. search needs)
+    add-t48
     cycle-ended-requires
-    same-length-2
-    returns-2
-    sub-depth
+    same-length-3
+    returns-4
+    (λ c. search needs)
     entry-requires
     entry-requires-2
     set-entry-requires-3
     set-entry-requires-4
-    add-count
-    stays-requires
+    add-step
     loop-less
     loop-again
-    executing-at-requires-2
-    same-length-3
-    returns-3)
+    sub-executing-at-2
+    cast-executing-at-2
+    add-executing-at-2
+    (λ c κs. search needs)
+    same-length-4
+    returns-5)

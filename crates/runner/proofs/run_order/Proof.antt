@@ -14,9 +14,10 @@ use Rattle.protocol.specs.Step.{reading, writing, encoded}
 use Rattle.states.specs.Machine.{noRegisters, stateOf}
 use Rattle.steps.specs.Effects.{Idle, Joined, ByteRead, ReadReleased, WriteAcquired, ByteWritten, WriteReleased, exchanged}
 use Rattle.runner.specs.Running.{RunningAt}
+use Rattle.runner.proofs.Stretches.{steps-on}
 use Rattle.runner.proofs.Running.{below-at}
 use Rattle.runner.proofs.Loop.{looping-start, moving, takes-of, read-on, write-on, shared-length, joins-out, reads-in, writes-in, joining, line-once}
-use Rattle.runner.proofs.Carrying.{steps-on, stands, Idles, idle}
+use Rattle.runner.proofs.Carrying.{stands, Idles, idle}
 use Rattle.runner.proofs.Bytes.{ahead-few, bytes-arm}
 use Rattle.runner.proofs.End.{looping-end}
 use Rattle.semaphore.specs.Line.{semaphoreOf, waitsAt, Lined}
