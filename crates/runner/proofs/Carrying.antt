@@ -37,7 +37,8 @@ use Rattle.steps.specs.Effects.{Idle, Fault, Next, Call, Return, CycleEnded, ba
 use Rattle.steps.specs.Moving.{StepGiven, InstructionGiven}
 use Rattle.steps.proofs.Given.{limit-low}
 use Rattle.steps.proofs.Does.{does-wait}
-use Rattle.runner.specs.Running.{stepsOn, Stretches, faultedBy, executingAt, RunningAt, RunStands, CarriesRun}
+use Rattle.runner.specs.Running.{stepsOn, Stretches, faultedBy, executingAt, reachedOf, reachedAt, RunningAt, RunStands, CarriesRun, Reaches}
+use Rattle.runner.specs.declared.Reached.{Reached}
 use Rattle.runner.proofs.Stretches.{step-in, on-stretch}
 use Rattle.runner.proofs.Loop.{ready, stays, plain-arm, stack-arm, after-advanced, after-called, after-returned, after-faulted, after-ended, returned-by, in-line}
 
@@ -78,14 +79,58 @@ module _ (before : Registers) (counter offset depth count : ℕ) {counter′ off
   unfolding returned
   returned-at a b e n = λ i. executingAt before (a i) (b i) (e i) (n i)
 
+-- the registers that an instruction does not change
+pub record KeepsRest (before r : Registers) : Type 0 where
+  pub exchange : r .exchange ≡ before .exchange
+  pub cycles : r .cycles ≡ before .cycles
+  pub time : r .time ≡ before .time
+
+pub keeps-same : {r : Registers} → KeepsRest r r
+keeps-same = record { exchange = refl; cycles = refl; time = refl }
+
+pub keeps-executing : {before : Registers} {counter offset depth count : ℕ} → KeepsRest before (executingAt before counter offset depth count)
+keeps-executing = record { exchange = refl; cycles = refl; time = refl }
+
+keeps-faulted : {before r : Registers} (n : ℕ) → KeepsRest before r → KeepsRest before (faulted n r)
+unfolding faulted
+keeps-faulted n h = record { exchange = h .exchange; cycles = h .cycles; time = h .time }
+
+keeps-ended : {before r : Registers} → KeepsRest before r → KeepsRest before (cycleEnded r)
+unfolding cycleEnded
+keeps-ended h = record { exchange = h .exchange; cycles = h .cycles; time = h .time }
+
 -- the mode after a fault, and after the cycle's end
-pub faulted-mode : (b : ℕ) (r : Registers) → faulted b r .mode ≡ 5
+faulted-mode : (b : ℕ) (r : Registers) → faulted b r .mode ≡ 5
 unfolding faulted
 faulted-mode b r = refl
 
-pub ended-mode : (r : Registers) → cycleEnded r .mode ≡ 3
+ended-mode : (r : Registers) → cycleEnded r .mode ≡ 3
 unfolding cycleEnded
 ended-mode r = refl
+
+-- what a stretch hands over is what it promises: where it goes on, after a fault, and after the cycle's end
+module _ {f t order : List ℕ} {k from : ℕ} {before : Registers} {p₀ o₀ d₀ : List ℕ} {x : Reached} {i : ℕ} {y : Registers} {places offsets d : List ℕ} (e : x ≡ reachedOf i y) (l : from < i) where
+  reaches : {r : Registers} → y ≡ r → KeepsRest before r → CarriesRun f t order k from before p₀ o₀ d₀ i r places offsets d → (r .mode ≡ executing → r .count + from ≡ before .count + i)
+      → Reaches f t order k from before p₀ o₀ d₀ x places offsets d
+  reaches {r} q h w n =
+      subst⁻¹ (λ (z : Reached). Reaches f t order k from before p₀ o₀ d₀ z places offsets d) (e ∙ ap (reachedOf i) q)
+      record { onward = l; carries = carries-as same refl refl refl w; counted = n }
+    where
+      same : reachedAt before (reachedOf i r) ≡ r
+      same = λ j. record { mode = r .mode; counter = r .counter; offset = r .offset; depth = r .depth; count = r .count; exchange = sym (h .exchange) j; cycles = sym (h .cycles) j; flags = r .flags; time = sym (h .time) j }
+
+  pub reaches-on : {counter offset depth count : ℕ} → y ≡ executingAt before counter offset depth count
+      → CarriesRun f t order k from before p₀ o₀ d₀ i (executingAt before counter offset depth count) places offsets d → count + from ≡ before .count + i
+      → Reaches f t order k from before p₀ o₀ d₀ x places offsets d
+  reaches-on q w n = reaches q keeps-executing w (λ m. n)
+
+  pub reaches-fault : (n : ℕ) {r : Registers} → y ≡ faulted n r → KeepsRest before r → CarriesRun f t order k from before p₀ o₀ d₀ i (faulted n r) places offsets d
+      → Reaches f t order k from before p₀ o₀ d₀ x places offsets d
+  reaches-fault n {r} q h w = reaches q (keeps-faulted n h) w (λ m. absurd (omega (arith, sym (faulted-mode n r) ∙ m)))
+
+  pub reaches-ended : {r : Registers} → y ≡ cycleEnded r → KeepsRest before r → CarriesRun f t order k from before p₀ o₀ d₀ i (cycleEnded r) places offsets d
+      → Reaches f t order k from before p₀ o₀ d₀ x places offsets d
+  reaches-ended {r} q h w = reaches q (keeps-ended h) w (λ m. absurd (omega (arith, sym (ended-mode r) ∙ m)))
 
 -- what a typed command answers that did not end well
 pub record Stopped (next : ℕ) (p : Performed) (r : Registers) : Type 0 where

@@ -10,9 +10,11 @@ use lib.ListN.{length, getD, set, take, drop}
 use Rattle.verdict.specs.Verdict.{both}
 use Rattle.memory.specs.Memory.{splice, total}
 use Rattle.protocol.specs.declared.Registers.{Registers}
+use Rattle.protocol.specs.Modes.{executing}
 use Rattle.protocol.specs.Registers.{faulted}
 use Rattle.protocol.specs.State.{Semaphore, State}
 use Rattle.protocol.specs.Step.{run, takings, orderList}
+use Rattle.runner.specs.declared.Reached.{Reached}
 use Rattle.exchange.specs.declared.Cursor.{Cursor}
 use Rattle.records.specs.File.{cores}
 use Rattle.taskset.specs.Task.{sizesOf}
@@ -59,6 +61,23 @@ executingAt r counter offset depth count = record {
 abbrev pub faultedBy : Option ℕ → Registers → Registers
 faultedBy none r = r
 faultedBy (some bit) r = faulted bit r
+
+-- what a stretch of instructions hands over of the registers r that it leaves, and these again, for a core that had the registers r before
+abbrev pub reachedOf : ℕ → Registers → Reached
+reachedOf step r = record { step = step; mode = r .mode; counter = r .counter; offset = r .offset; depth = r .depth; count = r .count; flags = r .flags }
+
+abbrev pub reachedAt : Registers → Reached → Registers
+reachedAt r x = record {
+  mode = x .mode;
+  counter = x .counter;
+  offset = x .offset;
+  depth = x .depth;
+  count = x .count;
+  exchange = r .exchange;
+  cycles = r .cycles;
+  flags = x .flags;
+  time = r .time;
+}
 
 -- the registers r with more bytes of an exchange copied
 abbrev pub bytesOn : Registers → ℕ → Registers
@@ -126,3 +145,9 @@ CarriesRun f t order k i r places offsets d i′ r′ places′ offsets′ d′ 
     → getD cs k noRegisters ≡ r
     → RunningAt f t order list₀ s₀ cs₀ places₀ offsets₀ i cs places offsets h taken d sh list cursor
     → RunningAt f t order list₀ s₀ cs₀ places₀ offsets₀ i′ (set cs k r′) places′ offsets′ h taken d′ sh list cursor
+
+-- the same of a stretch of instructions, of one at least, which count
+pub record Reaches (f t order : List ℕ) (k from : ℕ) (before : Registers) (places offsets d : List ℕ) (x : Reached) (places′ offsets′ d′ : List ℕ) : Type 0 where
+  pub onward : from < x .step
+  pub carries : CarriesRun f t order k from before places offsets d (x .step) (reachedAt before x) places′ offsets′ d′
+  pub counted : x .mode ≡ executing → x .count + from ≡ before .count + x .step

@@ -22,7 +22,7 @@ ghost use Rattle.runner.specs.Runs.{allBelow, leftAs, ranCall};
 ghost use Rattle.states.specs.Tasks.{coreTask};
 ghost use Rattle.steps.specs.Bytes.{Ahead};
 ghost use Rattle.runner.specs.Going.{RunGiven};
-ghost use Rattle.runner.specs.Running.{stepsOn, AllOn, Stretches, faultedBy, executingAt, bytesOn, RunStands, CarriesRun};
+ghost use Rattle.runner.specs.Running.{stepsOn, AllOn, Stretches, faultedBy, executingAt, reachedOf, reachedAt, bytesOn, RunStands, Reaches};
 ghost use Rattle.runner.specs.Executing.{ExecutionGiven, Executes};
 ghost use Rattle.protocol.specs.Modes.{executing};
 
@@ -170,6 +170,17 @@ fn bytes_on(r: Registers, count: usize) -> Registers
 // Steps that are looked at ahead: so many that the look at them costs a step little, and so few that little is lost where the core leaves mode 2 before.
 const STRETCH: usize = 256;
 
+// How many of the steps from i on are of core k, as step i is, `most` of them at most. A single step is told at once.
+fn execution_ahead(order: &[u8], i: usize, most: usize, k: usize) -> usize
+    requires { ⌜ (stepsOn (now order) i k ≡ true) × (0 < most) × (k < 4) ⌝ }
+    ensures { λ m. ⌜ Stretches (now (order .entry)) i most k m ⌝ }
+{
+    if !stays(order, i + 1, k) {
+        return 1;
+    }
+    stretch(order, i, most, k)
+}
+
 // The registers of a core whose typed command did not end well.
 fn stopped(r: Registers, p: Performed) -> Registers
     ensures { λ s. ⌜ s ≡ faultedBy (flagBit p) r ⌝ }
@@ -181,10 +192,47 @@ fn stopped(r: Registers, p: Performed) -> Registers
     }
 }
 
-// What a stretch of instructions leaves: the step after them, and the registers.
+// What a stretch of instructions leaves: the step after them, and what they change of the registers. A whole structure would be copied in wide words,
+// which wait for the narrow stores of its fields.
 struct Reached {
     step: usize,
-    registers: Registers,
+    mode: u8,
+    counter: u16,
+    offset: u16,
+    depth: u8,
+    count: u16,
+    flags: u8,
+}
+
+fn reach(step: usize, r: Registers) -> Reached
+    ensures { λ x. ⌜ x ≡ reachedOf step r ⌝ }
+{
+    Reached {
+        step,
+        mode: r.mode,
+        counter: r.counter,
+        offset: r.offset,
+        depth: r.depth,
+        count: r.count,
+        flags: r.flags,
+    }
+}
+
+// The registers of a core after them.
+fn reached_at(r: Registers, x: Reached) -> Registers
+    ensures { λ s. ⌜ s ≡ reachedAt r x ⌝ }
+{
+    Registers {
+        mode: x.mode,
+        counter: x.counter,
+        offset: x.offset,
+        depth: x.depth,
+        count: x.count,
+        exchange: r.exchange,
+        cycles: r.cycles,
+        flags: x.flags,
+        time: r.time,
+    }
 }
 
 // The instructions of core k with the registers `before`, from step `from` of the order on, for as long as it executes and the order stays
@@ -202,16 +250,13 @@ fn run_core(
     buffer: &mut [u8],
 ) -> Reached
     requires { ⌜ RunStands (now file) (now trace) (now order) from k before (now places) (now offsets) (now buffer) × (c ≡ coreTask (now file) (now trace) k) × (stepsOn (now order) from k ≡ true) × (before .mode ≡ executing) ⌝ }
-    ensures { λ x. ⌜ (from < x .step) × CarriesRun (now (file .entry)) (now (trace .entry)) (now (order .entry)) k from before (now (places .entry)) (now (offsets .entry)) (now (buffer .entry)) (x .step) (x .registers) (now (places .exit)) (now (offsets .exit)) (now (buffer .exit)) × (x .registers .mode ≡ executing → x .registers .count + from ≡ before .count + x .step) ⌝ }
+    ensures { λ x. ⌜ Reaches (now (file .entry)) (now (trace .entry)) (now (order .entry)) k from before (now (places .entry)) (now (offsets .entry)) (now (buffer .entry)) x (now (places .exit)) (now (offsets .exit)) (now (buffer .exit)) ⌝ }
 {
     if before.count as usize == c.limit {
-        return Reached {
-            step: from + 1,
-            registers: protocol::faulted(before, LIMIT),
-        };
+        return reach(from + 1, protocol::faulted(before, LIMIT));
     }
     let most = least(c.limit - before.count as usize, STRETCH);
-    let end = from + stretch(order, from, most, k);
+    let end = from + execution_ahead(order, from, most, k);
     let mut counter = before.counter;
     let mut offset = before.offset;
     let mut depth = before.depth;
@@ -224,19 +269,13 @@ fn run_core(
             if let Performed::Done = p {
                 counter += TYPED;
             } else {
-                return Reached {
-                    step: step + 1,
-                    registers: stopped(r, p),
-                };
+                return reach(step + 1, stopped(r, p));
             }
         } else {
             let o = steps::other_of(op, r, k, c, file, trace, buffer);
             match o {
                 Outcome::Fault(bit) => {
-                    return Reached {
-                        step: step + 1,
-                        registers: protocol::faulted(r, bit),
-                    };
+                    return reach(step + 1, protocol::faulted(r, bit));
                 }
                 Outcome::Next(place) => {
                     counter = place;
@@ -250,10 +289,7 @@ fn run_core(
                 }
                 Outcome::Return => {
                     if depth == 0 {
-                        return Reached {
-                            step: step + 1,
-                            registers: protocol::cycle_ended(r),
-                        };
+                        return reach(step + 1, protocol::cycle_ended(r));
                     }
                     depth -= 1;
                     counter = entry(places, k, depth);
@@ -265,10 +301,8 @@ fn run_core(
         }
         step += 1;
     }
-    Reached {
-        step,
-        registers: executing_at(before, counter, offset, depth, before.count + (step - from) as u16),
-    }
+    let r = executing_at(before, counter, offset, depth, before.count + (step - from) as u16);
+    reach(step, r)
 }
 
 // The instructions of core k with the registers `before`, until it leaves mode 2, where no core exchanges.
@@ -289,8 +323,7 @@ pub fn run_alone(
     let mut r = before;
     while r.mode == EXECUTING {
         let x = run_core(file, trace, c, &order, 0, k, r, places, offsets, buffer);
-        let registers = x.registers;
-        r = registers;
+        r = reached_at(r, x);
     }
     r
 }
@@ -336,8 +369,7 @@ pub fn run_order(
                 &mut offsets,
                 buffer,
             );
-            let registers = x.registers;
-            cores[k] = registers;
+            cores[k] = reached_at(cores[k], x);
             i = x.step;
         } else if semaphore::waits(line, k) {
             // a loop of its own: most steps of waiting cores follow one another, and what they test of a core is one byte

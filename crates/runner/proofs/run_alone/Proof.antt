@@ -4,6 +4,7 @@ use Prim.Native.Nat.{_-_, _<_, _≤_}
 use native.Mathlib.Omega.{arith}
 use borrow.Author.Needs.{needs}
 use lib.ListN.{length}
+use Rattle.runner.specs.Running.{reachedAt}
 use Rattle.runner.specs.Executing.{ExecutionGiven, Executes}
 use Rattle.runner.proofs.Executing.{steps-alone, executes-none, executes-on, executing-on, executing-count, executing-length, executes-alone, standing-alone, leftOf, left-less}
 use Rattle.runner.proofs.run_alone.Statement.{statement}
@@ -28,10 +29,16 @@ run-core-requires : tie.Need-run-core-requires Inv-loop μ-loop
 run-core-requires c κs = (standing-alone _ (executing-on (c .before .before .before .before .before .before .before .before .before .before .pre .0) (c .before .before .before .before .before .before .loop .inv)), c .before .before .before .before .before .before .before .before .before .before .pre .1, steps-alone 256 (c .before .before .before .before .before .before .before .before .before .before .args .k) (omega arith), c .before .before .before .before .if1 .taken)
 
 loop-less : tie.Need-loop-less Inv-loop μ-loop
-loop-less c = left-less (c .before .before .before .before .before .before .before .before .before .before .loop .r) (c .before .before .before .run-core .result .registers) (c .before .before .before .run-core .result .step) (c .before .before .before .before .before .before .before .before .if1 .taken) (executing-count (executing-on (c .before .before .before .before .before .before .before .before .before .before .before .before .before .before .pre .0) (c .before .before .before .before .before .before .before .before .before .before .loop .inv))) (c .before .before .before .run-core .ensures .0) (c .before .before .before .run-core .ensures .2)
+loop-less c =
+    let here = c .before .before .before .before .before .before .before .before .before .before .loop in
+    let ran = c .before .before .before .run-core in
+    let at = c .reached-at .ensures in
+    rw at (left-less (here .r) (reachedAt (here .r) (ran .result)) (ran .result .step) (c .before .before .before .before .before .before .before .before .if1 .taken) (executing-count (executing-on (c .before .before .before .before .before .before .before .before .before .before .before .before .before .before .pre .0) (here .inv))) (ran .ensures .onward) (ran .ensures .counted))
 
 loop-again : tie.Need-loop-again Inv-loop μ-loop
-loop-again c = executes-on (c .before .before .before .before .before .before .before .before .before .before .before .before .before .before .pre .0 .accepted) (c .before .before .before .before .before .before .before .before .before .before .before .before .before .before .pre .0 .known) (c .before .before .before .before .before .before .before .before .before .before .loop .inv) (executes-alone 256 (c .before .before .before .before .before .before .before .before .before .before .before .before .before .before .pre .0 .accepted) refl (c .before .before .before .run-core .ensures .1))
+loop-again c =
+    let given = c .before .before .before .before .before .before .before .before .before .before .before .before .before .before .pre .0 in
+    rw (c .reached-at .ensures) (executes-on (given .accepted) (given .known) (c .before .before .before .before .before .before .before .before .before .before .loop .inv) (executes-alone 256 (given .accepted) refl (c .before .before .before .run-core .ensures .carries)))
 
 same-length : tie.Need-same-length Inv-loop μ-loop
 same-length c = executing-length (c .before .before .before .before .before .before .pre .0) (c .before .before .loop .inv)
@@ -49,6 +56,7 @@ run-alone-spec =
     loop-holds
     slice-aggregate-run-core
     run-core-requires
+    (λ c κs. search needs)
     loop-less
     loop-again
     same-length

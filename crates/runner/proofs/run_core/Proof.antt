@@ -11,7 +11,7 @@ use Rattle.processor.specs.Typed.{outcomeOf}
 use Rattle.steps.proofs.Given.{at-instruction, counter-low, limit-in, limit-low}
 use Rattle.runner.specs.Running.{executingAt, CarriesRun}
 use Rattle.runner.proofs.Stretches.{step-in}
-use Rattle.runner.proofs.Carrying.{carry-none, carries-as, Instructed, turn-of, doing, given-at, stopped-by, ended-takes, returned-takes, advanced-at, called-at, returned-at, ready-now, length-now, core-few, faulted-mode, ended-mode, takes-outcome, carry-next, carry-fault, carry-ended, carry-call, carry-return}
+use Rattle.runner.proofs.Carrying.{carry-none, carries-as, Instructed, turn-of, doing, given-at, stopped-by, ended-takes, returned-takes, advanced-at, called-at, returned-at, ready-now, length-now, core-few, keeps-same, keeps-executing, reaches-on, reaches-fault, reaches-ended, takes-outcome, carry-next, carry-fault, carry-ended, carry-call, carry-return}
 use Rattle.runner.proofs.run_core.Statement.{statement}
 use Rattle.runner.proofs.run_core.Tie as tie
 
@@ -22,20 +22,20 @@ Inv-loop file trace c order from k before places₀ offsets₀ buffer₀ most en
 abbrev μ-loop : tie.MeasureT-loop
 μ-loop file trace c order from k before places₀ offsets₀ buffer₀ most end counter₀ offset₀ depth₀ step₀ places offsets buffer counter offset depth step = end - step
 
-add-t28 : tie.Need-add-t28 Inv-loop μ-loop
-add-t28 c = let good = c .before .before .before .before .before .before .before .good in record { fits = omega (arith, step-in (c .before .before .before .before .before .before .before .args .order .now) (c .before .before .before .before .before .before .before .args .from) (c .before .before .before .before .before .before .before .args .k) (c .before .before .before .before .before .before .before .pre .2) .0) }
+add-reach : tie.Need-add-reach Inv-loop μ-loop
+add-reach c = let good = c .before .before .before .before .before .before .before .good in record { fits = omega (arith, step-in (c .before .before .before .before .before .before .before .args .order .now) (c .before .before .before .before .before .before .before .args .from) (c .before .before .before .before .before .before .before .args .k) (c .before .before .before .before .before .before .before .pre .2) .0) }
 
 faulted-requires : tie.Need-faulted-requires Inv-loop μ-loop
 faulted-requires c κs = omega arith
 
 returns : tie.Need-returns Inv-loop μ-loop
 returns c =
-    let given = c .before .before .before .before .before .before .before .before .pre in
-    let start = c .before .before .before .before .before .before .before .before .args in
+    let given = c .before .before .before .before .before .before .before .before .before .pre in
+    let start = c .before .before .before .before .before .before .before .before .before .args in
     let ready = ready-now (given .0) (carry-none _ _ _ _ _ _ _ _ _) (given .1) in
     let done : Instructed (start .file .now) (start .trace .now) (start .order .now) (start .k) (start .from) (start .before) (start .places .now) (start .offsets .now) (start .buffer .now) (start .from) (start .before) (start .places .now) (start .offsets .now) (start .buffer .now) (Failed 1) (start .buffer .now) =
-        record { accepted = given .0 .accepted; on = given .2; known = given .0 .known; carried = carry-none _ _ _ _ _ _ _ _ _; answered = limit-in _ ready (given .0 .loops .running .buffer) (given .3) (c .before .if1 .taken); same = refl } in
-    (omega arith, carries-as (c .faulted .ensures) refl refl refl (carry-fault done _ refl), (λ e. absurd (omega (arith, sym (ap (λ (r : Registers). r .mode) (c .faulted .ensures) ∙ faulted-mode _ _) ∙ e))))
+        record { accepted = given .0 .accepted; on = given .2; known = given .0 .known; carried = carry-none _ _ _ _ _ _ _ _ _; answered = limit-in _ ready (given .0 .loops .running .buffer) (given .3) (c .before .before .if1 .taken); same = refl } in
+    reaches-fault (c .reach .ensures) (omega arith) 1 (c .before .faulted .ensures) keeps-same (carry-fault done _ refl)
 
 sub-least : tie.Need-sub-least Inv-loop μ-loop
 sub-least c =
@@ -43,11 +43,13 @@ sub-least c =
     let limit = limit-low (ready-now (given .0) (carry-none _ _ _ _ _ _ _ _ _) (given .1)) in
     omega (arith, limit .1)
 
-stretch-requires : tie.Need-stretch-requires Inv-loop μ-loop
-stretch-requires c κs = let given = c .before .before .before .before .before .before .before .before .before .before .pre in (omega (arith, step-in (c .before .before .before .before .before .before .before .before .before .before .args .order .now) (c .before .before .before .before .before .before .before .before .before .before .args .from) (c .before .before .before .before .before .before .before .before .before .before .args .k) (c .before .before .before .before .before .before .before .before .before .before .pre .2) .0), core-few (given .0))
+execution-ahead-requires : tie.Need-execution-ahead-requires Inv-loop μ-loop
+execution-ahead-requires c κs =
+    let given = c .before .before .before .before .before .before .before .before .before .before .pre in
+    (given .2, omega (arith, c .least .ensures, limit-low (ready-now (given .0) (carry-none _ _ _ _ _ _ _ _ _) (given .1)) .1, c .before .before .before .if1 .left), core-few (given .0))
 
 add-end : tie.Need-add-end Inv-loop μ-loop
-add-end c = let good = c .before .before .before .before .before .before .before .before .before .before .before .good in record { fits = omega (arith, c .stretch .ensures .within) }
+add-end c = let good = c .before .before .before .before .before .before .before .before .before .before .before .good in record { fits = omega (arith, c .execution-ahead .ensures .within) }
 
 loop-holds : tie.Need-loop-holds Inv-loop μ-loop
 loop-holds c =
@@ -62,21 +64,21 @@ cast-executing-at : tie.Need-cast-executing-at Inv-loop μ-loop
 cast-executing-at c =
     let given = c .before .before .before .before .before .before .before .before .before .before .before .before .before .pre in
     let here = c .before .loop in
-    let now = turn-of (given .0) (given .1) (given .3) (c .before .before .before .before .before .before .if1 .left) (c .before .before .before .least .ensures) (c .before .before .stretch .ensures) (here .inv .0) (c .loop-test .taken) (here .inv .2) in
+    let now = turn-of (given .0) (given .1) (given .3) (c .before .before .before .before .before .before .if1 .left) (c .before .before .before .least .ensures) (c .before .before .execution-ahead .ensures) (here .inv .0) (c .loop-test .taken) (here .inv .2) in
     record { fits = omega (arith, now .below, now .low) }
 
 add-executing-at : tie.Need-add-executing-at Inv-loop μ-loop
 add-executing-at c =
     let given = c .before .before .before .before .before .before .before .before .before .before .before .before .before .before .pre in
     let here = c .before .before .loop in
-    let now = turn-of (given .0) (given .1) (given .3) (c .before .before .before .before .before .before .before .if1 .left) (c .before .before .before .before .least .ensures) (c .before .before .before .stretch .ensures) (here .inv .0) (c .before .loop-test .taken) (here .inv .2) in
+    let now = turn-of (given .0) (given .1) (given .3) (c .before .before .before .before .before .before .before .if1 .left) (c .before .before .before .before .least .ensures) (c .before .before .before .execution-ahead .ensures) (here .inv .0) (c .before .loop-test .taken) (here .inv .2) in
     record { fits = omega (arith, now .below, now .low) }
 
 command-of-requires : tie.Need-command-of-requires Inv-loop μ-loop
 command-of-requires c κs =
     let given = c .before .before .before .before .before .before .before .before .before .before .before .before .before .before .before .pre in
     let here = c .before .before .before .loop in
-    let now = turn-of (given .0) (given .1) (given .3) (c .before .before .before .before .before .before .before .before .if1 .left) (c .before .before .before .before .before .least .ensures) (c .before .before .before .before .stretch .ensures) (here .inv .0) (c .before .before .loop-test .taken) (here .inv .2) in
+    let now = turn-of (given .0) (given .1) (given .3) (c .before .before .before .before .before .before .before .before .if1 .left) (c .before .before .before .before .before .least .ensures) (c .before .before .before .before .execution-ahead .ensures) (here .inv .0) (c .before .before .loop-test .taken) (here .inv .2) in
     at-instruction (now .ready)
 
 has-three-requires : tie.Need-has-three-requires Inv-loop μ-loop
@@ -86,140 +88,137 @@ typed-of-requires : tie.Need-typed-of-requires Inv-loop μ-loop
 typed-of-requires c κs =
     let given = c .before .before .before .before .before .before .before .before .before .before .before .before .before .before .before .before .before .before .before .pre in
     let here = c .before .before .before .before .before .before .before .loop in
-    let now = turn-of (given .0) (given .1) (given .3) (c .before .before .before .before .before .before .before .before .before .before .before .before .if1 .left) (c .before .before .before .before .before .before .before .before .before .least .ensures) (c .before .before .before .before .before .before .before .before .stretch .ensures) (here .inv .0) (c .before .before .before .before .before .before .loop-test .taken) (here .inv .2) in
+    let now = turn-of (given .0) (given .1) (given .3) (c .before .before .before .before .before .before .before .before .before .before .before .before .if1 .left) (c .before .before .before .before .before .before .before .before .before .least .ensures) (c .before .before .before .before .before .before .before .before .execution-ahead .ensures) (here .inv .0) (c .before .before .before .before .before .before .loop-test .taken) (here .inv .2) in
     (given-at now (c .before .before .before .before .executing-at .ensures) (c .before .before .before .command-of .ensures .0), sym (c .before .before .has-three .ensures) ∙ c .before .if2 .taken)
 
 add-counter : tie.Need-add-counter Inv-loop μ-loop
 add-counter c =
     let given = c .before .before .before .before .before .before .before .before .before .before .before .before .before .before .before .before .before .before .before .before .before .before .before .before .pre in
     let here = c .before .before .before .before .before .before .before .before .before .before .before .before .loop in
-    record { fits = omega (arith, counter-low (turn-of (given .0) (given .1) (given .3) (c .before .before .before .before .before .before .before .before .before .before .before .before .before .before .before .before .before .if1 .left) (c .before .before .before .before .before .before .before .before .before .before .before .before .before .before .least .ensures) (c .before .before .before .before .before .before .before .before .before .before .before .before .before .stretch .ensures) (here .inv .0) (c .before .before .before .before .before .before .before .before .before .before .before .loop-test .taken) (here .inv .2) .ready)) }
+    record { fits = omega (arith, counter-low (turn-of (given .0) (given .1) (given .3) (c .before .before .before .before .before .before .before .before .before .before .before .before .before .before .before .before .before .if1 .left) (c .before .before .before .before .before .before .before .before .before .before .before .before .before .before .least .ensures) (c .before .before .before .before .before .before .before .before .before .before .before .before .before .execution-ahead .ensures) (here .inv .0) (c .before .before .before .before .before .before .before .before .before .before .before .loop-test .taken) (here .inv .2) .ready)) }
 
-add-t38 : tie.Need-add-t38 Inv-loop μ-loop
-add-t38 c = let good = c .before .before .before .before .before .before .before .before .before .before .before .before .before .before .before .before .before .before .before .before .before .before .before .good in record { fits = omega (arith, c .before .before .before .before .before .before .before .before .before .before .loop-test .taken, c .before .before .before .before .before .before .before .before .before .before .before .before .stretch .ensures .within) }
+add-reach-2 : tie.Need-add-reach-2 Inv-loop μ-loop
+add-reach-2 c = let good = c .before .before .before .before .before .before .before .before .before .before .before .before .before .before .before .before .before .before .before .before .before .before .before .good in record { fits = omega (arith, c .before .before .before .before .before .before .before .before .before .before .loop-test .taken, c .before .before .before .before .before .before .before .before .before .before .before .before .execution-ahead .ensures .within) }
 
 same-length : tie.Need-same-length Inv-loop μ-loop
 same-length c =
-    let given = c .before .before .before .before .before .before .before .before .before .before .before .before .before .before .before .before .before .before .before .before .before .before .before .before .pre in
-    let here = c .before .before .before .before .before .before .before .before .before .before .before .before .loop in
-    search (needs, length-now (given .0) (here .inv .2), c .before .before .before .buffer .given)
+    let given = c .before .before .before .before .before .before .before .before .before .before .before .before .before .before .before .before .before .before .before .before .before .before .before .before .before .pre in
+    let here = c .before .before .before .before .before .before .before .before .before .before .before .before .before .loop in
+    search (needs, length-now (given .0) (here .inv .2), c .before .before .before .before .buffer .given)
 
 returns-2 : tie.Need-returns-2 Inv-loop μ-loop
 returns-2 c =
-    let given = c .before .before .before .before .before .before .before .before .before .before .before .before .before .before .before .before .before .before .before .before .before .before .before .before .pre in
-    let here = c .before .before .before .before .before .before .before .before .before .before .before .before .loop in
-    let done = doing (given .0) (given .1) (given .3) (c .before .before .before .before .before .before .before .before .before .before .before .before .before .before .before .before .before .if1 .left) (c .before .before .before .before .before .before .before .before .before .before .before .before .before .before .least .ensures) (c .before .before .before .before .before .before .before .before .before .before .before .before .before .stretch .ensures) (here .inv .0) (c .before .before .before .before .before .before .before .before .before .before .before .loop-test .taken) (here .inv .2) (c .before .before .before .before .before .before .before .before .before .executing-at .ensures) _ (c .before .before .before .before .typed-of .ensures) (search (needs, c .before .before .before .buffer .given)) in
-    let wrong = stopped-by _ (c .before .before .before .before .typed-of .result) _ (λ e. ⊎-elim (λ z. absurd (omega arith)) (λ z. absurd (omega arith)) (rw e at (c .before .match .keys2))) in
-    let marked = c .stopped .ensures ∙ wrong .marked in
-    (omega (arith, here .inv .0), carries-as (marked ∙ ap (faulted _) (c .before .before .before .before .before .before .before .before .before .executing-at .ensures)) refl refl refl (carry-fault done _ (wrong .failed)),
-    (λ e. absurd (omega (arith, sym (ap (λ (r : Registers). r .mode) marked ∙ faulted-mode _ _) ∙ e))))
+    let given = c .before .before .before .before .before .before .before .before .before .before .before .before .before .before .before .before .before .before .before .before .before .before .before .before .before .pre in
+    let here = c .before .before .before .before .before .before .before .before .before .before .before .before .before .loop in
+    let done = doing (given .0) (given .1) (given .3) (c .before .before .before .before .before .before .before .before .before .before .before .before .before .before .before .before .before .before .if1 .left) (c .before .before .before .before .before .before .before .before .before .before .before .before .before .before .before .least .ensures) (c .before .before .before .before .before .before .before .before .before .before .before .before .before .before .execution-ahead .ensures) (here .inv .0) (c .before .before .before .before .before .before .before .before .before .before .before .before .loop-test .taken) (here .inv .2) (c .before .before .before .before .before .before .before .before .before .before .executing-at .ensures) _ (c .before .before .before .before .before .typed-of .ensures) (search (needs, c .before .before .before .before .buffer .given)) in
+    let wrong = stopped-by _ (c .before .before .before .before .before .typed-of .result) _ (λ e. ⊎-elim (λ z. absurd (omega arith)) (λ z. absurd (omega arith)) (rw e at (c .before .before .match .keys2))) in
+    let marked = c .before .stopped .ensures ∙ wrong .marked in
+    reaches-fault (c .reach2 .ensures) (omega (arith, here .inv .0)) _ (marked ∙ ap (faulted _) (c .before .before .before .before .before .before .before .before .before .before .executing-at .ensures)) keeps-executing (carry-fault done _ (wrong .failed))
 
 other-of-requires : tie.Need-other-of-requires Inv-loop μ-loop
 other-of-requires c κs =
     let given = c .before .before .before .before .before .before .before .before .before .before .before .before .before .before .before .before .before .before .before .pre in
     let here = c .before .before .before .before .before .before .before .loop in
-    let now = turn-of (given .0) (given .1) (given .3) (c .before .before .before .before .before .before .before .before .before .before .before .before .if1 .left) (c .before .before .before .before .before .before .before .before .before .least .ensures) (c .before .before .before .before .before .before .before .before .stretch .ensures) (here .inv .0) (c .before .before .before .before .before .before .loop-test .taken) (here .inv .2) in
+    let now = turn-of (given .0) (given .1) (given .3) (c .before .before .before .before .before .before .before .before .before .before .before .before .if1 .left) (c .before .before .before .before .before .before .before .before .before .least .ensures) (c .before .before .before .before .before .before .before .before .execution-ahead .ensures) (here .inv .0) (c .before .before .before .before .before .before .loop-test .taken) (here .inv .2) in
     (given-at now (c .before .before .before .before .executing-at .ensures) (c .before .before .before .command-of .ensures .0), sym (c .before .before .has-three .ensures) ∙ c .before .if2 .left)
 
-add-t42 : tie.Need-add-t42 Inv-loop μ-loop
-add-t42 c = let good = c .before .before .before .before .before .before .before .before .before .before .before .before .before .before .before .before .before .before .before .before .before .before .before .before .before .good in record { fits = omega (arith, c .before .before .before .before .before .before .before .before .before .before .before .before .loop-test .taken, c .before .before .before .before .before .before .before .before .before .before .before .before .before .before .stretch .ensures .within) }
+add-reach-3 : tie.Need-add-reach-3 Inv-loop μ-loop
+add-reach-3 c = let good = c .before .before .before .before .before .before .before .before .before .before .before .before .before .before .before .before .before .before .before .before .before .before .before .before .before .good in record { fits = omega (arith, c .before .before .before .before .before .before .before .before .before .before .before .before .loop-test .taken, c .before .before .before .before .before .before .before .before .before .before .before .before .before .before .execution-ahead .ensures .within) }
 
 faulted-requires-2 : tie.Need-faulted-requires-2 Inv-loop μ-loop
 faulted-requires-2 c κs =
     let given = c .before .before .before .before .before .before .before .before .before .before .before .before .before .before .before .before .before .before .before .before .before .before .before .before .before .pre in
     let here = c .before .before .before .before .before .before .before .before .before .before .before .before .before .loop in
-    let done = doing (given .0) (given .1) (given .3) (c .before .before .before .before .before .before .before .before .before .before .before .before .before .before .before .before .before .before .if1 .left) (c .before .before .before .before .before .before .before .before .before .before .before .before .before .before .before .least .ensures) (c .before .before .before .before .before .before .before .before .before .before .before .before .before .before .stretch .ensures) (here .inv .0) (c .before .before .before .before .before .before .before .before .before .before .before .before .loop-test .taken) (here .inv .2) (c .before .before .before .before .before .before .before .before .before .before .executing-at .ensures) _ (c .before .before .before .before .before .other-of .ensures) (search (needs, c .before .before .before .before .buffer2 .given)) in
+    let done = doing (given .0) (given .1) (given .3) (c .before .before .before .before .before .before .before .before .before .before .before .before .before .before .before .before .before .before .if1 .left) (c .before .before .before .before .before .before .before .before .before .before .before .before .before .before .before .least .ensures) (c .before .before .before .before .before .before .before .before .before .before .before .before .before .before .execution-ahead .ensures) (here .inv .0) (c .before .before .before .before .before .before .before .before .before .before .before .before .loop-test .taken) (here .inv .2) (c .before .before .before .before .before .before .before .before .before .before .executing-at .ensures) _ (c .before .before .before .before .before .other-of .ensures) (search (needs, c .before .before .before .before .buffer2 .given)) in
     takes-outcome done _ (c .before .o .given .1)
 
 same-length-2 : tie.Need-same-length-2 Inv-loop μ-loop
 same-length-2 c =
-    let given = c .before .before .before .before .before .before .before .before .before .before .before .before .before .before .before .before .before .before .before .before .before .before .before .before .before .before .pre in
-    let here = c .before .before .before .before .before .before .before .before .before .before .before .before .before .before .loop in
-    search (needs, length-now (given .0) (here .inv .2), c .before .before .before .before .before .buffer2 .given)
+    let given = c .before .before .before .before .before .before .before .before .before .before .before .before .before .before .before .before .before .before .before .before .before .before .before .before .before .before .before .pre in
+    let here = c .before .before .before .before .before .before .before .before .before .before .before .before .before .before .before .loop in
+    search (needs, length-now (given .0) (here .inv .2), c .before .before .before .before .before .before .buffer2 .given)
 
 returns-3 : tie.Need-returns-3 Inv-loop μ-loop
 returns-3 c =
-    let given = c .before .before .before .before .before .before .before .before .before .before .before .before .before .before .before .before .before .before .before .before .before .before .before .before .before .before .pre in
-    let here = c .before .before .before .before .before .before .before .before .before .before .before .before .before .before .loop in
-    let done = doing (given .0) (given .1) (given .3) (c .before .before .before .before .before .before .before .before .before .before .before .before .before .before .before .before .before .before .before .if1 .left) (c .before .before .before .before .before .before .before .before .before .before .before .before .before .before .before .before .least .ensures) (c .before .before .before .before .before .before .before .before .before .before .before .before .before .before .before .stretch .ensures) (here .inv .0) (c .before .before .before .before .before .before .before .before .before .before .before .before .before .loop-test .taken) (here .inv .2) (c .before .before .before .before .before .before .before .before .before .before .before .executing-at .ensures) _ (c .before .before .before .before .before .before .other-of .ensures) (search (needs, c .before .before .before .before .before .buffer2 .given)) in
-    (omega (arith, here .inv .0), carries-as (c .faulted2 .ensures ∙ ap (faulted _) (c .before .before .before .before .before .before .before .before .before .before .before .executing-at .ensures)) refl refl refl (carry-fault done _ (c .before .before .o .given .1)),
-    (λ e. absurd (omega (arith, sym (ap (λ (r : Registers). r .mode) (c .faulted2 .ensures) ∙ faulted-mode _ _) ∙ e))))
+    let given = c .before .before .before .before .before .before .before .before .before .before .before .before .before .before .before .before .before .before .before .before .before .before .before .before .before .before .before .pre in
+    let here = c .before .before .before .before .before .before .before .before .before .before .before .before .before .before .before .loop in
+    let done = doing (given .0) (given .1) (given .3) (c .before .before .before .before .before .before .before .before .before .before .before .before .before .before .before .before .before .before .before .before .if1 .left) (c .before .before .before .before .before .before .before .before .before .before .before .before .before .before .before .before .before .least .ensures) (c .before .before .before .before .before .before .before .before .before .before .before .before .before .before .before .before .execution-ahead .ensures) (here .inv .0) (c .before .before .before .before .before .before .before .before .before .before .before .before .before .before .loop-test .taken) (here .inv .2) (c .before .before .before .before .before .before .before .before .before .before .before .before .executing-at .ensures) _ (c .before .before .before .before .before .before .before .other-of .ensures) (search (needs, c .before .before .before .before .before .before .buffer2 .given)) in
+    reaches-fault (c .reach3 .ensures) (omega (arith, here .inv .0)) _ (c .before .faulted2 .ensures ∙ ap (faulted _) (c .before .before .before .before .before .before .before .before .before .before .before .before .executing-at .ensures)) keeps-executing (carry-fault done _ (c .before .before .before .o .given .1))
 
 set-entry-requires : tie.Need-set-entry-requires Inv-loop μ-loop
 set-entry-requires c κs =
     let given = c .before .before .before .before .before .before .before .before .before .before .before .before .before .before .before .before .before .before .before .before .before .before .before .before .before .before .pre in
     let here = c .before .before .before .before .before .before .before .before .before .before .before .before .before .before .loop in
-    let done = doing (given .0) (given .1) (given .3) (c .before .before .before .before .before .before .before .before .before .before .before .before .before .before .before .before .before .before .before .if1 .left) (c .before .before .before .before .before .before .before .before .before .before .before .before .before .before .before .before .least .ensures) (c .before .before .before .before .before .before .before .before .before .before .before .before .before .before .before .stretch .ensures) (here .inv .0) (c .before .before .before .before .before .before .before .before .before .before .before .before .before .loop-test .taken) (here .inv .2) (c .before .before .before .before .before .before .before .before .before .before .before .executing-at .ensures) _ (c .before .before .before .before .before .before .other-of .ensures) (search (needs, c .before .before .before .before .before .buffer2 .given)) in
+    let done = doing (given .0) (given .1) (given .3) (c .before .before .before .before .before .before .before .before .before .before .before .before .before .before .before .before .before .before .before .if1 .left) (c .before .before .before .before .before .before .before .before .before .before .before .before .before .before .before .before .least .ensures) (c .before .before .before .before .before .before .before .before .before .before .before .before .before .before .before .execution-ahead .ensures) (here .inv .0) (c .before .before .before .before .before .before .before .before .before .before .before .before .before .loop-test .taken) (here .inv .2) (c .before .before .before .before .before .before .before .before .before .before .before .executing-at .ensures) _ (c .before .before .before .before .before .before .other-of .ensures) (search (needs, c .before .before .before .before .before .buffer2 .given)) in
     (core-few (given .0), takes-outcome done _ (c .before .before .o3 .given .1) .1)
 
 set-entry-requires-2 : tie.Need-set-entry-requires-2 Inv-loop μ-loop
 set-entry-requires-2 c κs =
     let given = c .before .before .before .before .before .before .before .before .before .before .before .before .before .before .before .before .before .before .before .before .before .before .before .before .before .before .before .before .pre in
     let here = c .before .before .before .before .before .before .before .before .before .before .before .before .before .before .before .before .loop in
-    let done = doing (given .0) (given .1) (given .3) (c .before .before .before .before .before .before .before .before .before .before .before .before .before .before .before .before .before .before .before .before .before .if1 .left) (c .before .before .before .before .before .before .before .before .before .before .before .before .before .before .before .before .before .before .least .ensures) (c .before .before .before .before .before .before .before .before .before .before .before .before .before .before .before .before .before .stretch .ensures) (here .inv .0) (c .before .before .before .before .before .before .before .before .before .before .before .before .before .before .before .loop-test .taken) (here .inv .2) (c .before .before .before .before .before .before .before .before .before .before .before .before .before .executing-at .ensures) _ (c .before .before .before .before .before .before .before .before .other-of .ensures) (search (needs, c .before .before .before .before .before .before .before .buffer2 .given)) in
+    let done = doing (given .0) (given .1) (given .3) (c .before .before .before .before .before .before .before .before .before .before .before .before .before .before .before .before .before .before .before .before .before .if1 .left) (c .before .before .before .before .before .before .before .before .before .before .before .before .before .before .before .before .before .before .least .ensures) (c .before .before .before .before .before .before .before .before .before .before .before .before .before .before .before .before .before .execution-ahead .ensures) (here .inv .0) (c .before .before .before .before .before .before .before .before .before .before .before .before .before .before .before .loop-test .taken) (here .inv .2) (c .before .before .before .before .before .before .before .before .before .before .before .before .before .executing-at .ensures) _ (c .before .before .before .before .before .before .before .before .other-of .ensures) (search (needs, c .before .before .before .before .before .before .before .buffer2 .given)) in
     (core-few (given .0), takes-outcome done _ (c .before .before .before .before .o3 .given .1) .1)
 
 add-depth : tie.Need-add-depth Inv-loop μ-loop
 add-depth c =
     let given = c .before .before .before .before .before .before .before .before .before .before .before .before .before .before .before .before .before .before .before .before .before .before .before .before .before .before .before .before .before .pre in
     let here = c .before .before .before .before .before .before .before .before .before .before .before .before .before .before .before .before .before .loop in
-    let done = doing (given .0) (given .1) (given .3) (c .before .before .before .before .before .before .before .before .before .before .before .before .before .before .before .before .before .before .before .before .before .before .if1 .left) (c .before .before .before .before .before .before .before .before .before .before .before .before .before .before .before .before .before .before .before .least .ensures) (c .before .before .before .before .before .before .before .before .before .before .before .before .before .before .before .before .before .before .stretch .ensures) (here .inv .0) (c .before .before .before .before .before .before .before .before .before .before .before .before .before .before .before .before .loop-test .taken) (here .inv .2) (c .before .before .before .before .before .before .before .before .before .before .before .before .before .before .executing-at .ensures) _ (c .before .before .before .before .before .before .before .before .before .other-of .ensures) (search (needs, c .before .before .before .before .before .before .before .before .buffer2 .given)) in
+    let done = doing (given .0) (given .1) (given .3) (c .before .before .before .before .before .before .before .before .before .before .before .before .before .before .before .before .before .before .before .before .before .before .if1 .left) (c .before .before .before .before .before .before .before .before .before .before .before .before .before .before .before .before .before .before .before .least .ensures) (c .before .before .before .before .before .before .before .before .before .before .before .before .before .before .before .before .before .before .execution-ahead .ensures) (here .inv .0) (c .before .before .before .before .before .before .before .before .before .before .before .before .before .before .before .before .loop-test .taken) (here .inv .2) (c .before .before .before .before .before .before .before .before .before .before .before .before .before .before .executing-at .ensures) _ (c .before .before .before .before .before .before .before .before .before .other-of .ensures) (search (needs, c .before .before .before .before .before .before .before .before .buffer2 .given)) in
     record { fits = omega (arith, takes-outcome done _ (c .before .before .before .before .before .o3 .given .1) .1) }
 
-add-t48 : tie.Need-add-t48 Inv-loop μ-loop
-add-t48 c = let good = c .before .before .before .before .before .before .before .before .before .before .before .before .before .before .before .before .before .before .before .before .before .before .before .before .before .good in record { fits = omega (arith, c .before .before .before .before .before .before .before .before .before .before .before .before .loop-test .taken, c .before .before .before .before .before .before .before .before .before .before .before .before .before .before .stretch .ensures .within) }
+add-reach-4 : tie.Need-add-reach-4 Inv-loop μ-loop
+add-reach-4 c = let good = c .before .before .before .before .before .before .before .before .before .before .before .before .before .before .before .before .before .before .before .before .before .before .before .before .before .good in record { fits = omega (arith, c .before .before .before .before .before .before .before .before .before .before .before .before .loop-test .taken, c .before .before .before .before .before .before .before .before .before .before .before .before .before .before .execution-ahead .ensures .within) }
 
 cycle-ended-requires : tie.Need-cycle-ended-requires Inv-loop μ-loop
 cycle-ended-requires c κs =
     let given = c .before .before .before .before .before .before .before .before .before .before .before .before .before .before .before .before .before .before .before .before .before .before .before .before .before .pre in
     let here = c .before .before .before .before .before .before .before .before .before .before .before .before .before .loop in
-    let done = doing (given .0) (given .1) (given .3) (c .before .before .before .before .before .before .before .before .before .before .before .before .before .before .before .before .before .before .if1 .left) (c .before .before .before .before .before .before .before .before .before .before .before .before .before .before .before .least .ensures) (c .before .before .before .before .before .before .before .before .before .before .before .before .before .before .stretch .ensures) (here .inv .0) (c .before .before .before .before .before .before .before .before .before .before .before .before .loop-test .taken) (here .inv .2) (c .before .before .before .before .before .before .before .before .before .before .executing-at .ensures) _ (c .before .before .before .before .before .other-of .ensures) (search (needs, c .before .before .before .before .buffer2 .given)) in
+    let done = doing (given .0) (given .1) (given .3) (c .before .before .before .before .before .before .before .before .before .before .before .before .before .before .before .before .before .before .if1 .left) (c .before .before .before .before .before .before .before .before .before .before .before .before .before .before .before .least .ensures) (c .before .before .before .before .before .before .before .before .before .before .before .before .before .before .execution-ahead .ensures) (here .inv .0) (c .before .before .before .before .before .before .before .before .before .before .before .before .loop-test .taken) (here .inv .2) (c .before .before .before .before .before .before .before .before .before .before .executing-at .ensures) _ (c .before .before .before .before .before .other-of .ensures) (search (needs, c .before .before .before .before .buffer2 .given)) in
     rw (c .before .before .before .before .before .before .before .before .before .before .executing-at .ensures) (ended-takes done (c .before .enum-told2 .given .1) (c .if3 .taken))
 
 same-length-3 : tie.Need-same-length-3 Inv-loop μ-loop
 same-length-3 c =
-    let given = c .before .before .before .before .before .before .before .before .before .before .before .before .before .before .before .before .before .before .before .before .before .before .before .before .before .before .pre in
-    let here = c .before .before .before .before .before .before .before .before .before .before .before .before .before .before .loop in
-    search (needs, length-now (given .0) (here .inv .2), c .before .before .before .before .before .buffer2 .given)
+    let given = c .before .before .before .before .before .before .before .before .before .before .before .before .before .before .before .before .before .before .before .before .before .before .before .before .before .before .before .pre in
+    let here = c .before .before .before .before .before .before .before .before .before .before .before .before .before .before .before .loop in
+    search (needs, length-now (given .0) (here .inv .2), c .before .before .before .before .before .before .buffer2 .given)
 
 returns-4 : tie.Need-returns-4 Inv-loop μ-loop
 returns-4 c =
-    let given = c .before .before .before .before .before .before .before .before .before .before .before .before .before .before .before .before .before .before .before .before .before .before .before .before .before .before .pre in
-    let here = c .before .before .before .before .before .before .before .before .before .before .before .before .before .before .loop in
-    let done = doing (given .0) (given .1) (given .3) (c .before .before .before .before .before .before .before .before .before .before .before .before .before .before .before .before .before .before .before .if1 .left) (c .before .before .before .before .before .before .before .before .before .before .before .before .before .before .before .before .least .ensures) (c .before .before .before .before .before .before .before .before .before .before .before .before .before .before .before .stretch .ensures) (here .inv .0) (c .before .before .before .before .before .before .before .before .before .before .before .before .before .loop-test .taken) (here .inv .2) (c .before .before .before .before .before .before .before .before .before .before .before .executing-at .ensures) _ (c .before .before .before .before .before .before .other-of .ensures) (search (needs, c .before .before .before .before .before .buffer2 .given)) in
-    (omega (arith, here .inv .0), carries-as (c .cycle-ended .ensures ∙ ap cycleEnded (c .before .before .before .before .before .before .before .before .before .before .before .executing-at .ensures)) refl refl refl (carry-ended done (c .before .before .enum-told2 .given .1) (c .before .if3 .taken)),
-    (λ e. absurd (omega (arith, sym (ap (λ (r : Registers). r .mode) (c .cycle-ended .ensures) ∙ ended-mode _) ∙ e))))
+    let given = c .before .before .before .before .before .before .before .before .before .before .before .before .before .before .before .before .before .before .before .before .before .before .before .before .before .before .before .pre in
+    let here = c .before .before .before .before .before .before .before .before .before .before .before .before .before .before .before .loop in
+    let done = doing (given .0) (given .1) (given .3) (c .before .before .before .before .before .before .before .before .before .before .before .before .before .before .before .before .before .before .before .before .if1 .left) (c .before .before .before .before .before .before .before .before .before .before .before .before .before .before .before .before .before .least .ensures) (c .before .before .before .before .before .before .before .before .before .before .before .before .before .before .before .before .execution-ahead .ensures) (here .inv .0) (c .before .before .before .before .before .before .before .before .before .before .before .before .before .before .loop-test .taken) (here .inv .2) (c .before .before .before .before .before .before .before .before .before .before .before .before .executing-at .ensures) _ (c .before .before .before .before .before .before .before .other-of .ensures) (search (needs, c .before .before .before .before .before .before .buffer2 .given)) in
+    reaches-ended (c .reach4 .ensures) (omega (arith, here .inv .0)) (c .before .cycle-ended .ensures ∙ ap cycleEnded (c .before .before .before .before .before .before .before .before .before .before .before .before .executing-at .ensures)) keeps-executing (carry-ended done (c .before .before .before .enum-told2 .given .1) (c .before .before .if3 .taken))
 
 entry-requires : tie.Need-entry-requires Inv-loop μ-loop
 entry-requires c κs =
     let given = c .before .before .before .before .before .before .before .before .before .before .before .before .before .before .before .before .before .before .before .before .before .before .before .before .before .before .pre in
     let here = c .before .before .before .before .before .before .before .before .before .before .before .before .before .before .loop in
-    let done = doing (given .0) (given .1) (given .3) (c .before .before .before .before .before .before .before .before .before .before .before .before .before .before .before .before .before .before .before .if1 .left) (c .before .before .before .before .before .before .before .before .before .before .before .before .before .before .before .before .least .ensures) (c .before .before .before .before .before .before .before .before .before .before .before .before .before .before .before .stretch .ensures) (here .inv .0) (c .before .before .before .before .before .before .before .before .before .before .before .before .before .loop-test .taken) (here .inv .2) (c .before .before .before .before .before .before .before .before .before .before .before .executing-at .ensures) _ (c .before .before .before .before .before .before .other-of .ensures) (search (needs, c .before .before .before .before .before .buffer2 .given)) in
+    let done = doing (given .0) (given .1) (given .3) (c .before .before .before .before .before .before .before .before .before .before .before .before .before .before .before .before .before .before .before .if1 .left) (c .before .before .before .before .before .before .before .before .before .before .before .before .before .before .before .before .least .ensures) (c .before .before .before .before .before .before .before .before .before .before .before .before .before .before .before .execution-ahead .ensures) (here .inv .0) (c .before .before .before .before .before .before .before .before .before .before .before .before .before .loop-test .taken) (here .inv .2) (c .before .before .before .before .before .before .before .before .before .before .before .executing-at .ensures) _ (c .before .before .before .before .before .before .other-of .ensures) (search (needs, c .before .before .before .before .before .buffer2 .given)) in
     (core-few (given .0), omega (arith, returned-takes done (c .before .before .enum-told2 .given .1) (c .before .if3 .left) .1))
 
 entry-requires-2 : tie.Need-entry-requires-2 Inv-loop μ-loop
 entry-requires-2 c κs =
     let given = c .before .before .before .before .before .before .before .before .before .before .before .before .before .before .before .before .before .before .before .before .before .before .before .before .before .before .before .before .pre in
     let here = c .before .before .before .before .before .before .before .before .before .before .before .before .before .before .before .before .loop in
-    let done = doing (given .0) (given .1) (given .3) (c .before .before .before .before .before .before .before .before .before .before .before .before .before .before .before .before .before .before .before .before .before .if1 .left) (c .before .before .before .before .before .before .before .before .before .before .before .before .before .before .before .before .before .before .least .ensures) (c .before .before .before .before .before .before .before .before .before .before .before .before .before .before .before .before .before .stretch .ensures) (here .inv .0) (c .before .before .before .before .before .before .before .before .before .before .before .before .before .before .before .loop-test .taken) (here .inv .2) (c .before .before .before .before .before .before .before .before .before .before .before .before .before .executing-at .ensures) _ (c .before .before .before .before .before .before .before .before .other-of .ensures) (search (needs, c .before .before .before .before .before .before .before .buffer2 .given)) in
+    let done = doing (given .0) (given .1) (given .3) (c .before .before .before .before .before .before .before .before .before .before .before .before .before .before .before .before .before .before .before .before .before .if1 .left) (c .before .before .before .before .before .before .before .before .before .before .before .before .before .before .before .before .before .before .least .ensures) (c .before .before .before .before .before .before .before .before .before .before .before .before .before .before .before .before .before .execution-ahead .ensures) (here .inv .0) (c .before .before .before .before .before .before .before .before .before .before .before .before .before .before .before .loop-test .taken) (here .inv .2) (c .before .before .before .before .before .before .before .before .before .before .before .before .before .executing-at .ensures) _ (c .before .before .before .before .before .before .before .before .other-of .ensures) (search (needs, c .before .before .before .before .before .before .before .buffer2 .given)) in
     (core-few (given .0), omega (arith, returned-takes done (c .before .before .before .before .enum-told2 .given .1) (c .before .before .before .if3 .left) .1))
 
 set-entry-requires-3 : tie.Need-set-entry-requires-3 Inv-loop μ-loop
 set-entry-requires-3 c κs =
     let given = c .before .before .before .before .before .before .before .before .before .before .before .before .before .before .before .before .before .before .before .before .before .before .before .before .before .before .before .before .before .before .pre in
     let here = c .before .before .before .before .before .before .before .before .before .before .before .before .before .before .before .before .before .before .loop in
-    let done = doing (given .0) (given .1) (given .3) (c .before .before .before .before .before .before .before .before .before .before .before .before .before .before .before .before .before .before .before .before .before .before .before .if1 .left) (c .before .before .before .before .before .before .before .before .before .before .before .before .before .before .before .before .before .before .before .before .least .ensures) (c .before .before .before .before .before .before .before .before .before .before .before .before .before .before .before .before .before .before .before .stretch .ensures) (here .inv .0) (c .before .before .before .before .before .before .before .before .before .before .before .before .before .before .before .before .before .loop-test .taken) (here .inv .2) (c .before .before .before .before .before .before .before .before .before .before .before .before .before .before .before .executing-at .ensures) _ (c .before .before .before .before .before .before .before .before .before .before .other-of .ensures) (search (needs, c .before .before .before .before .before .before .before .before .before .buffer2 .given)) in
+    let done = doing (given .0) (given .1) (given .3) (c .before .before .before .before .before .before .before .before .before .before .before .before .before .before .before .before .before .before .before .before .before .before .before .if1 .left) (c .before .before .before .before .before .before .before .before .before .before .before .before .before .before .before .before .before .before .before .before .least .ensures) (c .before .before .before .before .before .before .before .before .before .before .before .before .before .before .before .before .before .before .before .execution-ahead .ensures) (here .inv .0) (c .before .before .before .before .before .before .before .before .before .before .before .before .before .before .before .before .before .loop-test .taken) (here .inv .2) (c .before .before .before .before .before .before .before .before .before .before .before .before .before .before .before .executing-at .ensures) _ (c .before .before .before .before .before .before .before .before .before .before .other-of .ensures) (search (needs, c .before .before .before .before .before .before .before .before .before .buffer2 .given)) in
     (core-few (given .0), omega (arith, returned-takes done (c .before .before .before .before .before .before .enum-told2 .given .1) (c .before .before .before .before .before .if3 .left) .1))
 
 set-entry-requires-4 : tie.Need-set-entry-requires-4 Inv-loop μ-loop
 set-entry-requires-4 c κs =
     let given = c .before .before .before .before .before .before .before .before .before .before .before .before .before .before .before .before .before .before .before .before .before .before .before .before .before .before .before .before .before .before .before .before .pre in
     let here = c .before .before .before .before .before .before .before .before .before .before .before .before .before .before .before .before .before .before .before .before .loop in
-    let done = doing (given .0) (given .1) (given .3) (c .before .before .before .before .before .before .before .before .before .before .before .before .before .before .before .before .before .before .before .before .before .before .before .before .before .if1 .left) (c .before .before .before .before .before .before .before .before .before .before .before .before .before .before .before .before .before .before .before .before .before .before .least .ensures) (c .before .before .before .before .before .before .before .before .before .before .before .before .before .before .before .before .before .before .before .before .before .stretch .ensures) (here .inv .0) (c .before .before .before .before .before .before .before .before .before .before .before .before .before .before .before .before .before .before .before .loop-test .taken) (here .inv .2) (c .before .before .before .before .before .before .before .before .before .before .before .before .before .before .before .before .before .executing-at .ensures) _ (c .before .before .before .before .before .before .before .before .before .before .before .before .other-of .ensures) (search (needs, c .before .before .before .before .before .before .before .before .before .before .before .buffer2 .given)) in
+    let done = doing (given .0) (given .1) (given .3) (c .before .before .before .before .before .before .before .before .before .before .before .before .before .before .before .before .before .before .before .before .before .before .before .before .before .if1 .left) (c .before .before .before .before .before .before .before .before .before .before .before .before .before .before .before .before .before .before .before .before .before .before .least .ensures) (c .before .before .before .before .before .before .before .before .before .before .before .before .before .before .before .before .before .before .before .before .before .execution-ahead .ensures) (here .inv .0) (c .before .before .before .before .before .before .before .before .before .before .before .before .before .before .before .before .before .before .before .loop-test .taken) (here .inv .2) (c .before .before .before .before .before .before .before .before .before .before .before .before .before .before .before .before .before .executing-at .ensures) _ (c .before .before .before .before .before .before .before .before .before .before .before .before .other-of .ensures) (search (needs, c .before .before .before .before .before .before .before .before .before .before .before .buffer2 .given)) in
     (core-few (given .0), omega (arith, returned-takes done (c .before .before .before .before .before .before .before .before .enum-told2 .given .1) (c .before .before .before .before .before .before .before .if3 .left) .1))
 
 add-step : tie.Need-add-step Inv-loop μ-loop
-add-step c = let good = c .before .before .before .before .before .before .before .before .before .before .before .before .before .before .before .before .before .before .good in record { fits = omega (arith, c .before .before .before .before .before .loop-test .taken, c .before .before .before .before .before .before .before .stretch .ensures .within) }
+add-step c = let good = c .before .before .before .before .before .before .before .before .before .before .before .before .before .before .before .before .before .before .good in record { fits = omega (arith, c .before .before .before .before .before .loop-test .taken, c .before .before .before .before .before .before .before .execution-ahead .ensures .within) }
 
 loop-less : tie.Need-loop-less Inv-loop μ-loop
 loop-less c = omega (arith, c .before .before .before .before .before .loop-test .taken)
@@ -233,18 +232,18 @@ loop-again c =
     ⊎-elim
     (λ w. (omega (arith, here .inv .0), omega (arith, c .before .before .before .before .before .loop-test .taken),
       carries-as (advanced-at (c .before .before .before .before .before .before .before .before .before .before .before .before .before .before .before .before .before .before .args .before) (here .counter) (here .offset) (here .depth) _ (w .10 ∙ ap (λ (r : Registers). r .counter + 8) (sym at)) (w .11) (w .12) count) (w .7) (w .8) (w .9)
-      (carry-next (doing (given .0) (given .1) (given .3) (c .before .before .before .before .before .before .before .before .before .before .before .if1 .left) (c .before .before .before .before .before .before .before .before .least .ensures) (c .before .before .before .before .before .before .before .stretch .ensures) (here .inv .0) (c .before .before .before .before .before .loop-test .taken) (here .inv .2) (c .before .before .before .executing-at .ensures) _ (w .2 .ensures) (search (needs, w .3 .given))) _ (ap (outcomeOf _) (w .6 .given .1)))))
+      (carry-next (doing (given .0) (given .1) (given .3) (c .before .before .before .before .before .before .before .before .before .before .before .if1 .left) (c .before .before .before .before .before .before .before .before .least .ensures) (c .before .before .before .before .before .before .before .execution-ahead .ensures) (here .inv .0) (c .before .before .before .before .before .loop-test .taken) (here .inv .2) (c .before .before .before .executing-at .ensures) _ (w .2 .ensures) (search (needs, w .3 .given))) _ (ap (outcomeOf _) (w .6 .given .1)))))
     (⊎-elim
     (λ w. (omega (arith, here .inv .0), omega (arith, c .before .before .before .before .before .loop-test .taken),
       carries-as (advanced-at (c .before .before .before .before .before .before .before .before .before .before .before .before .before .before .before .before .before .before .args .before) (here .counter) (here .offset) (here .depth) _ (w .11) (w .12) (w .13) count) (w .8) (w .9) (w .10)
-      (carry-next (doing (given .0) (given .1) (given .3) (c .before .before .before .before .before .before .before .before .before .before .before .if1 .left) (c .before .before .before .before .before .before .before .before .least .ensures) (c .before .before .before .before .before .before .before .stretch .ensures) (here .inv .0) (c .before .before .before .before .before .loop-test .taken) (here .inv .2) (c .before .before .before .executing-at .ensures) _ (w .2 .ensures) (search (needs, w .3 .given))) _ (w .6 .given .1))))
+      (carry-next (doing (given .0) (given .1) (given .3) (c .before .before .before .before .before .before .before .before .before .before .before .if1 .left) (c .before .before .before .before .before .before .before .before .least .ensures) (c .before .before .before .before .before .before .before .execution-ahead .ensures) (here .inv .0) (c .before .before .before .before .before .loop-test .taken) (here .inv .2) (c .before .before .before .executing-at .ensures) _ (w .2 .ensures) (search (needs, w .3 .given))) _ (w .6 .given .1))))
     (⊎-elim
     (λ w. (omega (arith, here .inv .0), omega (arith, c .before .before .before .before .before .loop-test .taken),
       carries-as (called-at (c .before .before .before .before .before .before .before .before .before .before .before .before .before .before .before .before .before .before .args .before) (here .counter) (here .offset) (here .depth) _ (w .15) (w .16) (w .17) count) (w .12 ∙ w .9 .ensures) (w .13 ∙ w .11 .ensures) (w .14)
-      (carry-call (doing (given .0) (given .1) (given .3) (c .before .before .before .before .before .before .before .before .before .before .before .if1 .left) (c .before .before .before .before .before .before .before .before .least .ensures) (c .before .before .before .before .before .before .before .stretch .ensures) (here .inv .0) (c .before .before .before .before .before .loop-test .taken) (here .inv .2) (c .before .before .before .executing-at .ensures) _ (w .2 .ensures) (search (needs, w .3 .given))) _ _ _ (w .6 .given .1))))
+      (carry-call (doing (given .0) (given .1) (given .3) (c .before .before .before .before .before .before .before .before .before .before .before .if1 .left) (c .before .before .before .before .before .before .before .before .least .ensures) (c .before .before .before .before .before .before .before .execution-ahead .ensures) (here .inv .0) (c .before .before .before .before .before .loop-test .taken) (here .inv .2) (c .before .before .before .executing-at .ensures) _ (w .2 .ensures) (search (needs, w .3 .given))) _ _ _ (w .6 .given .1))))
     (λ w. (omega (arith, here .inv .0), omega (arith, c .before .before .before .before .before .loop-test .taken),
       carries-as (returned-at (c .before .before .before .before .before .before .before .before .before .before .before .before .before .before .before .before .before .before .args .before) (here .counter) (here .offset) (here .depth) _ (w .19 ∙ w .9 .ensures) (w .20 ∙ w .11 .ensures) (w .21) count) (w .16 ∙ w .13 .ensures) (w .17 ∙ w .15 .ensures) (w .18)
-      (carry-return (doing (given .0) (given .1) (given .3) (c .before .before .before .before .before .before .before .before .before .before .before .if1 .left) (c .before .before .before .before .before .before .before .before .least .ensures) (c .before .before .before .before .before .before .before .stretch .ensures) (here .inv .0) (c .before .before .before .before .before .loop-test .taken) (here .inv .2) (c .before .before .before .executing-at .ensures) _ (w .2 .ensures) (search (needs, w .3 .given))) (here .depth - 1) (w .6 .given .1) (omega (arith, w .7 .left)))))))
+      (carry-return (doing (given .0) (given .1) (given .3) (c .before .before .before .before .before .before .before .before .before .before .before .if1 .left) (c .before .before .before .before .before .before .before .before .least .ensures) (c .before .before .before .before .before .before .before .execution-ahead .ensures) (here .inv .0) (c .before .before .before .before .before .loop-test .taken) (here .inv .2) (c .before .before .before .executing-at .ensures) _ (w .2 .ensures) (search (needs, w .3 .given))) (here .depth - 1) (w .6 .given .1) (omega (arith, w .7 .left)))))))
     (c .if2 .came)
 
 sub-executing-at-2 : tie.Need-sub-executing-at-2 Inv-loop μ-loop
@@ -255,7 +254,7 @@ cast-executing-at-2 c =
     let given = c .before .before .before .before .before .before .before .before .before .before .before .before .before .pre in
     let limit = limit-low (ready-now (given .0) (carry-none _ _ _ _ _ _ _ _ _) (given .1)) in
     let here = c .before .loop in
-    let st = c .before .before .stretch .ensures in
+    let st = c .before .before .execution-ahead .ensures in
     record { fits = omega (arith, here .inv .1, st .few, c .before .before .before .least .ensures, limit .0, limit .1) }
 
 add-executing-at-2 : tie.Need-add-executing-at-2 Inv-loop μ-loop
@@ -263,18 +262,18 @@ add-executing-at-2 c =
     let given = c .before .before .before .before .before .before .before .before .before .before .before .before .before .before .pre in
     let limit = limit-low (ready-now (given .0) (carry-none _ _ _ _ _ _ _ _ _) (given .1)) in
     let here = c .before .before .loop in
-    let st = c .before .before .before .stretch .ensures in
+    let st = c .before .before .before .execution-ahead .ensures in
     record { fits = omega (arith, here .inv .1, st .few, c .before .before .before .before .least .ensures, limit .0, limit .1) }
 
 same-length-4 : tie.Need-same-length-4 Inv-loop μ-loop
-same-length-4 c = length-now (c .before .before .before .before .before .before .before .before .before .before .before .before .before .before .before .pre .0) (c .before .before .before .loop .inv .2)
+same-length-4 c = length-now (c .before .before .before .before .before .before .before .before .before .before .before .before .before .before .before .before .pre .0) (c .before .before .before .before .loop .inv .2)
 
 returns-5 : tie.Need-returns-5 Inv-loop μ-loop
 returns-5 c =
-    let given = c .before .before .before .before .before .before .before .before .before .before .before .before .before .before .before .pre in
-    let here = c .before .before .before .loop in
-    let more = c .before .before .before .before .stretch .ensures .some (given .2) (omega (arith, c .before .before .before .before .before .least .ensures, limit-low (ready-now (given .0) (carry-none _ _ _ _ _ _ _ _ _) (given .1)) .1, c .before .before .before .before .before .before .before .before .if1 .left)) in
-    (omega (arith, more, c .before .before .loop-test .left), carries-as (c .executing-at2 .ensures) refl refl refl (here .inv .2), (λ e. omega (arith, ap (λ (r : Registers). r .count) (c .executing-at2 .ensures), here .inv .0)))
+    let given = c .before .before .before .before .before .before .before .before .before .before .before .before .before .before .before .before .pre in
+    let here = c .before .before .before .before .loop in
+    let more = c .before .before .before .before .before .execution-ahead .ensures .some (given .2) (omega (arith, c .before .before .before .before .before .before .least .ensures, limit-low (ready-now (given .0) (carry-none _ _ _ _ _ _ _ _ _) (given .1)) .1, c .before .before .before .before .before .before .before .before .before .if1 .left)) in
+    reaches-on (c .reach5 .ensures) (omega (arith, more, c .before .before .before .loop-test .left)) (c .before .executing-at2 .ensures) (here .inv .2) (omega (arith, here .inv .0))
 
 pub run-core-spec : {M : Type 1} → statement M
 run-core-spec =
@@ -283,13 +282,14 @@ run-core-spec =
     Inv-loop
     μ-loop
     (λ c. search needs)
-    add-t28
+    add-reach
     faulted-requires
+    (λ c κs. search needs)
     returns
     (λ c. search needs)
     sub-least
     (λ c κs. search needs)
-    stretch-requires
+    execution-ahead-requires
     add-end
     loop-holds
     sub-executing-at
@@ -301,14 +301,16 @@ run-core-spec =
     typed-of-requires
     (λ c. search needs)
     add-counter
-    add-t38
+    add-reach-2
+    (λ c κs. search needs)
     (λ c κs. search needs)
     same-length
     returns-2
     other-of-requires
     (λ c. search needs)
-    add-t42
+    add-reach-3
     faulted-requires-2
+    (λ c κs. search needs)
     same-length-2
     returns-3
     (λ c. search needs)
@@ -317,8 +319,9 @@ run-core-spec =
     set-entry-requires-2
     add-depth
     (λ c. search needs)
-    add-t48
+    add-reach-4
     cycle-ended-requires
+    (λ c κs. search needs)
     same-length-3
     returns-4
     (λ c. search needs)
@@ -332,6 +335,7 @@ run-core-spec =
     sub-executing-at-2
     cast-executing-at-2
     add-executing-at-2
+    (λ c κs. search needs)
     (λ c κs. search needs)
     same-length-4
     returns-5)

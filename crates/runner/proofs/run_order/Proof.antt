@@ -85,10 +85,10 @@ array-set-from-cores : tie.Need-array-set-from-cores Inv-loop2 μ-loop2 Inv-loop
 array-set-from-cores c = search needs
 
 loop-less : tie.Need-loop-less Inv-loop2 μ-loop2 Inv-loop μ-loop
-loop-less c = omega (arith, c .before .before .before .before .before .before .before .before .before .before .before .loop-test .taken, c .before .before .before .run-core .ensures .0)
+loop-less c = omega (arith, c .before .before .before .before .before .before .before .before .before .before .before .before .loop-test .taken, c .before .before .before .before .run-core .ensures .onward)
 
 loop-again : tie.Need-loop-again Inv-loop2 μ-loop2 Inv-loop μ-loop
-loop-again c = (c .before .before .before .run-core .ensures .1 _ _ _ _ _ _ _ _ _ _ _ refl (c .before .before .before .before .before .before .before .before .before .before .before .before .loop .inv .0), c .before .before .before .before .before .before .before .before .before .before .before .before .loop .inv .1)
+loop-again c = let here = c .before .before .before .before .before .before .before .before .before .before .before .before .before .loop .inv in (rw (c .reached-at .ensures) (c .before .before .before .before .run-core .ensures .carries _ _ _ _ _ _ _ _ _ _ _ refl (here .0)), here .1)
 
 waits-requires : tie.Need-waits-requires Inv-loop2 μ-loop2 Inv-loop μ-loop
 waits-requires c κs = (c .before .before .before .loop .inv .1, c .before .core-at .ensures .2)
@@ -421,6 +421,9 @@ run-order-spec =
     mul-run-core-2
     array-copy-out-run-core-2
     run-core-requires
+    (λ c. search needs)
+    (λ c. search needs)
+    (λ c κs. search needs)
     mul-cores
     array-set-from-cores
     loop-less
