@@ -1,6 +1,6 @@
--- The text of a run from the fresh state: what the two calls answer is what document 01's refusals and run say. In order: the number of
--- takings; the fresh call; the run; the text. Assumes nothing.
-use mathlib.Core.Path.{_≡_, refl, sym, ap, ap₂, _∙_, subst}
+-- The text of a run from the fresh state: what it answers is what document 01's refusals and run say. In order: the number of takings; a file that is
+-- refused; the run from the fresh state; the text; a longer file. Assumes nothing.
+use mathlib.Core.Path.{_≡_, refl, sym, ap, ap₂, _∙_}
 use mathlib.Core.Logic.{_≢_}
 use mathlib.Core.Bool.{Bool, true, false}
 use mathlib.Core.List.{List, [], _∷_}
@@ -8,19 +8,17 @@ use Prim.Native.Nat.{ℕ, zero, suc, _≤_, _<_}
 use native.Mathlib.Omega.{arith}
 use borrow.Author.Tests.{eq-eqb, ne-eqb, eqb-true, ltb-false, le-leb}
 use lib.Dec.{ltb, eqb}
-use lib.ListN.{length, getD, take, length-append, length-map, length-replicate}
-use Rattle.verdict.specs.Verdict.{either, next, unless}
-use Rattle.verdict.proofs.Verdict.{absurd-bool, pick-true, pick-false, by-pick, yes, skip, stop, next-zero}
-use Rattle.memory.specs.Memory.{part, splice, total}
+use lib.ListN.{length, getD, take, length-append, length-map}
+use Rattle.verdict.specs.Verdict.{either, next}
+use Rattle.verdict.proofs.Verdict.{absurd-bool, pick-true, pick-false, by-pick, yes, skip, stop}
+use Rattle.memory.specs.Memory.{part, splice}
 use Rattle.memory.proofs.Laws.{part-splice-same}
 use Rattle.protocol.specs.State.{State, Task, core, mode}
 use Rattle.protocol.specs.Step.{step, run, Taking, taken, takingOf, takings, encoded, orderList}
 use Rattle.records.specs.File.{cores}
 use Rattle.taskset.specs.Judge.{judge}
-use Rattle.taskset.specs.Task.{sizesOf}
 use Rattle.taskset.specs.Starts.{startShared, startBuffer}
 use Rattle.taskset.specs.Fresh.{freshOf}
-use Rattle.taskset.proofs.Accepted.{length-buffer, length-shared}
 use Rattle.taskset.specs.Trace.{traceRefusal}
 use Rattle.taskset.proofs.Exact.{keeps-rules}
 use Rattle.states.specs.declared.Held.{Held}
@@ -30,8 +28,9 @@ use Rattle.states.specs.Task.{taskOf}
 use Rattle.states.proofs.Accepted.{accepted-set}
 use Rattle.runner.specs.declared.RunAnswer.{RunAnswer}
 use Rattle.runner.specs.Runs.{Left, leftAs, ranCall}
-use Rattle.machine.specs.Calls.{bufferSize, lentFits, callRefusal, answerOf, tableOf, freshRefusal, freshCall, runRefusal, runCall}
-use Rattle.machine.proofs.Calls.{fresh-none}
+use Rattle.machine.specs.Calls.{callRefusal, tableOf, runRefusal, runCall}
+use Rattle.machine.specs.Judging.{firstRun}
+use Rattle.machine.proofs.Calls.{start-fits}
 use Rattle.listing.specs.Listing.{listing, refusedText, longText}
 use Rattle.calls.proofs.Calling.{fresh-state}
 use Rattle.listing.specs.declared.Written.{Written}
@@ -57,122 +56,83 @@ few-takings t (k ∷ ks) s =
 few-listed : (t : Task) (ks : List ℕ) (s : State) → length (orderList t ks s) ≤ length ks
 few-listed t ks s = omega (arith, length-map (takings t ks s) encoded, few-takings t ks s)
 
--- ---- the fresh call, lent memory of the right sizes
+-- ---- a file that is refused
 
-module _ (f t order d sh list : List ℕ) (lent : length d ≡ bufferSize f) (lent-shared : length sh ≡ 1024) (x : RunAnswer) (d′ sh′ : List ℕ) (began : leftAs x d′ sh′ [] ≡ freshCall f d sh) where
-  abbrev number : ℕ
-  number = freshRefusal f (length d) (length sh)
+pub file-refused : (f t order : List ℕ) (r : ℕ) → r ≡ judge f → r ≢ 0 → refusedText r ≡ runText f t order
+unfolding runText refusalOf
+file-refused f t order r e n =
+    let same : r ≡ refusalOf f t order = stop _ e n in
+    ap refusedText same ∙ sym (pick-false _ _ _ (ne-eqb _ _ (λ w. n (same ∙ w))))
 
-  answered : x .refusal ≡ number
-  unfolding freshCall
-  answered =
-      ap (λ (y : Left). y .answer .refusal) began
-      ∙ by-pick (λ (y : Left). y .answer .refusal ≡ number) (eqb number 0) _ _ (λ e. sym (eqb-true number 0 e)) (λ e. refl)
+-- ---- the run from the fresh state
 
-  sized : judge f ≡ 0 → length d ≡ total (sizesOf f)
-  unfolding bufferSize
-  sized z = lent ∙ pick-true _ _ _ (eq-eqb _ _ z)
+module _ (f t order list : List ℕ) (accepted : judge f ≡ 0) (bytes : (i : ℕ) → getD f i 0 < 256) (trace-bytes : (i : ℕ) → getD t i 0 < 256) (room : length order ≤ length list) where
+  abbrev calls : ℕ
+  calls = runRefusal f t (tableOf (cores f) 4) (startBuffer f) (startShared f) order list
 
-  fits : judge f ≡ 0 → lentFits f (length d) (length sh) ≡ true
-  unfolding lentFits
-  fits z = rw (eq-eqb (length d) (total (sizesOf f)) (sized z)) (eq-eqb (length sh) 1024 lent-shared)
+  -- where the trace isn't refused, the fresh state isn't
+  held : (a b c : ℕ) → (a ≡ 0 → b ≡ 0) → next (next a b) c ≡ next a c
+  unfolding next
+  held zero b c h = ap (λ (m : ℕ). next m c) (h refl)
+  held (suc a) b c h = refl
 
-  -- a refusal is that of the file
-  pub fresh-refused : x .refusal ≢ 0 → refusedText (x .refusal) ≡ runText f t order
-  unfolding runText refusalOf freshRefusal
-  fresh-refused n =
-      let bad : judge f ≢ 0 = λ z. n (answered ∙ fresh-none f d sh z (fits z)) in
-      let file : x .refusal ≡ judge f = answered ∙ sym (stop (unless (lentFits f (length d) (length sh)) 21) refl bad) in
-      let same : x .refusal ≡ refusalOf f t order = stop _ file n in
-      ap refusedText same ∙ sym (pick-false _ _ _ (ne-eqb _ _ (λ e. n (same ∙ e))))
+  same-refusal : calls ≡ refusalOf f t order
+  unfolding runRefusal callRefusal heldRefusal refusalOf
+  same-refusal =
+      ap (next (judge f))
+      (sym (skip (yes _ 21 (rw (start-fits f, le-leb (length order) (length list) room) refl)) refl)
+      ∙ held (traceRefusal f t) _ _ (λ z. fresh-not-refused f t (accepted-set f t bytes trace-bytes accepted z)))
 
-  module _ (none : x .refusal ≡ 0) where
-    accepted : judge f ≡ 0
-    unfolding freshRefusal
-    accepted = next-zero _ _ (sym answered ∙ none) .0
+  module _ (y : RunAnswer) (e k l : List ℕ) (ran : leftAs y e k l ≡ firstRun f t order list) where
+    run-answered : y .refusal ≡ refusalOf f t order
+    unfolding firstRun runCall ranCall
+    run-answered =
+        ap (λ (z : Left). z .answer .refusal) ran
+        ∙ by-pick (λ (z : Left). z .answer .refusal ≡ calls) (eqb calls 0) _ _ (λ w. sym (eqb-true calls 0 w)) (λ w. refl)
+        ∙ same-refusal
 
-    left-fresh : leftAs x d′ sh′ [] ≡ leftAs (answerOf 0 (tableOf (cores f) 4)) (startBuffer f) (startShared f) []
-    unfolding freshCall
-    left-fresh = began ∙ pick-true _ _ _ (eq-eqb _ _ (sym answered ∙ none))
+    -- ---- the text
 
-    -- the run starts in the fresh state
-    from-fresh : (y : Left) → y ≡ runCall f t (x .state) d′ sh′ order list → y ≡ runCall f t (tableOf (cores f) 4) (startBuffer f) (startShared f) order list
-    from-fresh y e =
-        e ∙ ap (λ (z : Left). runCall f t (z .answer .state) (z .memory) (z .shared) order list) left-fresh
+    pub run-refused : y .refusal ≢ 0 → refusedText (y .refusal) ≡ runText f t order
+    unfolding runText
+    run-refused n = ap refusedText run-answered ∙ sym (pick-false _ _ _ (ne-eqb _ _ (λ w. n (run-answered ∙ w))))
 
-    -- ---- the run
+    module _ (no : y .refusal ≡ 0) where
+      none-refused : refusalOf f t order ≡ 0
+      none-refused = sym run-answered ∙ no
 
-    module _ (bytes : (i : ℕ) → getD f i 0 < 256) (trace-bytes : (i : ℕ) → getD t i 0 < 256) (room : length order ≤ length list) where
-      abbrev calls : ℕ
-      calls = runRefusal f t (tableOf (cores f) 4) (startBuffer f) (startShared f) order list
+      all-ran : leftAs y e k l ≡ ranCall f t (tableOf (cores f) 4) (startBuffer f) (startShared f) order list
+      unfolding firstRun runCall
+      all-ran = ran ∙ pick-true _ _ _ (eq-eqb _ _ (same-refusal ∙ none-refused))
 
-      -- where the trace isn't refused, the fresh state isn't
-      held : (a b c : ℕ) → (a ≡ 0 → b ≡ 0) → next (next a b) c ≡ next a c
-      unfolding next
-      held zero b c h = ap (λ (m : ℕ). next m c) (h refl)
-      held (suc a) b c h = refl
+      started : stateOf f (tableOf (cores f) 4) (startBuffer f) (startShared f) ≡ freshOf f
+      started = fresh-state f (keeps-rules f accepted .most-cores)
 
-      lent-fits : lentFits f (length (startBuffer f)) (length (startShared f)) ≡ true
-      unfolding lentFits
-      lent-fits = rw (length-buffer f, length-shared f, eq-eqb (total (sizesOf f)) (total (sizesOf f)) refl) refl
+      state-is : y .state ≡ stateAfter f t order
+      unfolding ranCall stateAfter
+      state-is = ap (λ (z : Left). z .answer .state) all-ran ∙ ap (λ (s : State). heldAfter (cores f) (tableOf (cores f) 4) (run (taskOf f t) order s)) started
 
-      same-refusal : calls ≡ refusalOf f t order
-      unfolding runRefusal callRefusal heldRefusal refusalOf
-      same-refusal =
-          ap (next (judge f))
-          (sym (skip (yes _ 21 (rw (lent-fits, le-leb (length order) (length list) room) refl)) refl)
-          ∙ held (traceRefusal f t) _ _ (λ z. fresh-not-refused f t (accepted-set f t bytes trace-bytes accepted z)))
+      count-is : y .state .count ≡ cores f
+      unfolding stateAfter heldAfter tableOf
+      count-is = ap (λ (s : Held). s .count) state-is
 
-      module _ (y : RunAnswer) (e k l : List ℕ) (ran : leftAs y e k l ≡ runCall f t (x .state) d′ sh′ order list) where
-        run-answered : y .refusal ≡ refusalOf f t order
-        unfolding runCall ranCall
-        run-answered =
-            ap (λ (z : Left). z .answer .refusal) (from-fresh (leftAs y e k l) ran)
-            ∙ by-pick (λ (z : Left). z .answer .refusal ≡ calls) (eqb calls 0) _ _ (λ w. sym (eqb-true calls 0 w)) (λ w. refl)
-            ∙ same-refusal
+      front : (s : State) → take (length (orderList (taskOf f t) order s)) (splice list 0 (orderList (taskOf f t) order s)) ≡ orderList (taskOf f t) order s
+      unfolding part
+      front s = part-splice-same list 0 (orderList (taskOf f t) order s) (omega (arith, few-listed (taskOf f t) order s))
 
-        -- ---- the text
+      takings-are : take (y .taken) l ≡ takingsOf f t order
+      unfolding ranCall takingsOf
+      takings-are =
+          ap (λ (z : Left). take (z .answer .taken) (z .order)) all-ran
+          ∙ front (stateOf f (tableOf (cores f) 4) (startBuffer f) (startShared f))
+          ∙ ap (orderList (taskOf f t) order) started
 
-        pub run-refused : y .refusal ≢ 0 → refusedText (y .refusal) ≡ runText f t order
-        unfolding runText
-        run-refused n = ap refusedText run-answered ∙ sym (pick-false _ _ _ (ne-eqb _ _ (λ w. n (run-answered ∙ w))))
-
-        module _ (no : y .refusal ≡ 0) where
-          none-refused : refusalOf f t order ≡ 0
-          none-refused = sym run-answered ∙ no
-
-          all-ran : leftAs y e k l ≡ ranCall f t (tableOf (cores f) 4) (startBuffer f) (startShared f) order list
-          unfolding runCall
-          all-ran = from-fresh (leftAs y e k l) ran ∙ pick-true _ _ _ (eq-eqb _ _ (same-refusal ∙ none-refused))
-
-          started : stateOf f (tableOf (cores f) 4) (startBuffer f) (startShared f) ≡ freshOf f
-          started = fresh-state f (keeps-rules f accepted .most-cores)
-
-          state-is : y .state ≡ stateAfter f t order
-          unfolding ranCall stateAfter
-          state-is = ap (λ (z : Left). z .answer .state) all-ran ∙ ap (λ (s : State). heldAfter (cores f) (tableOf (cores f) 4) (run (taskOf f t) order s)) started
-
-          count-is : y .state .count ≡ cores f
-          unfolding stateAfter heldAfter tableOf
-          count-is = ap (λ (s : Held). s .count) state-is
-
-          front : (s : State) → take (length (orderList (taskOf f t) order s)) (splice list 0 (orderList (taskOf f t) order s)) ≡ orderList (taskOf f t) order s
-          unfolding part
-          front s = part-splice-same list 0 (orderList (taskOf f t) order s) (omega (arith, few-listed (taskOf f t) order s))
-
-          takings-are : take (y .taken) l ≡ takingsOf f t order
-          unfolding ranCall takingsOf
-          takings-are =
-              ap (λ (z : Left). take (z .answer .taken) (z .order)) all-ran
-              ∙ front (stateOf f (tableOf (cores f) 4) (startBuffer f) (startShared f))
-              ∙ ap (orderList (taskOf f t) order) started
-
-          pub run-listed : listing (y .state .count) (y .state) (take (y .taken) l) ≡ runText f t order
-          unfolding runText
-          run-listed =
-              ap₂ (λ (n : ℕ) (s : Held). listing n s (take (y .taken) l)) count-is state-is
-              ∙ ap (listing (cores f) (stateAfter f t order)) takings-are
-              ∙ sym (pick-true _ _ _ (eq-eqb _ _ none-refused))
+      pub run-listed : listing (y .state .count) (y .state) (take (y .taken) l) ≡ runText f t order
+      unfolding runText
+      run-listed =
+          ap₂ (λ (n : ℕ) (s : Held). listing n s (take (y .taken) l)) count-is state-is
+          ∙ ap (listing (cores f) (stateAfter f t order)) takings-are
+          ∙ sym (pick-true _ _ _ (eq-eqb _ _ none-refused))
 
 -- ---- what a writer of the listing ensures, of another name of its text
 

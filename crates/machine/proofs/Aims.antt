@@ -6,8 +6,7 @@ use Prim.Native.Nat.{ℕ, suc, _+_, _-_, _≤_, _<_}
 use native.Mathlib.Omega.{arith}
 use lib.ListN.{length, getD}
 use Rattle.protocol.specs.declared.Registers.{Registers}
-use Rattle.protocol.specs.State.{Core, Semaphore, core, mode}
-use Rattle.protocol.specs.Variables.{readsOf, writesOf}
+use Rattle.protocol.specs.State.{Semaphore, core, mode}
 use Rattle.protocol.proofs.View.{inside}
 use Rattle.exchange.specs.declared.Cursor.{Cursor}
 use Rattle.exchange.specs.Exchange.{At}
@@ -21,6 +20,7 @@ use Rattle.states.specs.Machine.{noRegisters, coreIn, stateOf}
 use Rattle.states.specs.Fit.{FitCore, Fit}
 use Rattle.steps.specs.Moving.{CursorAimed}
 use Rattle.runner.proofs.Running.{core-in, semaphore-in}
+use Rattle.machine.specs.Judging.{AimGiven, AimedAt}
 
 module _ (f t : List ℕ) (s : Held) (d sh : List ℕ) (ok : AcceptedSet f t) (fit : Fit f t (stateOf f s d sh)) (k : ℕ) (e : s .semaphore .holder ≡ suc k) where
   holding : (mode (core (stateOf f s d sh .plant) k) ≡ 1) ⊎ (mode (core (stateOf f s d sh .plant) k) ≡ 4)
@@ -44,32 +44,37 @@ module _ (f t : List ℕ) (s : Held) (d sh : List ℕ) (ok : AcceptedSet f t) (f
   write-bytes m = subst (λ (n : ℕ). getD (s .cores) k noRegisters .exchange ≤ n) (length-writes f k (omega (arith, known, ok .few))) (here .writing m)
 
 -- the three ways: no holder, a reading, a writing
-pub aim-free : (f : List ℕ) (s : Held) (r : Cursor) → s .semaphore .holder ≡ 0 → (k : ℕ) → k < cores f → s .semaphore .holder ≡ suc k → CursorAimed f k (getD (s .cores) k noRegisters) r
+pub aim-free : (f : List ℕ) (s : Held) (r : Cursor) → s .semaphore .holder ≡ 0 → AimedAt f s r
 aim-free f s r z k l e = absurd (omega arith)
 
-aim-at : (f : List ℕ) (s : Held) (r : Cursor) (j : ℕ) → s .semaphore .holder ≡ suc j → CursorAimed f j (getD (s .cores) j noRegisters) r → (k : ℕ) → k < cores f → s .semaphore .holder ≡ suc k → CursorAimed f k (getD (s .cores) k noRegisters) r
+aim-at : (f : List ℕ) (s : Held) (r : Cursor) (j : ℕ) → s .semaphore .holder ≡ suc j → CursorAimed f j (getD (s .cores) j noRegisters) r → AimedAt f s r
 aim-at f s r j z a k l e = let q : k ≡ j = omega arith in rw q a
 
 -- the holder's core has the number one below
-module _ (f t : List ℕ) (s : Held) (d sh : List ℕ) (ok : AcceptedSet f t) (fit : Fit f t (stateOf f s d sh)) (n : s .semaphore .holder ≢ 0) where
-  named : s .semaphore .holder ≡ suc (s .semaphore .holder - 1)
+module _ {f t : List ℕ} {first end : ℕ} {s : Held} {d sh : List ℕ} (g : AimGiven f t first end s d sh) (n : s .semaphore .holder ≢ 0) where
+  abbrev k : ℕ
+  k = s .semaphore .holder - 1
+
+  abbrev r : Registers
+  r = getD (s .cores) k noRegisters
+
+  named : s .semaphore .holder ≡ suc k
   named = omega arith
 
-  pub in-table : s .semaphore .holder - 1 < 4
-  in-table = omega (arith, known f t s d sh ok fit (s .semaphore .holder - 1) named, ok .few)
+  pub in-table : k < 4
+  in-table = omega (arith, known f t s d sh (g .accepted) (g .fit) k named, g .accepted .few)
 
-  pub within-reads : getD (s .cores) (s .semaphore .holder - 1) noRegisters .mode ≡ 1 → getD (s .cores) (s .semaphore .holder - 1) noRegisters .exchange ≤ exchangeBytes f (4 + (s .semaphore .holder - 1))
-  within-reads = read-bytes f t s d sh ok fit (s .semaphore .holder - 1) named
+  pub within-reads : r .mode ≡ 1 → r .exchange ≤ exchangeBytes f (4 + k)
+  within-reads = read-bytes f t s d sh (g .accepted) (g .fit) k named
 
-  pub within-writes : getD (s .cores) (s .semaphore .holder - 1) noRegisters .mode ≡ 4 → getD (s .cores) (s .semaphore .holder - 1) noRegisters .exchange ≤ exchangeBytes f (s .semaphore .holder - 1)
-  within-writes = write-bytes f t s d sh ok fit (s .semaphore .holder - 1) named
+  pub within-writes : r .mode ≡ 4 → r .exchange ≤ exchangeBytes f k
+  within-writes = write-bytes f t s d sh (g .accepted) (g .fit) k named
 
-  module _ (c : Cursor) (k : ℕ) (l : k < cores f) (e : s .semaphore .holder ≡ suc k) where
-    pub aim-reading : getD (s .cores) (s .semaphore .holder - 1) noRegisters .mode ≡ 1 → At f (4 + (s .semaphore .holder - 1)) (getD (s .cores) (s .semaphore .holder - 1) noRegisters .exchange) c → CursorAimed f k (getD (s .cores) k noRegisters) c
-    aim-reading m a = aim-at f s c (s .semaphore .holder - 1) named record { reading = λ w. a; writing = λ w. absurd (omega arith) } k l e
+  pub aim-reading : {c : Cursor} → r .mode ≡ 1 → At f (4 + k) (r .exchange) c → AimedAt f s c
+  aim-reading {c} m a = aim-at f s c k named record { reading = λ w. a; writing = λ w. absurd (omega arith) }
 
-    pub aim-writing : getD (s .cores) (s .semaphore .holder - 1) noRegisters .mode ≡ 4 → At f (s .semaphore .holder - 1) (getD (s .cores) (s .semaphore .holder - 1) noRegisters .exchange) c → CursorAimed f k (getD (s .cores) k noRegisters) c
-    aim-writing m a = aim-at f s c (s .semaphore .holder - 1) named record { reading = λ w. absurd (omega arith); writing = λ w. a } k l e
+  pub aim-writing : {c : Cursor} → r .mode ≡ 4 → At f k (r .exchange) c → AimedAt f s c
+  aim-writing {c} m a = aim-at f s c k named record { reading = λ w. absurd (omega arith); writing = λ w. a }
 
-    pub aim-neither : getD (s .cores) (s .semaphore .holder - 1) noRegisters .mode ≢ 1 → getD (s .cores) (s .semaphore .holder - 1) noRegisters .mode ≢ 4 → CursorAimed f k (getD (s .cores) k noRegisters) c
-    aim-neither a b = aim-at f s c (s .semaphore .holder - 1) named record { reading = λ m. absurd (a m); writing = λ m. absurd (b m) } k l e
+  pub aim-neither : {c : Cursor} → r .mode ≢ 1 → r .mode ≢ 4 → AimedAt f s c
+  aim-neither {c} a b = aim-at f s c k named record { reading = λ m. absurd (a m); writing = λ m. absurd (b m) }

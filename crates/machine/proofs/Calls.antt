@@ -1,31 +1,32 @@
--- The judging of a call: what each refusal is, and what is known where there is none. In order: loading; the order; the chain of
--- refusals, forward and backward; the answers. Assumes nothing.
-use mathlib.Core.Path.{_≡_, refl, sym, ap, ap₂, _∙_, subst}
+-- The judging of a call: what each refusal is, and what is known where there is none. In order: trace and state; the order; loading, with lent memory;
+-- the call, and the number of each call; a call that is not refused; the answers. Assumes nothing.
+use mathlib.Core.Path.{_≡_, refl, sym, ap, ap₂, _∙_}
 use mathlib.Core.Logic.{_≢_}
 use mathlib.Core.Bool.{Bool, true, false}
 use mathlib.Core.List.{List, [], _∷_}
 use Prim.Native.Nat.{ℕ, zero, suc, _+_, _-_, _≤_, _<_}
 use native.Mathlib.Omega.{arith}
 use native.Mathlib.Numerals.{add-one}
-use borrow.Author.Tests.{lt-ltb, le-ltb, eq-eqb, ne-eqb, ltb-true, eqb-true}
-use lib.Dec.{ltb, eqb}
-use lib.ListN.{length, getD, drop, replicate}
+use borrow.Author.Tests.{lt-ltb, le-ltb, eq-eqb, ne-eqb, ltb-true, eqb-true, le-leb}
+use lib.Dec.{ltb, leb}
+use lib.ListN.{length, getD, drop}
 use lib.Seq.{drop-cons, drop-length}
-use Rattle.verdict.specs.Verdict.{pick, both, next, unless}
-use Rattle.verdict.proofs.Verdict.{skip, stop, halt, yes, no, pick-true, pick-false, next-none, next-zero, unless-zero, both-true, absurd-bool}
+use Rattle.verdict.specs.Verdict.{both, next, unless}
+use Rattle.verdict.proofs.Verdict.{skip, stop, yes, no, pick-true, pick-false, next-none, next-zero, unless-zero, both-true, both-not, absurd-bool}
 use Rattle.memory.specs.Memory.{total}
-use Rattle.records.specs.File.{cores, dataSize}
+use Rattle.records.specs.File.{cores}
 use Rattle.records.proofs.Laws.{both-alone}
 use Rattle.taskset.specs.declared.Layout.{Layout}
 use Rattle.taskset.specs.declared.Loaded.{Loaded}
 use Rattle.code.specs.declared.Profile.{Profile}
 use Rattle.code.specs.declared.Profile.the-variants.{Full}
 use Rattle.taskset.specs.Judge.{judgeFor, judge}
-use Rattle.taskset.specs.Layout.{noCore, coreAt, coreLayout, layoutOf, noLayout, loadOf}
+use Rattle.taskset.specs.Layout.{layoutOf, loadFor, loadOf}
 use Rattle.taskset.specs.Trace.{traceRefusal}
 use Rattle.taskset.specs.Task.{listed, sizesOf}
 use Rattle.taskset.specs.Starts.{startShared, startBuffer}
-use Rattle.taskset.proofs.Exact.{keeps-rules}
+use Rattle.taskset.proofs.Accepted.{length-buffer, length-shared}
+use Rattle.taskset.proofs.Loading.{file-judged-for, file-judged, file-accepted-for, file-laid-for}
 use Rattle.states.specs.declared.Held.{Held}
 use Rattle.states.specs.declared.Prepared.{Prepared}
 use Rattle.states.specs.Fit.{stateRefusal}
@@ -33,9 +34,11 @@ use Rattle.states.specs.Tasks.{tasksOf}
 use Rattle.states.specs.Preparing.{heldRefusal, prepared}
 use Rattle.runner.specs.declared.RunAnswer.{RunAnswer}
 use Rattle.runner.specs.Runs.{allBelow, Left, leftAs, ranCall}
-use Rattle.machine.specs.Calls.{lentFits, setRefusal, callRefusal, answerOf, tableOf, freshRefusalFor, freshRefusal, freshCallFor, freshCall, runRefusal, runCall, freshLeft}
+use Rattle.machine.specs.declared.Judgement.{Judgement}
+use Rattle.machine.specs.Judging.{loadedLent, LentTo, judgedNumber, JudgedAs, firstRun}
+use Rattle.machine.specs.Calls.{lentFits, setRefusal, callRefusal, answerOf, tableOf, freshRefusalFor, freshRefusal, freshCallFor, freshCall, runRefusal, runCall, freshLeft, nextRefusal}
 
--- ---- loading
+-- ---- trace and state
 
 module _ (f t : List ℕ) (h : Held) where
   -- the two parts of a held refusal
@@ -51,14 +54,6 @@ module _ (f t : List ℕ) (h : Held) where
     pub held-tasks : x .refusal ≡ 0 → x .tasks ≡ tasksOf f t
     unfolding prepared
     held-tasks z = ap (λ (y : Prepared). y .tasks) e ∙ pick-true _ _ _ (eq-eqb _ _ (held-none (sym held-judged ∙ z) .0))
-
-  pub set-file : {r : ℕ} → r ≡ judge f → r ≢ 0 → r ≡ setRefusal f t h
-  unfolding setRefusal
-  set-file e n = stop _ e n
-
-  pub set-held : {r : ℕ} → judge f ≡ 0 → r ≡ heldRefusal f t h → r ≡ setRefusal f t h
-  unfolding setRefusal
-  set-held z e = skip z e
 
 -- ---- the order
 
@@ -99,47 +94,119 @@ below-all n order i most h k = ap (both (ltb most n)) (below-done n order i h k)
 pub below-laid : (f order : List ℕ) (l : Layout) → l ≡ layoutOf f → (b : Bool) → b ≡ allBelow (l .cores) order → allBelow (cores f) order ≡ b
 below-laid f order l e b q = sym (q ∙ ap (λ (x : Layout). allBelow (x .cores) order) e)
 
--- ---- the chain of refusals
+-- ---- loading, with lent memory
+
+-- a chain of three is the same however it is grouped
+pub next-next : (a b c : ℕ) → next (next a b) c ≡ next a (next b c)
+unfolding next
+next-next zero b c = refl
+next-next (suc a) b c = refl
+
+next-last : (a : ℕ) → next a 0 ≡ a
+unfolding next
+next-last zero = refl
+next-last (suc a) = refl
+
+module _ (o : Profile) (f : List ℕ) (buffer shared : ℕ) (room : Bool) where
+  abbrev lent-number : ℕ
+  lent-number = next (judgeFor o f) (unless (both (lentFits f buffer shared) room) 21)
+
+  -- forward: what the code answers of the file alone, x, and of lent memory
+  module _ (x : Loaded) (e : x ≡ loadFor o f) where
+    lent-is : (r : ℕ) → r ≡ lent-number → record { refusal = r; layout = x .layout } ≡ loadedLent o f buffer shared room
+    unfolding loadedLent
+    lent-is r q = ap₂ (λ (n : ℕ) (y : Loaded). record { refusal = n; layout = y .layout }) q e
+
+    pub lent-refused : x .refusal ≢ 0 → x ≡ loadedLent o f buffer shared room
+    lent-refused n = lent-is (x .refusal) (stop _ (file-judged-for o f x e) n)
+
+    module _ (z : x .refusal ≡ 0) where
+      none : judgeFor o f ≡ 0
+      none = sym (file-judged-for o f x e) ∙ z
+
+      pub lent-held : lentFits f buffer shared ≡ true → room ≡ true → x ≡ loadedLent o f buffer shared room
+      lent-held a b = lent-is (x .refusal) (z ∙ sym (next-none _ _ none (yes _ 21 (rw (a, b) refl))))
+
+      lent-short : both (lentFits f buffer shared) room ≡ false → record { refusal = 21; layout = x .layout } ≡ loadedLent o f buffer shared room
+      lent-short a = lent-is 21 (skip none (sym (no _ 21 a)))
+
+      pub lent-unfit : lentFits f buffer shared ≡ false → record { refusal = 21; layout = x .layout } ≡ loadedLent o f buffer shared room
+      lent-unfit a = lent-short (rw a refl)
+
+      pub lent-full : room ≡ false → record { refusal = 21; layout = x .layout } ≡ loadedLent o f buffer shared room
+      lent-full a = lent-short (both-not (lentFits f buffer shared) room (λ p q. absurd-bool (sym a ∙ q)))
+
+  -- backward
+  module _ (x : Loaded) (e : x ≡ loadedLent o f buffer shared room) where
+    pub lent-judged : x .refusal ≡ lent-number
+    unfolding loadedLent
+    lent-judged = ap (λ (y : Loaded). y .refusal) e
+
+    module _ (z : x .refusal ≡ 0) where
+      accepted : judgeFor o f ≡ 0
+      accepted = next-zero _ _ (sym lent-judged ∙ z) .0
+
+      pub lent-fits : lentFits f buffer shared ≡ true
+      lent-fits = both-true _ _ (unless-zero _ 20 (next-zero _ _ (sym lent-judged ∙ z) .1)) .0
+
+      pub lent-laid : (judge f ≡ 0) × (x .layout ≡ layoutOf f)
+      unfolding loadedLent loadFor
+      lent-laid = (file-accepted-for o f (loadFor o f) refl accepted, ap (λ (y : Loaded). y .layout) e ∙ file-laid-for o f (loadFor o f) refl accepted)
+
+pub lent-to : (o : Profile) (f d sh : List ℕ) (room : Bool) (x : Loaded) → x ≡ loadedLent o f (length d) (length sh) room → x .refusal ≡ 0 → LentTo f (x .layout) d sh
+lent-to o f d sh room x e z =
+    let laid = lent-laid o f (length d) (length sh) room x e z in
+    record { accepted = laid .0; laid = laid .1; fits = lent-fits o f (length d) (length sh) room x e z }
+
+-- ---- the call, after loading
+
+module _ (f t : List ℕ) (loaded : ℕ) (h : Held) (order : List ℕ) where
+  abbrev number : ℕ
+  number = judgedNumber f t loaded h order
+
+  -- what is refused has neither layout nor tasks to say
+  pub judge-refused : (x : Judgement) {r : ℕ} → x .refusal ≡ r → r ≡ number → r ≢ 0 → JudgedAs f t loaded h order x
+  judge-refused x e q n = record { number = e ∙ q; laid = λ z. absurd (n (sym e ∙ z)); tasked = λ z. absurd (n (sym e ∙ z)) }
+
+  pub judge-file : {r : ℕ} → r ≡ loaded → r ≢ 0 → r ≡ number
+  unfolding judgedNumber
+  judge-file e n = stop _ e n
+
+  module _ (z : loaded ≡ 0) where
+    pub judge-held : {r : ℕ} → r ≡ heldRefusal f t h → r ≢ 0 → r ≡ number
+    unfolding judgedNumber
+    judge-held e n = skip z (stop _ e n)
+
+    module _ (y : heldRefusal f t h ≡ 0) where
+      pub judge-unnamed : allBelow (cores f) order ≡ false → 20 ≡ number
+      unfolding judgedNumber
+      judge-unnamed e = skip z (skip y (sym (no _ 20 e)))
+
+      pub judge-none : allBelow (cores f) order ≡ true → number ≡ 0
+      unfolding judgedNumber
+      judge-none e = next-none _ _ z (next-none _ _ y (yes _ 20 e))
+
+-- the number of each call
+module _ (f t : List ℕ) (h : Held) where
+  pub set-number : (x : Loaded) → x ≡ loadOf f → judgedNumber f t (x .refusal) h [] ≡ setRefusal f t h
+  unfolding judgedNumber setRefusal unless
+  set-number x e = ap₂ next (file-judged f x e) (next-last (heldRefusal f t h))
+
+  pub next-number : (given : ℕ) (x : Loaded) → x ≡ loadOf f → judgedNumber f t (x .refusal) h (given ∷ []) ≡ nextRefusal f t h given
+  unfolding judgedNumber nextRefusal
+  next-number given x e = ap₂ (λ (r : ℕ) (b : Bool). next r (next (heldRefusal f t h) (unless b 20))) (file-judged f x e) (both-alone (ltb given (cores f)))
+
+  pub run-number : (d sh order list : List ℕ) (x : Loaded) → x ≡ loadedLent Full f (length d) (length sh) (leb (length order) (length list))
+      → judgedNumber f t (x .refusal) h order ≡ runRefusal f t h d sh order list
+  unfolding judgedNumber runRefusal callRefusal
+  run-number d sh order list x e = ap (λ (r : ℕ). next r (next (heldRefusal f t h) (unless (allBelow (cores f) order) 20))) (lent-judged Full f (length d) (length sh) (leb (length order) (length list)) x e) ∙ next-next _ _ _
+
+-- ---- a call that is not refused
 
 module _ (f t : List ℕ) (h : Held) (buffer shared : ℕ) (room named : Bool) where
-  pub refuse-file : {r : ℕ} → r ≡ judge f → r ≢ 0 → r ≡ callRefusal f t h buffer shared room named
-  unfolding callRefusal
-  refuse-file e n = stop _ e n
-
-  -- of an accepted file, as the code finds them: whether memory fits, what trace and state have, whether the cores are there
-  pub refuse-after : judge f ≡ 0 → {fits n : Bool} {held r : ℕ} → fits ≡ lentFits f buffer shared → held ≡ heldRefusal f t h → n ≡ named
-      → r ≡ next (unless (both fits room) 21) (next held (unless n 20)) → r ≡ callRefusal f t h buffer shared room named
-  unfolding callRefusal
-  refuse-after z {fits} {n} {held} {r} a b q e =
-      let s : next (unless (both fits room) 21) (next held (unless n 20)) ≡ next (unless (both (lentFits f buffer shared) room) 21) (next (heldRefusal f t h) (unless named 20)) = rw (a, b, q) in
-      skip z (e ∙ s)
-
   pub refuse-none : judge f ≡ 0 → lentFits f buffer shared ≡ true → room ≡ true → heldRefusal f t h ≡ 0 → named ≡ true → callRefusal f t h buffer shared room named ≡ 0
   unfolding callRefusal
   refuse-none z a b y e = next-none _ _ z (next-none _ _ (yes _ 21 (rw (a, b))) (next-none _ _ y (yes _ 20 e)))
-
-  -- what trace and state have is no refusal where the call has none
-  pub held-of-call : callRefusal f t h buffer shared room named ≡ 0 → heldRefusal f t h ≡ 0
-  unfolding callRefusal
-  held-of-call e = next-zero _ _ (next-zero _ _ (next-zero _ _ e .1) .1) .0
-
--- the four tests after the file, in their order
-module _ (fits room named : Bool) (held : ℕ) where
-  pub unfit-memory : fits ≡ false → 21 ≡ next (unless (both fits room) 21) (next held (unless named 20))
-  unfit-memory a = halt 20 _ (no _ 21 (rw a))
-
-  pub no-room : fits ≡ true → room ≡ false → 21 ≡ next (unless (both fits room) 21) (next held (unless named 20))
-  no-room a b = halt 20 _ (no _ 21 (rw (a, b)))
-
-  module _ (a : fits ≡ true) (b : room ≡ true) where
-    pub held-refused : held ≢ 0 → held ≡ next (unless (both fits room) 21) (next held (unless named 20))
-    held-refused n = skip (yes _ 21 (rw (a, b))) (stop _ refl n)
-
-    pub not-named : held ≡ 0 → named ≡ false → 20 ≡ next (unless (both fits room) 21) (next held (unless named 20))
-    not-named z e = skip (yes _ 21 (rw (a, b))) (skip z (sym (no _ 20 e)))
-
-    pub none-refused : held ≡ 0 → named ≡ true → 0 ≡ next (unless (both fits room) 21) (next held (unless named 20))
-    none-refused z e = skip (yes _ 21 (rw (a, b))) (skip z (sym (yes _ 20 e)))
 
 -- what a call knows that is not refused
 pub record Granted (f t : List ℕ) (h : Held) (buffer shared : ℕ) (room named : Bool) : Type 0 where
@@ -189,11 +256,8 @@ lent-sizes f buffer shared e = let b = both-true _ _ e in (eqb-true _ _ (b .0), 
 
 -- the fresh state, under a profile
 module _ (o : Profile) (f : List ℕ) (d sh : List ℕ) where
-  pub fresh-file-for : {r : ℕ} → r ≡ judgeFor o f → r ≢ 0 → r ≡ freshRefusalFor o f (length d) (length sh)
-  fresh-file-for e n = stop _ e n
-
-  pub fresh-lent-for : judgeFor o f ≡ 0 → lentFits f (length d) (length sh) ≡ false → 21 ≡ freshRefusalFor o f (length d) (length sh)
-  fresh-lent-for z e = skip z (sym (no _ 21 e))
+  pub fresh-number : (x : Loaded) → x ≡ loadedLent o f (length d) (length sh) true → x .refusal ≡ freshRefusalFor o f (length d) (length sh)
+  fresh-number x e = lent-judged o f (length d) (length sh) true x e ∙ ap (λ (b : Bool). next (judgeFor o f) (unless b 21)) (both-alone (lentFits f (length d) (length sh)))
 
   pub fresh-none-for : judgeFor o f ≡ 0 → lentFits f (length d) (length sh) ≡ true → freshRefusalFor o f (length d) (length sh) ≡ 0
   fresh-none-for z e = next-none _ _ z (yes _ 21 e)
@@ -214,11 +278,33 @@ pub fresh-none : (f d sh : List ℕ) → judge f ≡ 0 → lentFits f (length d)
 unfolding freshRefusal
 fresh-none f d sh z e = fresh-none-for Full f d sh z e
 
+pub fresh-left : (f d sh : List ℕ) → judge f ≡ 0 → lentFits f (length d) (length sh) ≡ true → freshCall f d sh ≡ leftAs (answerOf 0 (tableOf (cores f) 4)) (startBuffer f) (startShared f) []
+unfolding freshCall
+fresh-left f d sh z e = pick-true _ _ _ (eq-eqb _ _ (fresh-none f d sh z e))
+
+-- the memories that it leaves have their sizes
+pub start-fits : (f : List ℕ) → lentFits f (length (startBuffer f)) (length (startShared f)) ≡ true
+unfolding lentFits
+start-fits f = rw (length-buffer f, length-shared f, eq-eqb (total (sizesOf f)) (total (sizesOf f)) refl) refl
+
+-- a run from there: nothing is refused before trace and state
+module _ (f t order list : List ℕ) (x : RunAnswer) (d sh : List ℕ) (made : leftAs x d sh [] ≡ leftAs (answerOf 0 (tableOf (cores f) 4)) (startBuffer f) (startShared f) []) where
+  pub first-call : runCall f t (x .state) d sh order list ≡ firstRun f t order list
+  unfolding firstRun
+  first-call = ap (λ (y : Left). runCall f t (y .answer .state) (y .memory) (y .shared) order list) made
+
+  fits : lentFits f (length d) (length sh) ≡ true
+  fits = ap (λ (y : Left). lentFits f (length (y .memory)) (length (y .shared))) made ∙ start-fits f
+
+  pub first-number : judge f ≡ 0 → length order ≤ length list → judgedNumber f t 0 (x .state) order ≡ runRefusal f t (x .state) d sh order list
+  unfolding judgedNumber runRefusal callRefusal
+  first-number z b = skip z (skip (yes _ 21 (rw (fits, le-leb (length order) (length list) b) refl)) (sym (skip refl refl)))
+
 pub fresh-full : (f d sh : List ℕ) → freshCallFor Full f d sh ≡ freshCall f d sh
 unfolding freshCallFor freshCall freshRefusal
 fresh-full f d sh = refl
 
 -- where nothing is refused, the profile makes no difference
-pub fresh-any : (o : Profile) (f d sh : List ℕ) → judgeFor o f ≡ 0 → judge f ≡ 0 → lentFits f (length d) (length sh) ≡ true → freshCall f d sh ≡ freshCallFor o f d sh
+pub fresh-any : (o : Profile) (f d sh : List ℕ) → judge f ≡ 0 → lentFits f (length d) (length sh) ≡ true → freshRefusalFor o f (length d) (length sh) ≡ 0 → freshCall f d sh ≡ freshCallFor o f d sh
 unfolding freshCallFor
-fresh-any o f d sh z w e = sym (fresh-full f d sh) ∙ ap (λ (r : ℕ). freshLeft r f d sh) (fresh-none-for Full f d sh w e ∙ sym (fresh-none-for o f d sh z e))
+fresh-any o f d sh w e z = sym (fresh-full f d sh) ∙ ap (λ (r : ℕ). freshLeft r f d sh) (fresh-none-for Full f d sh w e ∙ sym z)

@@ -11,6 +11,7 @@ use lib.ListN.{getD}
 use Rattle.verdict.proofs.Verdict.{skip, stop, yes, no, pick-true, pick-false, next-none, next-zero, unless-zero}
 use Rattle.records.specs.File.{cores}
 use Rattle.taskset.specs.Judge.{judge}
+use Rattle.taskset.specs.Trace.{traceRefusal}
 use Rattle.states.specs.declared.Held.{Held}
 use Rattle.states.specs.Machine.{Sized, stateOf}
 use Rattle.states.specs.Set.{AcceptedSet}
@@ -44,6 +45,14 @@ module _ (f t : List ℕ) (h : Held) (given : ℕ) where
       pub next-free : given < cores f → nextRefusal f t h given ≡ 0
       unfolding nextRefusal
       next-free l = next-none _ _ z (next-none _ _ y (yes _ 20 (lt-ltb _ _ l)))
+
+  -- what a call knows that is not refused
+  pub next-known : nextRefusal f t h given ≡ 0 → (judge f ≡ 0) × (traceRefusal f t ≡ 0) × (given < cores f)
+  unfolding nextRefusal
+  next-known e =
+      let x = next-zero _ _ e in
+      let y = next-zero _ _ (x .1) in
+      (x .0, held-none f t h (y .0) .0, ltb-true _ _ (unless-zero _ 19 (y .1)))
 
   -- the answer, and what it says
   says : (x : Next) → x ≡ nextCall f t h given → (x ≡ nextCall f t h given) × (nextSays x ≡ nextSaid f t h given)

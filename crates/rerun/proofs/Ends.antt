@@ -1,26 +1,22 @@
 -- A rerun's start and end, and what the call answers. In order: the fresh state; the end of the list; the list's refusal; memories copied out; the call. Assumes nothing.
 use mathlib.Core.Path.{_≡_, refl, sym, ap, ap₂, _∙_, subst}
 use mathlib.Core.Logic.{_≢_}
-use mathlib.Core.Bool.{Bool, true, false}
+use mathlib.Core.Bool.{true, false}
 use mathlib.Core.List.{List, [], _++_, map, append-nil}
-use Prim.Native.Nat.{ℕ, suc, _+_, _≤_, _<_}
-use native.Mathlib.Nat.{zero-add}
+use Prim.Native.Nat.{ℕ, _+_, _≤_, _<_}
 use native.Mathlib.Omega.{arith}
 use borrow.Author.Tests.{eq-eqb, ne-eqb}
-use lib.Dec.{eqb}
 use lib.ListN.{length, getD, take, replicate, drop-of-length-le, length-replicate}
 use lib.Seq.{take-all}
-use Rattle.verdict.specs.Verdict.{pick, next, unless}
 use Rattle.verdict.proofs.Verdict.{skip, stop, yes, no, pick-true, pick-false}
-use Rattle.memory.specs.Memory.{splice, part, total}
+use Rattle.memory.specs.Memory.{splice, part}
 use Rattle.memory.proofs.Laws.{splice-is}
 use Rattle.protocol.specs.declared.Registers.{Registers}
 use Rattle.protocol.specs.State.{Semaphore, State, untaken}
-use Rattle.protocol.specs.Step.{Taking}
 use Rattle.protocol.specs.Rerun.{legal, rerunEnd, decoded}
 use Rattle.records.specs.File.{cores}
 use Rattle.semaphore.specs.Line.{semaphoreOf, semaphoreBack}
-use Rattle.semaphore.specs.declared.Semaphore.{Semaphore as HeldSemaphore}
+use Rattle.code.specs.declared.Profile.the-variants.{Full}
 use Rattle.taskset.specs.Judge.{judge}
 use Rattle.taskset.specs.Trace.{traceRefusal}
 use Rattle.taskset.specs.Fresh.{freshOf}
@@ -34,9 +30,9 @@ use Rattle.runner.specs.Running.{Running}
 use Rattle.runner.proofs.Running.{shared-in}
 use Rattle.runner.proofs.End.{data-back, held-back}
 use Rattle.runner.proofs.Executing.{take-alone}
-use Rattle.machine.specs.Calls.{lentFits, answerOf, tableOf, freshRefusal, freshCall}
+use Rattle.machine.specs.Calls.{lentFits, answerOf, tableOf, freshRefusal, freshCall, freshRefusalFor}
 use Rattle.calls.specs.Calling.{wholeOf}
-use Rattle.machine.proofs.Calls.{fresh-none}
+use Rattle.machine.proofs.Calls.{next-next, fresh-none}
 use Rattle.calls.proofs.Calling.{Lendable, fresh-whole, fresh-lendable}
 use Rattle.rerun.specs.Calls.{listRefusal, rerunRefusal, reran, rerunLeft, rerunCall}
 use Rattle.rerun.specs.Rerunning.{Rerunning, Reran}
@@ -160,13 +156,10 @@ module _ (f t list d sh : List ℕ) where
       ap (λ (y : RunAnswer). leftAs y d sh []) (q ∙ ap (λ (m : ℕ). answerOf m (tableOf 0 0)) e)
       ∙ sym (pick-false _ _ _ (ne-eqb _ _ (λ w. n (e ∙ w))))
 
-  pub refused-file : {r : ℕ} → r ≡ judge f → r ≢ 0 → r ≡ rerunRefusal f t list (length d) (length sh)
+  -- what loading refused: the file, then lent memory
+  pub refused-loaded : {r : ℕ} → r ≡ freshRefusalFor Full f (length d) (length sh) → r ≢ 0 → r ≡ rerunRefusal f t list (length d) (length sh)
   unfolding rerunRefusal
-  refused-file e n = stop _ e n
-
-  pub refused-lent : judge f ≡ 0 → lentFits f (length d) (length sh) ≡ false → 21 ≡ rerunRefusal f t list (length d) (length sh)
-  unfolding rerunRefusal
-  refused-lent z e = skip z (stop _ (sym (no _ 21 e)) (λ q. let y : ⊥ = omega arith in y))
+  refused-loaded e n = stop _ e n ∙ next-next _ _ _
 
   module _ (z : judge f ≡ 0) (fits : lentFits f (length d) (length sh) ≡ true) where
     pub refused-trace : {r : ℕ} → r ≡ traceRefusal f t → r ≢ 0 → r ≡ rerunRefusal f t list (length d) (length sh)

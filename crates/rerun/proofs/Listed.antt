@@ -232,7 +232,8 @@ module _ (f t list : List ℕ) (ok : AcceptedSet f t) (h : Held) (i : ℕ) (cs :
         taken-on a cs′ places offsets d sh′
         (ap (λ (l : List Registers). stateIn f l places offsets untaken d sh′ .plant) ce
         ∙ ap (λ (s : State). s .plant) (put-in f cs places offsets untaken d sh k (writeReleased (getD cs k noRegisters)) (getD (split (sizesOf f) d) k []) d sh′ ik (omega (arith, ok .few, w .four)) (sym (set-getD (split (sizesOf f) d) k [])))
-        ∙ ap (λ (l : List ℕ). record { cores = set (now .plant .cores) k record { registers = writeReleased (getD cs k noRegisters); stack = stackIn places offsets k; memory = getD (split (sizesOf f) d) k [] }; shared = l }) (se ∙ ap (copy (writesOf (variablesOf f) k) (getD (split (sizesOf f) d) k [])) (sym (shared-in f cs places offsets untaken d sh)))
+        ∙ ap (λ (l : List ℕ). record { cores = set (now .plant .cores) k record { registers = writeReleased (getD cs k noRegisters); stack = stackIn places offsets k; memory = getD (split (sizesOf f) d) k [] }; shared = l })
+        (se ∙ ap (copy (writesOf (variablesOf f) k) (getD (split (sizesOf f) d) k [])) (sym (shared-in f cs places offsets untaken d sh)))
         ∙ sym (whole-written f t (now .plant) k (coreIn f cs places offsets d k) (own k ik) three)
         ∙ ap (λ (x : Taking). wholeOne (taskOf f t) x (now .plant)) (sym which-is))
         (ap length ce ∙ length-set cs k _ ∙ w .four) (w .entries) (w .buffer) (long ∙ w .shared)

@@ -1,7 +1,7 @@
 -- A reading done whole, with the execution after it, is what the whole-exchange machine does. In order: core k of a state; the next record; the core as its
 -- execution starts; the state then; its end. Assumes nothing.
-use mathlib.Core.Path.{_≡_, refl, sym, ap, ap₂, _∙_, subst}
-use mathlib.Core.Logic.{_≢_, _⊎_, inl, inr}
+use mathlib.Core.Path.{_≡_, refl, sym, ap, _∙_, subst}
+use mathlib.Core.Logic.{_≢_, inl, inr}
 use mathlib.Core.List.{List, [], _∷_}
 use Prim.Native.Nat.{ℕ, zero, suc, _-_, _≤_, _<_}
 use native.Mathlib.Decide.{ℕ-discrete}
@@ -14,17 +14,15 @@ use Rattle.memory.proofs.Cores.{length-split}
 use Rattle.protocol.specs.declared.Registers.{Registers}
 use Rattle.protocol.specs.Registers.{readAcquired, readReleased}
 use Rattle.protocol.specs.State.{Core, Plant, Semaphore, State, Task, Sample, absent, core, mode, put, untaken}
-use Rattle.protocol.specs.Step.{copy, readTaken, readDone, step, run, Taking, takings, reading}
+use Rattle.protocol.specs.Step.{copy, readTaken, readDone, step, run, Taking, reading}
 use Rattle.protocol.specs.Whole.{execute, wholeOne, whole}
-use Rattle.protocol.specs.Laws.{Laws, Still, SemaphoreHeld, Holding}
+use Rattle.protocol.specs.Laws.{Still, Holding}
 use Rattle.protocol.specs.Variables.{readsOf}
 use Rattle.protocol.proofs.Copy.{copy-length}
 use Rattle.protocol.proofs.Steps.{each, others-stay, nobody}
 use Rattle.protocol.proofs.Whole.{Sim, sim-run, sim-still, sim-at-rest, endedIn, ended}
-use Rattle.processor.specs.Placed.{Placed}
-use Rattle.records.specs.File.{cores, variables, recordPlace}
-use Rattle.taskset.specs.Judge.{codeOf}
-use Rattle.taskset.specs.Task.{listed, sizesOf, variablesOf, sampleAt, samplesOf}
+use Rattle.records.specs.File.{cores}
+use Rattle.taskset.specs.Task.{sizesOf, variablesOf, sampleAt, samplesOf}
 use Rattle.taskset.specs.Trace.{recordCount}
 use Rattle.taskset.proofs.Accepted.{length-listed, listed-at, sizes-length}
 use Rattle.states.specs.declared.CoreTask.{CoreTask}
@@ -38,7 +36,7 @@ use Rattle.states.proofs.Tables.{listed-set}
 use Rattle.steps.specs.Moving.{StepGiven}
 use Rattle.runner.specs.Executing.{Standing, ExecutionGiven, Executes, Stretch}
 use Rattle.runner.proofs.Running.{core-in, cores-in, shared-in, semaphore-in}
-use Rattle.rerun.specs.Rerunning.{Resting, broughtTo, Reading, Reread, ReadsWhole}
+use Rattle.rerun.specs.Rerunning.{dataIn, Exchanging, Resting, broughtTo, Reading, Reread, ReadsWhole}
 
 -- ---- core k of a state
 
@@ -321,12 +319,14 @@ count-is f t k c e = ap (λ (x : CoreTask). x .count) e
 
 -- what the exchange asks
 pub reading-asks : {f t : List ℕ} {k : ℕ} {c : CoreTask} {first end : ℕ} {r : Registers} {places offsets d sh : List ℕ} → Reading f t k c first end r places offsets d sh
-    → StepGiven f t k c r (getD (split (sizesOf f) d) k []) × (length d ≡ total (sizesOf f)) × (r .cycles < c .count) × (first ≡ recordPlace f 0) × (end ≡ recordPlace f (variables f)) × (length sh ≡ 1024)
+    → Exchanging f t k c first end r (dataIn f k d) sh × (r .cycles < c .count) × (length d ≡ total (sizesOf f))
 reading-asks {f} {t} {k} {c} {first} {end} {r} {places} {offsets} {d} {sh} x = (
-  ready-of f t (x .accepted) k (x .known) c (x .task) r (x .cs) places offsets d sh (x .here) (x .rests),
-  x .rests .stands .buffer,
+  record {
+    ready = ready-of f t (x .accepted) k (x .known) c (x .task) r (x .cs) places offsets d sh (x .here) (x .rests);
+    from = x .from;
+    upto = x .upto;
+    shared = sym (ap length (shared-in f (x .cs) places offsets untaken d sh)) ∙ x .rests .stands .fit .shared;
+  },
   rw (count-is f t k c (x .task)) (x .due),
-  x .from,
-  x .upto,
-  sym (ap length (shared-in f (x .cs) places offsets untaken d sh)) ∙ x .rests .stands .fit .shared,
+  x .rests .stands .buffer,
 )

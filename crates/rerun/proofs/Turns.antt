@@ -1,14 +1,13 @@
 -- One byte of the list, as the loop over it meets it: what its calls ask, and what each way leaves. Assumes nothing.
 use mathlib.Core.Path.{_≡_, refl, sym, ap, _∙_, subst}
-use mathlib.Core.Logic.{_≢_}
-use mathlib.Core.Bool.{Bool, true, false}
+use mathlib.Core.Bool.{true, false}
 use mathlib.Core.List.{List, [], map}
 use Prim.Native.Nat.{ℕ, _+_, _*_, _≤_, _<_}
 use native.Mathlib.Omega.{arith}
 use borrow.Author.Tests.{lt-ltb, le-ltb, ltb-true, eqb-true}
 use lib.Dec.{ltb, eqb}
 use lib.ListN.{length, getD, set}
-use Rattle.verdict.specs.Verdict.{pick, both}
+use Rattle.verdict.specs.Verdict.{pick}
 use Rattle.verdict.proofs.Verdict.{both-true}
 use Rattle.memory.specs.Memory.{split, total}
 use Rattle.exchange.proofs.Records.{place-of}
@@ -25,7 +24,6 @@ use Rattle.taskset.specs.Layout.{layoutOf}
 use Rattle.taskset.specs.Task.{sizesOf, variablesOf}
 use Rattle.taskset.specs.Trace.{recordCount}
 use Rattle.taskset.specs.Fresh.{freshOf}
-use Rattle.taskset.proofs.Exact.{keeps-rules}
 use Rattle.states.specs.declared.Held.{Held}
 use Rattle.states.specs.declared.CoreTask.{CoreTask}
 use Rattle.states.specs.Task.{taskOf}
@@ -33,10 +31,9 @@ use Rattle.states.specs.Tasks.{coreTask}
 use Rattle.states.specs.Machine.{noRegisters, coreIn, stateIn}
 use Rattle.states.specs.Fit.{FitCore}
 use Rattle.states.specs.Set.{AcceptedSet}
-use Rattle.steps.specs.Moving.{StepGiven}
 use Rattle.runner.proofs.Running.{core-in}
 use Rattle.machine.specs.Calls.{lentFits}
-use Rattle.rerun.specs.Rerunning.{namedCore, dueBy, Reading, ReadsWhole, Rerunning}
+use Rattle.rerun.specs.Rerunning.{namedCore, dueBy, dataIn, Exchanging, Reading, ReadsWhole, Rerunning}
 use Rattle.rerun.proofs.Reading.{count-is, ready-of}
 use Rattle.rerun.proofs.Listed.{at-rest, list-refused, none-named, due-here, read-on, write-on}
 
@@ -119,8 +116,16 @@ module _ {f t list : List ℕ} (ok : AcceptedSet f t) {h : Held} {i : ℕ} {cs :
 
       -- a writing
       pub writing-asks : (first end : ℕ) → first ≡ recordPlace f 0 → end ≡ recordPlace f (variables f)
-          → StepGiven f t k c (getD cs k noRegisters) (getD (split (sizesOf f) d) k []) × (length d ≡ total (sizesOf f)) × (first ≡ recordPlace f 0) × (end ≡ recordPlace f (variables f)) × (length sh ≡ 1024)
-      writing-asks first end a z = (ready-of f t ok k ik c task (getD cs k noRegisters) cs places offsets d sh refl (at-rest f t list ok h i cs places offsets d sh w), w .buffer, a, z, w .shared)
+          → Exchanging f t k c first end (getD cs k noRegisters) (dataIn f k d) sh × (length d ≡ total (sizesOf f))
+      writing-asks first end a z = (
+        record {
+          ready = ready-of f t ok k ik c task (getD cs k noRegisters) cs places offsets d sh refl (at-rest f t list ok h i cs places offsets d sh w);
+          from = a;
+          upto = z;
+          shared = w .shared;
+        },
+        w .buffer,
+      )
 
       pub cycles-few : 16 ≤ b → getD cs k noRegisters .cycles < 65535
       cycles-few large =

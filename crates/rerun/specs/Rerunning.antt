@@ -1,4 +1,4 @@
--- What the functions of a rerun are given and what they promise. In order: a byte of the list; a state at rest; a reading; the whole list.
+-- What the functions of a rerun are given and what they promise. In order: a byte of the list; a state at rest; an exchange; a reading; the whole list.
 use mathlib.Core.Path.{_≡_}
 use mathlib.Core.Logic.{_≢_}
 use mathlib.Core.Bool.{Bool, true}
@@ -17,19 +17,22 @@ use Rattle.protocol.specs.Laws.{Still}
 use Rattle.protocol.specs.Variables.{readsOf}
 use Rattle.protocol.specs.Rerun.{legal, decoded}
 use Rattle.records.specs.File.{cores, variables, recordPlace}
+use Rattle.taskset.specs.declared.Layout.{Layout}
+use Rattle.taskset.specs.Layout.{layoutOf}
 use Rattle.taskset.specs.Task.{sizesOf, variablesOf, sampleAt}
 use Rattle.taskset.specs.Trace.{recordCount}
 use Rattle.taskset.specs.Fresh.{freshOf}
 use Rattle.states.specs.declared.Held.{Held}
 use Rattle.states.specs.declared.CoreTask.{CoreTask}
 use Rattle.states.specs.Task.{taskOf}
-use Rattle.states.specs.Tasks.{coreTask}
+use Rattle.states.specs.Tasks.{coreTask, tasksOf}
 use Rattle.states.specs.Machine.{noRegisters, stackIn, stateIn}
 use Rattle.states.specs.Set.{AcceptedSet}
+use Rattle.steps.specs.Moving.{StepGiven}
 use Rattle.runner.specs.declared.RunAnswer.{RunAnswer}
 use Rattle.runner.specs.Runs.{Left, leftAs}
 use Rattle.runner.specs.Executing.{Standing}
-use Rattle.machine.specs.Calls.{answerOf, tableOf}
+use Rattle.machine.specs.Calls.{lentFits, answerOf, tableOf}
 use Rattle.rerun.specs.Calls.{listRefusal, rerunLeft}
 
 -- ---- a byte of the list
@@ -48,11 +51,32 @@ pub record Resting (f t : List ℕ) (cs : List Registers) (places offsets d sh :
   pub stands : Standing f t cs places offsets d sh
   pub still : (j : ℕ) → Still (core (stateIn f cs places offsets untaken d sh .plant) j)
 
+-- ---- an exchange
+
+-- the data of core k in the data buffer d
+abbrev pub dataIn : List ℕ → ℕ → List ℕ → List ℕ
+dataIn f k d = getD (split (sizesOf f) d) k []
+
+-- core k with the registers r and the data d may move bytes between d and shared memory
+pub record Exchanging (f t : List ℕ) (k : ℕ) (c : CoreTask) (first end : ℕ) (r : Registers) (d sh : List ℕ) : Type 0 where
+  pub ready : StepGiven f t k c r d
+  pub from : first ≡ recordPlace f 0
+  pub upto : end ≡ recordPlace f (variables f)
+  pub shared : length sh ≡ 1024
+
 -- ---- a reading
 
 -- the data of a core after it: input bytes, then all read variables
 abbrev pub broughtTo : List ℕ → List ℕ → ℕ → Registers → List ℕ → List ℕ → List ℕ
 broughtTo f t k r sh d = copy (readsOf (variablesOf f) k) sh (splice d 0 (sampleAt f t k (r .cycles) .input))
+
+-- what it leaves: the record's time x, and the data d′
+abbrev pub BroughtTo : List ℕ → List ℕ → ℕ → Registers → List ℕ → List ℕ → ℕ → List ℕ → Type 0
+BroughtTo f t k r sh d x d′ = (x ≡ sampleAt f t k (r .cycles) .time) × (d′ ≡ broughtTo f t k r sh d)
+
+-- the same of the data buffer, where the data of other cores stay
+abbrev pub BroughtIn : List ℕ → List ℕ → ℕ → Registers → List ℕ → List ℕ → ℕ → List ℕ → Type 0
+BroughtIn f t k r sh d x d′ = (x ≡ sampleAt f t k (r .cycles) .time) × (split (sizesOf f) d′ ≡ set (split (sizesOf f) d) k (broughtTo f t k r sh (dataIn f k d)))
 
 -- a core k with the registers r that has a reading to do, in some state at rest
 pub record Reading (f t : List ℕ) (k : ℕ) (c : CoreTask) (first end : ℕ) (r : Registers) (places offsets d sh : List ℕ) : Type 0 where
@@ -80,6 +104,13 @@ ReadsWhole f t k r places offsets d sh r′ places′ offsets′ d′ =
     (cs : List Registers) → getD cs k noRegisters ≡ r → Resting f t cs places offsets d sh → Reread f t k cs places offsets d sh r′ places′ offsets′ d′
 
 -- ---- the whole list
+
+-- an accepted set that is laid out, and lent memories of its sizes
+pub record RerunGiven (f t : List ℕ) (layout : Layout) (tasks : List CoreTask) (d sh : List ℕ) : Type 0 where
+  pub accepted : AcceptedSet f t
+  pub laid : layout ≡ layoutOf f
+  pub tasked : tasks ≡ tasksOf f t
+  pub fits : lentFits f (length d) (length sh) ≡ true
 
 -- before byte i of the list: the takings so far are legal, and made the state now; cores from n on are as in the fresh table h
 pub record Rerunning (f t list : List ℕ) (h : Held) (i : ℕ) (cs : List Registers) (places offsets d sh : List ℕ) : Type 0 where

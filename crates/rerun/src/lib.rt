@@ -1,6 +1,7 @@
 // Document 02, 2.13: rerun from the order of takings, with every exchange whole and each execution straight after its reading. Whether steps produce the
 // list is known at its end alone, so the rerun works in memories of its own and copies them out where nothing is refused.
 // In order: a byte of the list; a reading; a writing; the list; the call.
+use code::Profile;
 use protocol::Registers;
 use runner::RunAnswer;
 use states::CoreTask;
@@ -9,23 +10,17 @@ use taskset::Layout;
 ghost use mathlib.Core.Path.{_≡_};
 ghost use mathlib.Core.Bool.{true};
 ghost use mathlib.Core.List.{[]};
-ghost use Prim.Native.Nat.{_+_, _<_, _≤_};
-ghost use lib.ListN.{length, getD, set};
-ghost use Rattle.memory.specs.Memory.{total, split};
+ghost use Prim.Native.Nat.{_+_, _<_};
+ghost use lib.ListN.{length};
+ghost use Rattle.memory.specs.Memory.{total};
 ghost use Rattle.protocol.specs.Step.{copy};
 ghost use Rattle.protocol.specs.Variables.{writesOf};
-ghost use Rattle.records.specs.File.{variables, recordPlace};
-ghost use Rattle.taskset.specs.Judge.{judge};
-ghost use Rattle.taskset.specs.Trace.{traceRefusal};
-ghost use Rattle.taskset.specs.Layout.{layoutOf};
-ghost use Rattle.taskset.specs.Task.{sizesOf, variablesOf, sampleAt};
-ghost use Rattle.states.specs.Set.{AcceptedSet};
-ghost use Rattle.states.specs.Tasks.{tasksOf};
-ghost use Rattle.steps.specs.Moving.{StepGiven};
+ghost use Rattle.records.specs.File.{variables};
+ghost use Rattle.taskset.specs.Task.{sizesOf, variablesOf};
 ghost use Rattle.runner.specs.Runs.{leftAs};
-ghost use Rattle.machine.specs.Calls.{lentFits, answerOf, tableOf};
+ghost use Rattle.machine.specs.Calls.{answerOf, tableOf};
 ghost use Rattle.rerun.specs.Calls.{rerunCall};
-ghost use Rattle.rerun.specs.Rerunning.{namedCore, dueBy, broughtTo, Reading, ReadsWhole, Reran};
+ghost use Rattle.rerun.specs.Rerunning.{namedCore, dueBy, dataIn, Exchanging, BroughtTo, BroughtIn, Reading, ReadsWhole, RerunGiven, Reran};
 
 const LARGEST: usize = 16384;
 
@@ -76,8 +71,8 @@ fn read_data(
     d: &mut [u8],
     shared: &[u8],
 ) -> u32
-    requires { ⌜ StepGiven (now file) (now trace) k c r (now d) × (r .cycles < c .count) × (first ≡ recordPlace (now file) 0) × (end ≡ recordPlace (now file) (variables (now file))) × (length (now shared) ≡ 1024) ⌝ }
-    ensures { λ x. ⌜ (x ≡ sampleAt (now (file .entry)) (now (trace .entry)) k (r .cycles) .time) × (now (d .exit) ≡ broughtTo (now (file .entry)) (now (trace .entry)) k r (now (shared .entry)) (now (d .entry))) ⌝ }
+    requires { ⌜ Exchanging (now file) (now trace) k c first end r (now d) (now shared) × (r .cycles < c .count) ⌝ }
+    ensures { λ x. ⌜ BroughtTo (now (file .entry)) (now (trace .entry)) k r (now (shared .entry)) (now (d .entry)) x (now (d .exit)) ⌝ }
 {
     let time = steps::take_record(r, k, c, file, trace, d);
     exchange::bring_all(file, first, end, k, d, shared);
@@ -96,8 +91,8 @@ fn read_exchange(
     buffer: &mut [u8],
     shared: &[u8],
 ) -> u32
-    requires { ⌜ StepGiven (now file) (now trace) k c r (getD (split (sizesOf (now file)) (now buffer)) k []) × (length (now buffer) ≡ total (sizesOf (now file))) × (r .cycles < c .count) × (first ≡ recordPlace (now file) 0) × (end ≡ recordPlace (now file) (variables (now file))) × (length (now shared) ≡ 1024) ⌝ }
-    ensures { λ x. ⌜ (x ≡ sampleAt (now (file .entry)) (now (trace .entry)) k (r .cycles) .time) × (split (sizesOf (now (file .entry))) (now (buffer .exit)) ≡ set (split (sizesOf (now (file .entry))) (now (buffer .entry))) k (broughtTo (now (file .entry)) (now (trace .entry)) k r (now (shared .entry)) (getD (split (sizesOf (now (file .entry))) (now (buffer .entry))) k []))) ⌝ }
+    requires { ⌜ Exchanging (now file) (now trace) k c first end r (dataIn (now file) k (now buffer)) (now shared) × (r .cycles < c .count) × (length (now buffer) ≡ total (sizesOf (now file))) ⌝ }
+    ensures { λ x. ⌜ BroughtIn (now (file .entry)) (now (trace .entry)) k r (now (shared .entry)) (now (buffer .entry)) x (now (buffer .exit)) ⌝ }
 {
     let a = c.base;
     let e = a + c.size;
@@ -119,7 +114,8 @@ fn read(
     shared: &[u8],
 ) -> Registers
     requires { ⌜ Reading (now file) (now trace) k c first end r (now places) (now offsets) (now buffer) (now shared) ⌝ }
-    ensures { λ x. ⌜ ReadsWhole (now (file .entry)) (now (trace .entry)) k r (now (places .entry)) (now (offsets .entry)) (now (buffer .entry)) (now (shared .entry)) x (now (places .exit)) (now (offsets .exit)) (now (buffer .exit)) ⌝ }
+    ensures { λ x. ⌜ ReadsWhole (now (file .entry)) (now (trace .entry)) k r (now (places .entry)) (now (offsets .entry)) (now (buffer .entry)) (now (shared .entry))
+        x (now (places .exit)) (now (offsets .exit)) (now (buffer .exit)) ⌝ }
 {
     let time = read_exchange(r, k, c, file, trace, first, end, buffer, shared);
     let started = protocol::read_released(protocol::read_acquired(r, time));
@@ -140,8 +136,8 @@ fn write_exchange(
     buffer: &[u8],
     shared: &mut [u8],
 )
-    requires { ⌜ StepGiven (now file) (now trace) k c r (getD (split (sizesOf (now file)) (now buffer)) k []) × (length (now buffer) ≡ total (sizesOf (now file))) × (first ≡ recordPlace (now file) 0) × (end ≡ recordPlace (now file) (variables (now file))) × (length (now shared) ≡ 1024) ⌝ }
-    ensures { λ _. ⌜ now (shared .exit) ≡ copy (writesOf (variablesOf (now (file .entry))) k) (getD (split (sizesOf (now (file .entry))) (now (buffer .entry))) k []) (now (shared .entry)) ⌝ }
+    requires { ⌜ Exchanging (now file) (now trace) k c first end r (dataIn (now file) k (now buffer)) (now shared) × (length (now buffer) ≡ total (sizesOf (now file))) ⌝ }
+    ensures { λ _. ⌜ now (shared .exit) ≡ copy (writesOf (variablesOf (now (file .entry))) k) (dataIn (now (file .entry)) k (now (buffer .entry))) (now (shared .entry)) ⌝ }
 {
     let a = c.base;
     let e = a + c.size;
@@ -167,7 +163,7 @@ fn rerun_in(
     buffer: &mut [u8],
     shared: &mut [u8],
 ) -> RunAnswer
-    requires { ⌜ AcceptedSet (now file) (now trace) × (layout ≡ layoutOf (now file)) × (tasks ≡ tasksOf (now file) (now trace)) × (lentFits (now file) (length (now buffer)) (length (now shared)) ≡ true) ⌝ }
+    requires { ⌜ RerunGiven (now file) (now trace) layout tasks (now buffer) (now shared) ⌝ }
     ensures { λ r. ⌜ Reran (now (file .entry)) (now (trace .entry)) (now (list .entry)) r (now (buffer .exit)) (now (shared .exit)) ⌝ }
 {
     let fresh = machine::fresh_judged(file, layout, buffer, shared);
@@ -247,7 +243,7 @@ fn rerun_through(
     buffer: &mut [u8],
     shared: &mut [u8],
 ) -> RunAnswer
-    requires { ⌜ AcceptedSet (now file) (now trace) × (layout ≡ layoutOf (now file)) × (tasks ≡ tasksOf (now file) (now trace)) × (lentFits (now file) (length (now buffer)) (length (now shared)) ≡ true) × (length (now scratch) ≡ length (now buffer)) × (length (now common) ≡ length (now shared)) ⌝ }
+    requires { ⌜ RerunGiven (now file) (now trace) layout tasks (now buffer) (now shared) × (length (now scratch) ≡ length (now buffer)) × (length (now common) ≡ length (now shared)) ⌝ }
     ensures { λ r. ⌜ leftAs r (now (buffer .exit)) (now (shared .exit)) [] ≡ rerunCall (now (file .entry)) (now (trace .entry)) (now (list .entry)) (now (buffer .entry)) (now (shared .entry)) ⌝ }
 {
     let n = buffer.len();
@@ -269,7 +265,7 @@ fn rerun_judged(
     buffer: &mut [u8],
     shared: &mut [u8],
 ) -> RunAnswer
-    requires { ⌜ AcceptedSet (now file) (now trace) × (layout ≡ layoutOf (now file)) × (tasks ≡ tasksOf (now file) (now trace)) × (lentFits (now file) (length (now buffer)) (length (now shared)) ≡ true) ⌝ }
+    requires { ⌜ RerunGiven (now file) (now trace) layout tasks (now buffer) (now shared) ⌝ }
     ensures { λ r. ⌜ leftAs r (now (buffer .exit)) (now (shared .exit)) [] ≡ rerunCall (now (file .entry)) (now (trace .entry)) (now (list .entry)) (now (buffer .entry)) (now (shared .entry)) ⌝ }
 {
     let mut data: [u8; LARGEST] = [0; LARGEST];
@@ -298,14 +294,11 @@ pub fn rerun(
 ) -> RunAnswer
     ensures { λ r. ⌜ leftAs r (now (buffer .exit)) (now (shared .exit)) [] ≡ rerunCall (now (file .entry)) (now (trace .entry)) (now (list .entry)) (now (buffer .entry)) (now (shared .entry)) ⌝ }
 {
-    let loaded = taskset::load(file);
+    let loaded = machine::load_lent(Profile::Full, file, buffer.len(), shared.len(), true);
     if loaded.refusal != 0 {
         return refused(loaded.refusal);
     }
     let layout = loaded.layout;
-    if !machine::lent_fits(file, layout, buffer.len(), shared.len()) {
-        return refused(verdict::BAD_LENGTHS);
-    }
     let traces = taskset::load_trace(file, trace);
     if traces.refusal != 0 {
         return refused(traces.refusal);

@@ -1,7 +1,8 @@
--- `console::output` meets its contract: `long` comes before everything; the lent memory has its sizes. Assumes nothing.
-use mathlib.Core.Path.{refl, sym, _∙_}
-use Rattle.console.proofs.Fresh.{prefix}
-use Rattle.console.proofs.Runs.{written, long-text, short-text, short-order}
+-- `console::output` meets its contract: `long` comes before everything, then the refusal of the file; the lent memory has its sizes. Assumes nothing.
+use mathlib.Core.Path.{sym, _∙_}
+use Rattle.taskset.proofs.Loading.{file-judged, file-accepted, file-laid}
+use Rattle.console.proofs.Fresh.{prefix, zeros-fit}
+use Rattle.console.proofs.Runs.{file-refused, written, long-text, short-text, short-order}
 use borrow.Author.Needs.{needs}
 use Rattle.console.proofs.output.Statement.{statement}
 use Rattle.console.proofs.output.Tie as tie
@@ -16,16 +17,40 @@ same-length : tie.Need-same-length
 same-length c = search needs
 
 returns : tie.Need-returns
-returns c = written (c .before .before .before .before .before .before .before .before .before .before .args .out .now) (long-text (c .before .before .before .before .before .before .before .before .before .before .args .file .now) (c .before .before .before .before .before .before .before .before .before .before .args .trace .now) (c .before .before .before .before .before .before .before .before .before .before .args .order .now) (sym (c .before .before .before .before .before .too-long .ensures) ∙ c .before .before .before .before .if1 .taken)) (c .before .before .write-long .ensures)
+returns c =
+    let a = c .before .before .before .before .before .before .before .before .before .before .args in
+    written (a .out .now) (long-text (a .file .now) (a .trace .now) (a .order .now) (sym (c .before .before .before .before .before .too-long .ensures) ∙ c .before .before .before .before .if1 .taken)) (c .before .before .write-long .ensures)
 
-buffer-size-requires : tie.Need-buffer-size-requires
-buffer-size-requires c κs = search needs
+load-requires : tie.Need-load-requires
+load-requires c κs = search needs
+
+write-refused-requires : tie.Need-write-refused-requires
+write-refused-requires c κs = search needs
+
+same-length-2 : tie.Need-same-length-2
+same-length-2 c = search needs
+
+returns-2 : tie.Need-returns-2
+returns-2 c =
+    let write-refused = c .before .before in
+    let if2 = write-refused .before .before in
+    let load = if2 .before .before in
+    let if1 = load .before in
+    let too-long = if1 .before in
+    let start = too-long .before .before .before .before .before in
+    let a = start .args in
+    let refused = file-refused (a .file .now) (a .trace .now) (a .order .now) _ (file-judged (a .file .now) _ (load .load .ensures)) (if2 .if2 .taken) in
+    written (a .out .now) (refused ∙ short-text (a .file .now) (a .trace .now) (a .order .now) (sym (too-long .too-long .ensures) ∙ if1 .if1 .left))
+    (write-refused .write-refused .ensures)
+
+sum-of-sizes-requires : tie.Need-sum-of-sizes-requires
+sum-of-sizes-requires c κs = (file-accepted _ _ (c .before .before .before .load .ensures) (c .before .if2 .left), file-laid _ _ (c .before .before .before .load .ensures) (c .before .if2 .left))
 
 array-borrow-prefix-buffer : tie.Need-array-borrow-prefix-buffer
 array-borrow-prefix-buffer c = search needs
 
 slice-aggregate-write-run : tie.Need-slice-aggregate-write-run
-slice-aggregate-write-run c = prefix _ 16384 (c .before .buffer-size .ensures .1)
+slice-aggregate-write-run c = prefix _ 16384 (c .before .sum-of-sizes .ensures .1)
 
 slice-aggregate-write-run-2 : tie.Need-slice-aggregate-write-run-2
 slice-aggregate-write-run-2 c = search needs
@@ -34,13 +59,32 @@ slice-aggregate-write-run-3 : tie.Need-slice-aggregate-write-run-3
 slice-aggregate-write-run-3 c = search needs
 
 write-run-requires : tie.Need-write-run-requires
-write-run-requires c κs = (sym (prefix _ 16384 (c .before .before .before .before .buffer-size .ensures .1)) ∙ c .before .before .before .before .buffer-size .ensures .0, refl, refl, short-order _ _ _ (sym (c .before .before .before .before .before .before .too-long .ensures) ∙ c .before .before .before .before .before .if1 .left))
+write-run-requires c κs =
+    let size = c .before .before .before .before in
+    let if2 = size .before .before in
+    let load = if2 .before .before in
+    let if1 = load .before in
+    let file = if1 .before .before .before .before .before .before .args .file .now in (
+      record {
+        accepted = file-accepted file _ (load .load .ensures) (if2 .if2 .left);
+        laid = file-laid file _ (load .load .ensures) (if2 .if2 .left);
+        fits = zeros-fit file _ (size .sum-of-sizes .ensures .0) (size .sum-of-sizes .ensures .1);
+      },
+      short-order _ _ _ (sym (if1 .before .too-long .ensures) ∙ if1 .if1 .left),
+    )
 
-same-length-2 : tie.Need-same-length-2
-same-length-2 c = search needs
+same-length-3 : tie.Need-same-length-3
+same-length-3 c = search needs
 
-returns-2 : tie.Need-returns-2
-returns-2 c = written (c .before .before .before .before .before .before .before .before .before .before .before .before .before .before .before .before .before .args .out .now) (short-text (c .before .before .before .before .before .before .before .before .before .before .before .before .before .before .before .before .before .args .file .now) (c .before .before .before .before .before .before .before .before .before .before .before .before .before .before .before .before .before .args .trace .now) (c .before .before .before .before .before .before .before .before .before .before .before .before .before .before .before .before .before .args .order .now) (sym (c .before .before .before .before .before .before .before .before .before .before .before .before .too-long .ensures) ∙ c .before .before .before .before .before .before .before .before .before .before .before .if1 .left)) (c .before .before .before .before .before .write-run .ensures)
+returns-3 : tie.Need-returns-3
+returns-3 c =
+    let write-run = c .before .before .before .before .before in
+    let if1 = write-run .before .before .before .before .before .before .before .before .before .before in
+    let too-long = if1 .before in
+    let start = too-long .before .before .before .before .before in
+    let a = start .args in
+    written (a .out .now) (short-text (a .file .now) (a .trace .now) (a .order .now) (sym (too-long .too-long .ensures) ∙ if1 .if1 .left))
+    (write-run .write-run .ensures)
 
 pub output-spec : {M : Type 1} → statement M
 output-spec =
@@ -50,11 +94,15 @@ output-spec =
     write-long-requires
     same-length
     returns
-    buffer-size-requires
+    load-requires
+    write-refused-requires
+    same-length-2
+    returns-2
+    sum-of-sizes-requires
     array-borrow-prefix-buffer
     slice-aggregate-write-run
     slice-aggregate-write-run-2
     slice-aggregate-write-run-3
     write-run-requires
-    same-length-2
-    returns-2)
+    same-length-3
+    returns-3)

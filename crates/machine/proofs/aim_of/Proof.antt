@@ -6,7 +6,7 @@ use Rattle.machine.proofs.aim_of.Statement.{statement}
 use Rattle.machine.proofs.aim_of.Tie as tie
 
 returns : tie.Need-returns
-returns c = aim-free (c .before .before .before .before .before .args .file .now) (c .before .before .before .before .before .args .s) _ (c .if1 .taken)
+returns c = let start = c .before .before .before .before .before in aim-free (start .args .file .now) (start .args .s) _ (c .if1 .taken)
 
 sub-k : tie.Need-sub-k
 sub-k c = search needs
@@ -18,7 +18,9 @@ mul-if2 : tie.Need-mul-if2
 mul-if2 c = search needs
 
 element-copy-out-if2 : tie.Need-element-copy-out-if2
-element-copy-out-if2 c = omega (arith, in-table (c .before .before .before .before .before .before .args .file .now) (c .before .before .before .before .before .before .args .trace .now) (c .before .before .before .before .before .before .args .s) (c .before .before .before .before .before .before .args .buffer .now) (c .before .before .before .before .before .before .args .shared .now) (c .before .before .before .before .before .before .pre .0) (c .before .before .before .before .before .before .pre .3) (c .before .if1 .left))
+element-copy-out-if2 c =
+    let free = c .before in
+    omega (arith, in-table (free .before .before .before .before .before .pre) (free .if1 .left))
 
 add-locate : tie.Need-add-locate
 add-locate c = search needs
@@ -27,35 +29,65 @@ mul-locate : tie.Need-mul-locate
 mul-locate c = search needs
 
 element-copy-out-locate : tie.Need-element-copy-out-locate
-element-copy-out-locate c = omega (arith, in-table (c .before .before .before .before .before .before .before .args .file .now) (c .before .before .before .before .before .before .before .args .trace .now) (c .before .before .before .before .before .before .before .args .s) (c .before .before .before .before .before .before .before .args .buffer .now) (c .before .before .before .before .before .before .before .args .shared .now) (c .before .before .before .before .before .before .before .pre .0) (c .before .before .before .before .before .before .before .pre .3) (c .before .before .if1 .left))
+element-copy-out-locate c =
+    let free = c .before .before in
+    omega (arith, in-table (free .before .before .before .before .before .pre) (free .if1 .left))
 
 locate-requires : tie.Need-locate-requires
-locate-requires c κs = (c .before .before .before .before .before .before .before .pre .0 .laid, c .before .before .before .before .before .before .before .pre .1, c .before .before .before .before .before .before .before .pre .2, omega (arith, in-table (c .before .before .before .before .before .before .before .args .file .now) (c .before .before .before .before .before .before .before .args .trace .now) (c .before .before .before .before .before .before .before .args .s) (c .before .before .before .before .before .before .before .args .buffer .now) (c .before .before .before .before .before .before .before .args .shared .now) (c .before .before .before .before .before .before .before .pre .0) (c .before .before .before .before .before .before .before .pre .3) (c .before .before .if1 .left)), within-reads (c .before .before .before .before .before .before .before .args .file .now) (c .before .before .before .before .before .before .before .args .trace .now) (c .before .before .before .before .before .before .before .args .s) (c .before .before .before .before .before .before .before .args .buffer .now) (c .before .before .before .before .before .before .before .args .shared .now) (c .before .before .before .before .before .before .before .pre .0) (c .before .before .before .before .before .before .before .pre .3) (c .before .before .if1 .left) (c .if2 .taken))
+locate-requires c κs =
+    let free = c .before .before in
+    let given = free .before .before .before .before .before .pre in
+    (given .accepted .laid, given .from, given .upto, omega (arith, in-table given (free .if1 .left)), within-reads given (free .if1 .left) (c .if2 .taken))
 
 returns-2 : tie.Need-returns-2
-returns-2 c k l e = aim-reading (c .before .before .before .before .before .before .before .before .args .file .now) (c .before .before .before .before .before .before .before .before .args .trace .now) (c .before .before .before .before .before .before .before .before .args .s) (c .before .before .before .before .before .before .before .before .args .buffer .now) (c .before .before .before .before .before .before .before .before .args .shared .now) (c .before .before .before .before .before .before .before .before .pre .0) (c .before .before .before .before .before .before .before .before .pre .3) (c .before .before .before .if1 .left) _ k l e (c .before .if2 .taken) (c .locate .ensures)
+returns-2 c = let free = c .before .before .before in aim-reading (free .before .before .before .before .before .pre) (free .if1 .left) (c .before .if2 .taken) (c .locate .ensures)
 
 mul-if3 : tie.Need-mul-if3
 mul-if3 c = search needs
 
 element-copy-out-if3 : tie.Need-element-copy-out-if3
-element-copy-out-if3 c = omega (arith, in-table (c .before .before .before .before .before .before .before .args .file .now) (c .before .before .before .before .before .before .before .args .trace .now) (c .before .before .before .before .before .before .before .args .s) (c .before .before .before .before .before .before .before .args .buffer .now) (c .before .before .before .before .before .before .before .args .shared .now) (c .before .before .before .before .before .before .before .pre .0) (c .before .before .before .before .before .before .before .pre .3) (c .before .before .if1 .left))
+element-copy-out-if3 c =
+    let free = c .before .before in
+    omega (arith, in-table (free .before .before .before .before .before .pre) (free .if1 .left))
 
 mul-locate-2 : tie.Need-mul-locate-2
 mul-locate-2 c = search needs
 
 element-copy-out-locate-2 : tie.Need-element-copy-out-locate-2
-element-copy-out-locate-2 c = omega (arith, in-table (c .before .before .before .before .before .before .before .before .args .file .now) (c .before .before .before .before .before .before .before .before .args .trace .now) (c .before .before .before .before .before .before .before .before .args .s) (c .before .before .before .before .before .before .before .before .args .buffer .now) (c .before .before .before .before .before .before .before .before .args .shared .now) (c .before .before .before .before .before .before .before .before .pre .0) (c .before .before .before .before .before .before .before .before .pre .3) (c .before .before .before .if1 .left))
+element-copy-out-locate-2 c =
+    let free = c .before .before .before in
+    omega (arith, in-table (free .before .before .before .before .before .pre) (free .if1 .left))
 
 locate-requires-2 : tie.Need-locate-requires-2
-locate-requires-2 c κs = (c .before .before .before .before .before .before .before .before .pre .0 .laid, c .before .before .before .before .before .before .before .before .pre .1, c .before .before .before .before .before .before .before .before .pre .2, omega (arith, in-table (c .before .before .before .before .before .before .before .before .args .file .now) (c .before .before .before .before .before .before .before .before .args .trace .now) (c .before .before .before .before .before .before .before .before .args .s) (c .before .before .before .before .before .before .before .before .args .buffer .now) (c .before .before .before .before .before .before .before .before .args .shared .now) (c .before .before .before .before .before .before .before .before .pre .0) (c .before .before .before .before .before .before .before .before .pre .3) (c .before .before .before .if1 .left)), within-writes (c .before .before .before .before .before .before .before .before .args .file .now) (c .before .before .before .before .before .before .before .before .args .trace .now) (c .before .before .before .before .before .before .before .before .args .s) (c .before .before .before .before .before .before .before .before .args .buffer .now) (c .before .before .before .before .before .before .before .before .args .shared .now) (c .before .before .before .before .before .before .before .before .pre .0) (c .before .before .before .before .before .before .before .before .pre .3) (c .before .before .before .if1 .left) (c .if3 .taken))
+locate-requires-2 c κs =
+    let free = c .before .before .before in
+    let given = free .before .before .before .before .before .pre in
+    (given .accepted .laid, given .from, given .upto, omega (arith, in-table given (free .if1 .left)), within-writes given (free .if1 .left) (c .if3 .taken))
 
 returns-3 : tie.Need-returns-3
-returns-3 c k l e = aim-writing (c .before .before .before .before .before .before .before .before .before .args .file .now) (c .before .before .before .before .before .before .before .before .before .args .trace .now) (c .before .before .before .before .before .before .before .before .before .args .s) (c .before .before .before .before .before .before .before .before .before .args .buffer .now) (c .before .before .before .before .before .before .before .before .before .args .shared .now) (c .before .before .before .before .before .before .before .before .before .pre .0) (c .before .before .before .before .before .before .before .before .before .pre .3) (c .before .before .before .before .if1 .left) _ k l e (c .before .if3 .taken) (c .locate2 .ensures)
+returns-3 c = let free = c .before .before .before .before in aim-writing (free .before .before .before .before .before .pre) (free .if1 .left) (c .before .if3 .taken) (c .locate2 .ensures)
 
 returns-4 : tie.Need-returns-4
-returns-4 c k l e = aim-neither (c .before .before .before .before .before .before .before .before .args .file .now) (c .before .before .before .before .before .before .before .before .args .trace .now) (c .before .before .before .before .before .before .before .before .args .s) (c .before .before .before .before .before .before .before .before .args .buffer .now) (c .before .before .before .before .before .before .before .before .args .shared .now) (c .before .before .before .before .before .before .before .before .pre .0) (c .before .before .before .before .before .before .before .before .pre .3) (c .before .before .before .if1 .left) _ k l e (c .before .if2 .left) (c .if3 .left)
+returns-4 c = let free = c .before .before .before in aim-neither (free .before .before .before .before .before .pre) (free .if1 .left) (c .before .if2 .left) (c .if3 .left)
 
 pub aim-of-spec : {M : Type 1} → statement M
 aim-of-spec =
-    tie.close (tie.spec returns sub-k cast-k mul-if2 element-copy-out-if2 add-locate mul-locate element-copy-out-locate locate-requires returns-2 mul-if3 element-copy-out-if3 mul-locate-2 element-copy-out-locate-2 locate-requires-2 returns-3 returns-4)
+    tie.close
+    (tie.spec
+    returns
+    sub-k
+    cast-k
+    mul-if2
+    element-copy-out-if2
+    add-locate
+    mul-locate
+    element-copy-out-locate
+    locate-requires
+    returns-2
+    mul-if3
+    element-copy-out-if3
+    mul-locate-2
+    element-copy-out-locate-2
+    locate-requires-2
+    returns-3
+    returns-4)

@@ -9,10 +9,15 @@ use Rattle.machine.proofs.fresh_judged.Statement.{statement}
 use Rattle.machine.proofs.fresh_judged.Tie as tie
 
 fill-requires : tie.Need-fill-requires
-fill-requires c κs = let given = c .before .before .before .before .before .pre in let sized = lent-sizes (c .before .before .before .before .before .args .file .now) _ _ (given .2) in (given .0, given .1, sized .0, sized .1)
+fill-requires c κs =
+    let given = c .before .before .before .before .before .pre in
+    let sized = lent-sizes _ _ _ (given .fits) in
+    (given .accepted, given .laid, sized .0, sized .1)
 
 cast-table-of : tie.Need-cast-table-of
-cast-table-of c = rw (c .before .before .before .before .before .before .before .before .before .before .before .pre .1) (omega (arith, keeps-rules (c .before .before .before .before .before .before .before .before .before .before .before .args .file .now) (c .before .before .before .before .before .before .before .before .before .before .before .pre .0) .most-cores))
+cast-table-of c =
+    let given = c .before .before .before .before .before .before .before .before .before .before .before .pre in
+    rw (given .laid) (omega (arith, keeps-rules _ (given .accepted) .most-cores))
 
 table-of-requires : tie.Need-table-of-requires
 table-of-requires c κs = search needs
@@ -28,12 +33,15 @@ same-length-2 c = search needs
 
 returns : tie.Need-returns
 returns c =
-    let a = c .before .before .before .before .before .before .before .before .before .before .before .before .before .args in
+    let filled = c .before .before .before .before .before .before .before in
+    let start = filled .before .before .before .before .before .before in
+    let a = start .args in
+    let given = start .pre in
     fresh-granted-for Full (a .file .now) (a .buffer .now) (a .shared .now) _ _ _
-    (fresh-none-for Full (a .file .now) (a .buffer .now) (a .shared .now) (c .before .before .before .before .before .before .before .before .before .before .before .before .before .pre .0) (c .before .before .before .before .before .before .before .before .before .before .before .before .before .pre .2))
-    (rw (c .answer .ensures, c .before .table-of .ensures, c .before .before .before .before .before .before .before .before .before .before .before .before .before .pre .1) refl)
-    (c .before .before .before .before .before .before .before .fill .ensures .0)
-    (c .before .before .before .before .before .before .before .fill .ensures .1)
+    (fresh-none-for Full (a .file .now) (a .buffer .now) (a .shared .now) (given .accepted) (given .fits))
+    (rw (c .answer .ensures, c .before .table-of .ensures, given .laid) refl)
+    (filled .fill .ensures .0)
+    (filled .fill .ensures .1)
     ∙ fresh-full (a .file .now) (a .buffer .now) (a .shared .now)
 
 pub fresh-judged-spec : {M : Type 1} → statement M

@@ -1,84 +1,56 @@
--- `machine::next_core` meets its contract: file, trace, state and the given core are judged in this order; then the scan. Assumes nothing.
+-- `machine::next_core` meets its contract: the call is judged, with the given core as the one that is named; then the scan. Assumes nothing.
 use mathlib.Core.Path.{sym, ap, _∙_}
 use native.Mathlib.Omega.{arith}
-use borrow.Author.Needs.{needs}
 use Rattle.taskset.specs.declared.Layout.{Layout}
+use Rattle.taskset.proofs.Loading.{file-accepted, file-laid}
 use Rattle.states.proofs.Accepted.{accepted-set}
-use Rattle.taskset.proofs.Loading.{file-judged, file-accepted, file-laid}
-use Rattle.machine.proofs.Calls.{held-none, held-judged, held-tasks}
-use Rattle.machine.proofs.Nexts.{next-file, next-held, next-named, next-free, next-refused, next-granted}
+use Rattle.machine.proofs.Calls.{next-number}
+use Rattle.machine.proofs.Nexts.{next-known, next-refused, next-granted}
+use borrow.Author.Needs.{needs}
 use Rattle.machine.proofs.next_core.Statement.{statement}
 use Rattle.machine.proofs.next_core.Tie as tie
 
 load-requires : tie.Need-load-requires
 load-requires c κs = search needs
 
+slice-aggregate-judge-call : tie.Need-slice-aggregate-judge-call
+slice-aggregate-judge-call c = search needs
+
+judge-call-requires : tie.Need-judge-call-requires
+judge-call-requires c κs = λ z. (file-accepted _ _ (c .before .load .ensures) z, file-laid _ _ (c .before .load .ensures) z)
+
 returns : tie.Need-returns
 returns c =
-    let loaded = c .before .before in
-    let a = loaded .before .before .before .args in
+    let a = c .before .before .before .before .before .before .before .args in
     next-refused (a .file .now) (a .trace .now) (a .s) (a .given) _
-    (next-file (a .file .now) (a .trace .now) (a .s) (a .given) (file-judged (a .file .now) _ (loaded .load .ensures)) (c .if1 .taken)) (c .if1 .taken)
-
-prepare-requires : tie.Need-prepare-requires
-prepare-requires c κs =
-    let tested = c .before in
-    let loaded = tested .before .before in
-    let a = loaded .before .before .before .args in
-    (file-accepted (a .file .now) _ (loaded .load .ensures) (tested .if1 .left), file-laid (a .file .now) _ (loaded .load .ensures) (tested .if1 .left))
-
-returns-2 : tie.Need-returns-2
-returns-2 c =
-    let held = c .before .before in
-    let tested = held .before .before in
-    let loaded = tested .before .before in
-    let a = loaded .before .before .before .args in
-    next-refused (a .file .now) (a .trace .now) (a .s) (a .given) _
-    (next-held (a .file .now) (a .trace .now) (a .s) (a .given) (file-accepted (a .file .now) _ (loaded .load .ensures) (tested .if1 .left))
-    (held-judged (a .file .now) (a .trace .now) (a .s) _ (held .prepare .ensures)) (c .if2 .taken)) (c .if2 .taken)
-
-returns-3 : tie.Need-returns-3
-returns-3 c =
-    let passed = c .before .before in
-    let held = passed .before .before in
-    let tested = held .before .before in
-    let loaded = tested .before .before in
-    let a = loaded .before .before .before .args in
-    let accepted = file-accepted (a .file .now) _ (loaded .load .ensures) (tested .if1 .left) in
-    let laid = ap (λ (l : Layout). l .cores) (file-laid (a .file .now) _ (loaded .load .ensures) (tested .if1 .left)) in
-    let fit = sym (held-judged (a .file .now) (a .trace .now) (a .s) _ (held .prepare .ensures)) ∙ passed .if2 .left in
-    next-refused (a .file .now) (a .trace .now) (a .s) (a .given) 20
-    (next-named (a .file .now) (a .trace .now) (a .s) (a .given) accepted fit (omega (arith, laid, c .if3 .taken))) (λ e. absurd (omega arith))
+    (c .before .before .judge-call .ensures .number ∙ next-number (a .file .now) (a .trace .now) (a .s) (a .given) _ (c .before .before .before .before .load .ensures)) (c .if1 .taken)
 
 next-moving-requires : tie.Need-next-moving-requires
 next-moving-requires c κs =
-    let passed = c .before .before .before in
-    let held = passed .before .before in
-    let tested = held .before .before in
-    let loaded = tested .before .before in
-    let a = loaded .before .before .before .args in
-    let accepted = file-accepted (a .file .now) _ (loaded .load .ensures) (tested .if1 .left) in
-    let laid = ap (λ (l : Layout). l .cores) (file-laid (a .file .now) _ (loaded .load .ensures) (tested .if1 .left)) in
-    let fit = sym (held-judged (a .file .now) (a .trace .now) (a .s) _ (held .prepare .ensures)) ∙ passed .if2 .left in
-    let known = loaded .before in (
-      accepted-set (a .file .now) (a .trace .now) (λ i. omega (arith, known .before .shared-slice-known .given i)) (λ i. omega (arith, known .shared-slice-known2 .given i)) accepted (held-none (a .file .now) (a .trace .now) (a .s) fit .0),
-      held-tasks (a .file .now) (a .trace .now) (a .s) _ (held .prepare .ensures) (passed .if2 .left),
-      laid,
-      omega (arith, c .before .if3 .left),
+    let a = c .before .before .before .before .before .before .before .before .args in
+    let judged = c .before .before .before .judge-call .ensures in
+    let none = sym (judged .number ∙ next-number (a .file .now) (a .trace .now) (a .s) (a .given) _ (c .before .before .before .before .before .load .ensures)) ∙ c .before .if1 .left in
+    let known = next-known (a .file .now) (a .trace .now) (a .s) (a .given) none in
+    let cores = ap (λ (l : Layout). l .cores) (judged .laid (c .before .if1 .left)) in (
+      accepted-set (a .file .now) (a .trace .now) (λ i. omega (arith, c .before .before .before .before .before .before .before .shared-slice-known .given i)) (λ i. omega (arith, c .before .before .before .before .before .before .shared-slice-known2 .given i)) (known .0) (known .1),
+      judged .tasked (c .before .if1 .left),
+      cores,
+      omega (arith, cores, known .2),
     )
 
-returns-4 : tie.Need-returns-4
-returns-4 c =
-    let passed = c .before .before .before .before in
-    let held = passed .before .before in
-    let tested = held .before .before in
-    let loaded = tested .before .before in
-    let a = loaded .before .before .before .args in
-    let accepted = file-accepted (a .file .now) _ (loaded .load .ensures) (tested .if1 .left) in
-    let laid = ap (λ (l : Layout). l .cores) (file-laid (a .file .now) _ (loaded .load .ensures) (tested .if1 .left)) in
-    let fit = sym (held-judged (a .file .now) (a .trace .now) (a .s) _ (held .prepare .ensures)) ∙ passed .if2 .left in
+returns-2 : tie.Need-returns-2
+returns-2 c =
+    let a = c .before .before .before .before .before .before .before .before .before .args in
     next-granted (a .file .now) (a .trace .now) (a .s) (a .given) _
-    (next-free (a .file .now) (a .trace .now) (a .s) (a .given) accepted fit (omega (arith, laid, c .before .before .if3 .left))) (c .next-moving .ensures)
+    (sym (c .before .before .before .before .judge-call .ensures .number ∙ next-number (a .file .now) (a .trace .now) (a .s) (a .given) _ (c .before .before .before .before .before .before .load .ensures)) ∙ c .before .before .if1 .left) (c .next-moving .ensures)
 
 pub next-core-spec : {M : Type 1} → statement M
-next-core-spec = tie.close (tie.spec load-requires returns prepare-requires returns-2 returns-3 next-moving-requires returns-4)
+next-core-spec =
+    tie.close
+    (tie.spec
+    load-requires
+    slice-aggregate-judge-call
+    judge-call-requires
+    returns
+    next-moving-requires
+    returns-2)

@@ -3,7 +3,7 @@ use mathlib.Core.Path.{sym, ap, _∙_}
 use native.Mathlib.Omega.{arith}
 use borrow.Author.Needs.{needs}
 use lib.ListN.{length}
-use Rattle.machine.proofs.Judged.{few-variables, near-first, first-is, end-is, set-of, fit-of, going}
+use Rattle.machine.proofs.Judged.{few-variables, near-first, aim-given, run-given}
 use Rattle.machine.proofs.run_judged.Statement.{statement}
 use Rattle.machine.proofs.run_judged.Tie as tie
 
@@ -14,16 +14,46 @@ offsets-of-requires : tie.Need-offsets-of-requires
 offsets-of-requires c κs = search needs
 
 mul-end : tie.Need-mul-end
-mul-end c = omega (arith, few-variables (c .before .before .before .before .before .before .before .before .before .args .file .now) (c .before .before .before .before .before .before .before .before .before .args .trace .now) (c .before .before .before .before .before .before .before .before .before .args .s) (c .before .before .before .before .before .before .before .before .before .args .buffer .now) (c .before .before .before .before .before .before .before .before .before .args .shared .now) (c .before .before .before .before .before .before .before .before .before .args .order .now) (c .before .before .before .before .before .before .before .before .before .args .list .now) (c .before .before .before .before .before .before .before .before .before .pre .2) _ (c .before .before .before .before .before .before .before .before .before .pre .0))
+mul-end c =
+    let start = c .before .before .before .before .before .before .before .before .before in
+    let a = start .args in
+    omega (arith, few-variables (a .file .now) (a .trace .now) (a .s) (a .buffer .now) (a .shared .now) (a .order .now) (a .list .now) (start .pre .2) (a .layout) (start .pre .0))
 
 add-end : tie.Need-add-end
-add-end c = omega (arith, few-variables (c .before .before .before .before .before .before .before .before .before .args .file .now) (c .before .before .before .before .before .before .before .before .before .args .trace .now) (c .before .before .before .before .before .before .before .before .before .args .s) (c .before .before .before .before .before .before .before .before .before .args .buffer .now) (c .before .before .before .before .before .before .before .before .before .args .shared .now) (c .before .before .before .before .before .before .before .before .before .args .order .now) (c .before .before .before .before .before .before .before .before .before .args .list .now) (c .before .before .before .before .before .before .before .before .before .pre .2) _ (c .before .before .before .before .before .before .before .before .before .pre .0), near-first (c .before .before .before .before .before .before .before .before .before .args .file .now) (c .before .before .before .before .before .before .before .before .before .args .trace .now) (c .before .before .before .before .before .before .before .before .before .args .s) (c .before .before .before .before .before .before .before .before .before .args .buffer .now) (c .before .before .before .before .before .before .before .before .before .args .shared .now) (c .before .before .before .before .before .before .before .before .before .args .order .now) (c .before .before .before .before .before .before .before .before .before .args .list .now) (c .before .before .before .before .before .before .before .before .before .pre .2) _ (c .before .before .before .before .before .before .before .before .before .pre .0))
+add-end c =
+    let before = c .before .before .before .before .before .before .before .before in
+    let start = before .before in
+    let a = start .args in
+    omega (
+      arith,
+      few-variables (a .file .now) (a .trace .now) (a .s) (a .buffer .now) (a .shared .now) (a .order .now) (a .list .now) (start .pre .2) (a .layout)
+          (start .pre .0),
+      near-first (a .file .now) (a .trace .now) (a .s) (a .buffer .now) (a .shared .now) (a .order .now) (a .list .now) (start .pre .2) (a .layout)
+          (start .pre .0),
+    )
 
 aim-of-requires : tie.Need-aim-of-requires
-aim-of-requires c κs = (set-of (c .before .before .before .before .before .before .before .before .before .before .before .args .file .now) (c .before .before .before .before .before .before .before .before .before .before .before .args .trace .now) (c .before .before .before .before .before .before .before .before .before .before .before .args .s) (c .before .before .before .before .before .before .before .before .before .before .before .args .buffer .now) (c .before .before .before .before .before .before .before .before .before .before .before .args .shared .now) (c .before .before .before .before .before .before .before .before .before .before .before .args .order .now) (c .before .before .before .before .before .before .before .before .before .before .before .args .list .now) (c .before .before .before .before .before .before .before .before .before .before .before .pre .2) _ (c .before .before .before .before .before .before .before .before .before .before .before .pre .0) (λ i. omega (arith, c .before .before .before .before .before .before .before .before .before .before .shared-slice-known .given i)) (λ i. omega (arith, c .before .before .before .before .before .before .before .before .before .shared-slice-known2 .given i)) (ap length (sym (c .before .before .before .before .places-of .ensures .0)) ∙ c .before .before .before .before .places-of .ensures .1) (ap length (sym (c .before .before .before .offsets-of .ensures .0)) ∙ c .before .before .before .offsets-of .ensures .1), first-is (c .before .before .before .before .before .before .before .before .before .before .before .args .file .now) (c .before .before .before .before .before .before .before .before .before .before .before .args .trace .now) (c .before .before .before .before .before .before .before .before .before .before .before .args .s) (c .before .before .before .before .before .before .before .before .before .before .before .args .buffer .now) (c .before .before .before .before .before .before .before .before .before .before .before .args .shared .now) (c .before .before .before .before .before .before .before .before .before .before .before .args .order .now) (c .before .before .before .before .before .before .before .before .before .before .before .args .list .now) (c .before .before .before .before .before .before .before .before .before .before .before .pre .2) _ (c .before .before .before .before .before .before .before .before .before .before .before .pre .0), end-is (c .before .before .before .before .before .before .before .before .before .before .before .args .file .now) (c .before .before .before .before .before .before .before .before .before .before .before .args .trace .now) (c .before .before .before .before .before .before .before .before .before .before .before .args .s) (c .before .before .before .before .before .before .before .before .before .before .before .args .buffer .now) (c .before .before .before .before .before .before .before .before .before .before .before .args .shared .now) (c .before .before .before .before .before .before .before .before .before .before .before .args .order .now) (c .before .before .before .before .before .before .before .before .before .before .before .args .list .now) (c .before .before .before .before .before .before .before .before .before .before .before .pre .2) _ (c .before .before .before .before .before .before .before .before .before .before .before .pre .0), fit-of (c .before .before .before .before .before .before .before .before .before .before .before .args .file .now) (c .before .before .before .before .before .before .before .before .before .before .before .args .trace .now) (c .before .before .before .before .before .before .before .before .before .before .before .args .s) (c .before .before .before .before .before .before .before .before .before .before .before .args .buffer .now) (c .before .before .before .before .before .before .before .before .before .before .before .args .shared .now) (c .before .before .before .before .before .before .before .before .before .before .before .args .order .now) (c .before .before .before .before .before .before .before .before .before .before .before .args .list .now) (c .before .before .before .before .before .before .before .before .before .before .before .pre .2) _ (c .before .before .before .before .before .before .before .before .before .before .before .pre .0) (λ i. omega (arith, c .before .before .before .before .before .before .before .before .before .before .shared-slice-known .given i)) (λ i. omega (arith, c .before .before .before .before .before .before .before .before .before .shared-slice-known2 .given i)) (ap length (sym (c .before .before .before .before .places-of .ensures .0)) ∙ c .before .before .before .before .places-of .ensures .1) (ap length (sym (c .before .before .before .offsets-of .ensures .0)) ∙ c .before .before .before .offsets-of .ensures .1))
+aim-of-requires c κs =
+    let places = c .before .before .before .before in
+    let offsets = c .before .before .before in
+    let known = c .before .before .before .before .before .before .before .before .before in
+    let start = known .before .before in
+    let a = start .args in
+    aim-given (a .file .now) (a .trace .now) (a .s) (a .buffer .now) (a .shared .now) (a .order .now) (a .list .now) (start .pre .2) (a .layout) (start .pre .0)
+    (λ i. omega (arith, known .before .shared-slice-known .given i)) (λ i. omega (arith, known .shared-slice-known2 .given i))
+    (ap length (sym (places .places-of .ensures .0)) ∙ places .places-of .ensures .1) (ap length (sym (offsets .offsets-of .ensures .0)) ∙ offsets .offsets-of .ensures .1)
 
 run-order-requires : tie.Need-run-order-requires
-run-order-requires c κs = going (c .before .before .before .before .before .before .before .before .before .before .before .before .before .before .before .args .file .now) (c .before .before .before .before .before .before .before .before .before .before .before .before .before .before .before .args .trace .now) (c .before .before .before .before .before .before .before .before .before .before .before .before .before .before .before .args .s) (c .before .before .before .before .before .before .before .before .before .before .before .before .before .before .before .args .buffer .now) (c .before .before .before .before .before .before .before .before .before .before .before .before .before .before .before .args .shared .now) (c .before .before .before .before .before .before .before .before .before .before .before .before .before .before .before .args .order .now) (c .before .before .before .before .before .before .before .before .before .before .before .before .before .before .before .args .list .now) (c .before .before .before .before .before .before .before .before .before .before .before .before .before .before .before .pre .2) _ (c .before .before .before .before .before .before .before .before .before .before .before .before .before .before .before .pre .0) (λ i. omega (arith, c .before .before .before .before .before .before .before .before .before .before .before .before .before .before .shared-slice-known .given i)) (λ i. omega (arith, c .before .before .before .before .before .before .before .before .before .before .before .before .before .shared-slice-known2 .given i)) (ap length (sym (c .before .before .before .before .before .before .before .before .places-of .ensures .0)) ∙ c .before .before .before .before .before .before .before .before .places-of .ensures .1) (ap length (sym (c .before .before .before .before .before .before .before .offsets-of .ensures .0)) ∙ c .before .before .before .before .before .before .before .offsets-of .ensures .1) _ (c .before .before .before .before .before .before .before .before .before .before .before .before .before .before .before .pre .1) _ (c .before .before .before .aim-of .ensures)
+run-order-requires c κs =
+    let places = c .before .before .before .before .before .before .before .before in
+    let offsets = c .before .before .before .before .before .before .before in
+    let known = c .before .before .before .before .before .before .before .before .before .before .before .before .before in
+    let start = known .before .before in
+    let a = start .args in
+    run-given (a .file .now) (a .trace .now) (a .s) (a .buffer .now) (a .shared .now) (a .order .now) (a .list .now) (start .pre .2) (a .layout) (start .pre .0)
+    (λ i. omega (arith, known .before .shared-slice-known .given i)) (λ i. omega (arith, known .shared-slice-known2 .given i))
+    (ap length (sym (places .places-of .ensures .0)) ∙ places .places-of .ensures .1) (ap length (sym (offsets .offsets-of .ensures .0)) ∙ offsets .offsets-of .ensures .1)
+    _ (start .pre .1) _ (c .before .before .before .aim-of .ensures)
 
 same-length : tie.Need-same-length
 same-length c = search needs

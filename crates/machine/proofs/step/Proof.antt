@@ -20,7 +20,11 @@ same-length-2 : tie.Need-same-length-2
 same-length-2 c = search needs
 
 returns : tie.Need-returns
-returns c = step-as-run (c .before .before .before .before .before .before .before .before .before .before .before .before .before .before .args .file .now) (c .before .before .before .before .before .before .before .before .before .before .before .before .before .before .args .trace .now) (c .before .before .before .before .before .before .before .before .before .before .before .before .before .before .args .s) (c .before .before .before .before .before .before .before .before .before .before .before .before .before .before .args .buffer .now) (c .before .before .before .before .before .before .before .before .before .before .before .before .before .before .args .shared .now) (c .before .before .before .before .before .before .before .before .before .before .before .before .before .before .args .core) 0 _ _ _ _ (c .before .before .before .before .before .run .ensures)
+returns c =
+    let run = c .before .before .before .before .before in
+    let start = run .before .before .before .before .before .before .before .before .before in
+    let a = start .args in
+    step-as-run (a .file .now) (a .trace .now) (a .s) (a .buffer .now) (a .shared .now) (a .core) 0 _ _ _ _ (run .run .ensures)
 
 pub step-spec : {M : Type 1} → statement M
 step-spec = tie.close (tie.spec slice-aggregate-run slice-aggregate-run-2 run-requires same-length same-length-2 returns)

@@ -17,13 +17,38 @@ read-released-requires : tie.Need-read-released-requires
 read-released-requires c κs = search needs
 
 run-alone-requires : tie.Need-run-alone-requires
-run-alone-requires c κs = (started-stands (c .before .before .before .before .before .before .before .before .before .before .before .before .before .args .file .now) (c .before .before .before .before .before .before .before .before .before .before .before .before .before .args .trace .now) (c .before .before .before .before .before .before .before .before .before .before .before .before .before .pre .accepted) (c .before .before .before .before .before .before .before .before .before .before .before .before .before .args .k) (c .before .before .before .before .before .before .before .before .before .before .before .before .before .pre .known) (c .before .before .before .before .before .before .before .before .before .before .before .before .before .args .r) (c .before .before .before .before .before .before .before .before .before .before .before .before .before .args .places .now) (c .before .before .before .before .before .before .before .before .before .before .before .before .before .args .offsets .now) (c .before .before .before .before .before .before .before .before .before .before .before .before .before .args .buffer .now) (c .before .before .before .before .before .before .before .before .before .before .before .before .before .args .shared .now) (c .before .before .before .before .before .before .before .before .before .before .before .before .before .pre .idle) (c .before .before .before .before .before .before .before .before .before .before .before .before .before .pre .due) _ _ (c .before .before .before .read-released .ensures ∙ ap readReleased (c .before .before .before .before .read-acquired .ensures ∙ ap (λ (n : ℕ). readAcquired n (c .before .before .before .before .before .before .before .before .before .before .before .before .before .args .r)) (c .before .before .before .before .before .before .before .read-exchange .ensures .0))) (c .before .before .before .before .before .before .before .read-exchange .ensures .1) (c .before .before .before .before .before .before .before .read-exchange .kept .1 .1 .1 .1 .1 .1 .1 .0) (c .before .before .before .before .before .before .before .before .before .before .before .before .before .pre .cs) (c .before .before .before .before .before .before .before .before .before .before .before .before .before .pre .here) (c .before .before .before .before .before .before .before .before .before .before .before .before .before .pre .rests), c .before .before .before .before .before .before .before .before .before .before .before .before .before .pre .task)
+run-alone-requires c κs =
+    let read-released = c .before .before .before in
+    let read-acquired = read-released .before in
+    let read-exchange = read-acquired .before .before .before in
+    let start = read-exchange .before .before .before .before .before .before in
+    let a = start .args in (
+      started-stands (a .file .now) (a .trace .now) (start .pre .accepted) (a .k) (start .pre .known) (a .r) (a .places .now) (a .offsets .now)
+          (a .buffer .now) (a .shared .now) (start .pre .idle) (start .pre .due) _ _
+          (read-released .read-released .ensures ∙ ap readReleased
+          (read-acquired .read-acquired .ensures ∙ ap (λ (n : ℕ). readAcquired n (a .r)) (read-exchange .read-exchange .ensures .0)))
+          (read-exchange .read-exchange .ensures .1) (read-exchange .read-exchange .kept .1 .1 .1 .1 .1 .1 .1 .0) (start .pre .cs) (start .pre .here)
+          (start .pre .rests),
+      start .pre .task,
+    )
 
 same-length : tie.Need-same-length
 same-length c = search needs
 
 returns : tie.Need-returns
-returns c = reads-of (c .before .before .before .before .before .before .before .before .before .before .before .before .before .before .before .before .args .file .now) (c .before .before .before .before .before .before .before .before .before .before .before .before .before .before .before .before .args .trace .now) (c .before .before .before .before .before .before .before .before .before .before .before .before .before .before .before .before .pre .accepted) (c .before .before .before .before .before .before .before .before .before .before .before .before .before .before .before .before .args .k) (c .before .before .before .before .before .before .before .before .before .before .before .before .before .before .before .before .pre .known) (c .before .before .before .before .before .before .before .before .before .before .before .before .before .before .before .before .args .r) (c .before .before .before .before .before .before .before .before .before .before .before .before .before .before .before .before .args .places .now) (c .before .before .before .before .before .before .before .before .before .before .before .before .before .before .before .before .args .offsets .now) (c .before .before .before .before .before .before .before .before .before .before .before .before .before .before .before .before .args .buffer .now) (c .before .before .before .before .before .before .before .before .before .before .before .before .before .before .before .before .args .shared .now) (c .before .before .before .before .before .before .before .before .before .before .before .before .before .before .before .before .pre .idle) (c .before .before .before .before .before .before .before .before .before .before .before .before .before .before .before .before .pre .due) _ _ (c .before .before .before .before .before .before .read-released .ensures ∙ ap readReleased (c .before .before .before .before .before .before .before .read-acquired .ensures ∙ ap (λ (n : ℕ). readAcquired n (c .before .before .before .before .before .before .before .before .before .before .before .before .before .before .before .before .args .r)) (c .before .before .before .before .before .before .before .before .before .before .read-exchange .ensures .0))) (c .before .before .before .before .before .before .before .before .before .before .read-exchange .ensures .1) (c .before .before .before .before .before .before .before .before .before .before .read-exchange .kept .1 .1 .1 .1 .1 .1 .1 .0) _ _ _ _ (c .before .before .run-alone .ensures .1) (c .before .before .run-alone .ensures .0)
+returns c =
+    let run-alone = c .before .before in
+    let read-released = run-alone .before .before .before .before in
+    let read-acquired = read-released .before in
+    let read-exchange = read-acquired .before .before .before in
+    let start = read-exchange .before .before .before .before .before .before in
+    let a = start .args in
+    reads-of (a .file .now) (a .trace .now) (start .pre .accepted) (a .k) (start .pre .known) (a .r) (a .places .now) (a .offsets .now)
+    (a .buffer .now) (a .shared .now) (start .pre .idle) (start .pre .due) _ _
+    (read-released .read-released .ensures ∙ ap readReleased
+    (read-acquired .read-acquired .ensures ∙ ap (λ (n : ℕ). readAcquired n (a .r)) (read-exchange .read-exchange .ensures .0)))
+    (read-exchange .read-exchange .ensures .1) (read-exchange .read-exchange .kept .1 .1 .1 .1 .1 .1 .1 .0) _ _ _ _ (run-alone .run-alone .ensures .1)
+    (run-alone .run-alone .ensures .0)
 
 pub read-spec : {M : Type 1} → statement M
 read-spec =

@@ -12,16 +12,33 @@ use Rattle.rerun.proofs.read_data.Statement.{statement}
 use Rattle.rerun.proofs.read_data.Tie as tie
 
 take-record-requires : tie.Need-take-record-requires
-take-record-requires c κs = (c .before .before .before .before .before .pre .0, c .before .before .before .before .before .pre .1)
+take-record-requires c κs = (c .before .before .before .before .before .pre .0 .ready, c .before .before .before .before .before .pre .1)
 
 bring-all-requires : tie.Need-bring-all-requires
-bring-all-requires c κs = (c .before .before .before .before .before .before .before .before .before .pre .0 .accepted .laid, c .before .before .before .before .before .before .before .before .before .pre .0 .known, c .before .before .before .before .before .before .before .before .before .pre .2, c .before .before .before .before .before .before .before .before .before .pre .3, ap length (c .before .before .before .take-record .ensures .1) ∙ length-splice _ 0 _ ∙ c .before .before .before .before .before .before .before .before .before .pre .0 .fit .size, c .before .before .before .before .before .before .before .before .before .pre .4)
+bring-all-requires c κs =
+    let take-record = c .before .before .before in
+    let start = take-record .before .before .before .before .before .before in (
+      start .pre .0 .ready .accepted .laid,
+      start .pre .0 .ready .known,
+      start .pre .0 .from,
+      start .pre .0 .upto,
+      ap length (take-record .take-record .ensures .1) ∙ length-splice _ 0 _ ∙ start .pre .0 .ready .fit .size,
+      start .pre .0 .shared,
+    )
 
 same-length : tie.Need-same-length
 same-length c = search needs
 
 returns : tie.Need-returns
-returns c = (c .before .before .before .before .before .before .take-record .ensures .0, c .before .before .bring-all .ensures ∙ ap (λ (l : List ℕ). copy (readsOf (variablesOf (c .before .before .before .before .before .before .before .before .before .before .before .before .args .file .now)) (c .before .before .before .before .before .before .before .before .before .before .before .before .args .k)) (c .before .before .before .before .before .before .before .before .before .before .before .before .args .shared .now) l) (c .before .before .before .before .before .before .take-record .ensures .1))
+returns c =
+    let bring-all = c .before .before in
+    let take-record = bring-all .before .before .before .before in
+    let start = take-record .before .before .before .before .before .before in
+    let a = start .args in (
+      take-record .take-record .ensures .0,
+      bring-all .bring-all .ensures ∙ ap (λ (l : List ℕ). copy (readsOf (variablesOf (a .file .now)) (a .k)) (a .shared .now) l)
+          (take-record .take-record .ensures .1),
+    )
 
 pub read-data-spec : {M : Type 1} → statement M
 read-data-spec = tie.close (tie.spec take-record-requires bring-all-requires same-length returns)

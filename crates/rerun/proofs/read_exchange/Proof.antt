@@ -14,7 +14,7 @@ use Rattle.rerun.proofs.read_exchange.Statement.{statement}
 use Rattle.rerun.proofs.read_exchange.Tie as tie
 
 add-e : tie.Need-add-e
-add-e c = record { fits = omega (arith, stretch-inside _ (c .before .before .before .before .before .pre .0) (c .before .before .before .before .before .pre .1)) }
+add-e c = record { fits = omega (arith, stretch-inside _ (c .before .before .before .before .before .pre .0 .ready) (c .before .before .before .before .before .pre .2)) }
 
 sub-read-data : tie.Need-sub-read-data
 sub-read-data c = search needs
@@ -23,16 +23,34 @@ part-read-data-start : tie.Need-part-read-data-start
 part-read-data-start c = search needs
 
 part-read-data-end : tie.Need-part-read-data-end
-part-read-data-end c = omega (arith, stretch-inside _ (c .before .before .before .before .before .pre .0) (c .before .before .before .before .before .pre .1))
+part-read-data-end c = omega (arith, stretch-inside _ (c .before .before .before .before .before .pre .0 .ready) (c .before .before .before .before .before .pre .2))
 
 read-data-requires : tie.Need-read-data-requires
-read-data-requires c κs = (subst⁻¹ (StepGiven _ _ _ _ _) (stretch-is _ (c .before .before .before .before .before .before .pre .0) (c .before .before .before .before .before .before .pre .1) _ refl) (c .before .before .before .before .before .before .pre .0), c .before .before .before .before .before .before .pre .2, c .before .before .before .before .before .before .pre .3, c .before .before .before .before .before .before .pre .4, c .before .before .before .before .before .before .pre .5)
+read-data-requires c κs =
+    let given = c .before .before .before .before .before .before .pre in (
+      record {
+        ready = subst⁻¹ (StepGiven _ _ _ _ _) (stretch-is _ (given .0 .ready) (given .2) _ refl) (given .0 .ready);
+        from = given .0 .from;
+        upto = given .0 .upto;
+        shared = given .0 .shared;
+      },
+      given .1,
+    )
 
 same-length : tie.Need-same-length
 same-length c = search needs
 
 returns : tie.Need-returns
-returns c = (c .before .before .read-data .ensures .0, stretch-kept _ (c .before .before .before .before .before .before .before .before .before .pre .0) (c .before .before .before .before .before .before .before .before .before .pre .1) _ refl _ (c .before .before .read-data .kept .1 .1 .1 .1 .1 .1 .1 .0) ∙ ap (λ (l : List ℕ). set (split (sizesOf (c .before .before .before .before .before .before .before .before .before .args .file .now)) (c .before .before .before .before .before .before .before .before .before .args .buffer .now)) (c .before .before .before .before .before .before .before .before .before .args .k) l) (c .before .before .read-data .ensures .1 ∙ ap (λ (l : List ℕ). broughtTo (c .before .before .before .before .before .before .before .before .before .args .file .now) (c .before .before .before .before .before .before .before .before .before .args .trace .now) (c .before .before .before .before .before .before .before .before .before .args .k) (c .before .before .before .before .before .before .before .before .before .args .r) (c .before .before .before .before .before .before .before .before .before .args .shared .now) l) (stretch-is _ (c .before .before .before .before .before .before .before .before .before .pre .0) (c .before .before .before .before .before .before .before .before .before .pre .1) _ refl)))
+returns c =
+    let read-data = c .before .before in
+    let start = read-data .before .before .before .before .before .before .before in
+    let a = start .args in (
+      read-data .read-data .ensures .0,
+      stretch-kept _ (start .pre .0 .ready) (start .pre .2) _ refl _ (read-data .read-data .kept .1 .1 .1 .1 .1 .1 .1 .0)
+          ∙ ap (λ (l : List ℕ). set (split (sizesOf (a .file .now)) (a .buffer .now)) (a .k) l)
+          (read-data .read-data .ensures .1 ∙ ap (λ (l : List ℕ). broughtTo (a .file .now) (a .trace .now) (a .k) (a .r) (a .shared .now) l)
+          (stretch-is _ (start .pre .0 .ready) (start .pre .2) _ refl)),
+    )
 
 pub read-exchange-spec : {M : Type 1} → statement M
 read-exchange-spec =

@@ -20,7 +20,7 @@ abbrev μ-loop : tie.MeasureT-loop
 μ-loop file trace list buffer₀ shared₀ tasks s cores₀ places₀ offsets₀ n first end i₀ buffer shared cores places offsets i = length list - i
 
 fresh-judged-requires : tie.Need-fresh-judged-requires Inv-loop μ-loop
-fresh-judged-requires c κs = (c .before .before .before .before .before .before .before .pre .0 .file, c .before .before .before .before .before .before .before .pre .1, c .before .before .before .before .before .before .before .pre .3)
+fresh-judged-requires c κs = let given = c .before .before .before .before .before .before .before .pre in record { accepted = given .accepted .file; laid = given .laid; fits = given .fits }
 
 table-of-requires : tie.Need-table-of-requires Inv-loop μ-loop
 table-of-requires c κs = search needs
@@ -32,13 +32,29 @@ offsets-of-requires : tie.Need-offsets-of-requires Inv-loop μ-loop
 offsets-of-requires c κs = search needs
 
 mul-end : tie.Need-mul-end Inv-loop μ-loop
-mul-end c = omega (arith, few-variables (c .before .before .before .before .before .before .before .before .before .before .before .before .before .before .before .before .before .pre .0) (c .before .before .before .before .before .before .before .before .before .before .before .before .before .before .before .before .before .pre .1))
+mul-end c =
+    let start = c .before .before .before .before .before .before .before .before .before .before .before .before .before .before .before .before .before in
+    omega (arith, few-variables (start .pre .accepted) (start .pre .laid))
 
 add-end : tie.Need-add-end Inv-loop μ-loop
-add-end c = omega (arith, few-variables (c .before .before .before .before .before .before .before .before .before .before .before .before .before .before .before .before .before .pre .0) (c .before .before .before .before .before .before .before .before .before .before .before .before .before .before .before .before .before .pre .1), near-first (c .before .before .before .before .before .before .before .before .before .before .before .before .before .before .before .before .before .pre .0) (c .before .before .before .before .before .before .before .before .before .before .before .before .before .before .before .before .before .pre .1))
+add-end c =
+    let start = c .before .before .before .before .before .before .before .before .before .before .before .before .before .before .before .before .before in
+    omega (arith, few-variables (start .pre .accepted) (start .pre .laid), near-first (start .pre .accepted) (start .pre .laid))
 
 loop-holds : tie.Need-loop-holds Inv-loop μ-loop
-loop-holds c = rerun-start _ _ _ (c .before .before .before .before .before .before .before .before .before .before .before .before .before .before .before .before .before .pre .0) (λ i. omega (arith, c .before .before .before .before .before .before .before .before .before .before .before .before .before .before .before .before .shared-slice-known .given i)) (λ i. omega (arith, c .before .before .before .before .before .before .before .before .before .before .before .before .before .before .before .shared-slice-known2 .given i)) (c .before .before .before .before .before .before .before .before .before .before .before .before .before .before .before .before .before .args .buffer .now) (c .before .before .before .before .before .before .before .before .before .before .before .before .before .before .before .before .before .args .shared .now) (c .before .before .before .before .before .before .before .before .before .before .before .before .before .before .before .before .before .pre .3) (c .before .before .before .before .before .before .before .before .before .fresh-judged .result) _ _ (c .before .before .before .before .before .before .before .before .before .fresh-judged .ensures) (c .before .before .before .table-of .ensures) (c .before .before .places-of .ensures) (c .before .offsets-of .ensures)
+loop-holds c =
+    let offsets-of = c .before in
+    let places-of = offsets-of .before in
+    let table-of = places-of .before in
+    let fresh-judged = table-of .before .before .before .before .before .before in
+    let shared-slice-known2 = fresh-judged .before .before .before .before .before .before in
+    let shared-slice-known = shared-slice-known2 .before in
+    let start = shared-slice-known .before in
+    let a = start .args in
+    rerun-start _ _ _ (start .pre .accepted) (λ i. omega (arith, shared-slice-known .shared-slice-known .given i))
+    (λ i. omega (arith, shared-slice-known2 .shared-slice-known2 .given i)) (a .buffer .now) (a .shared .now) (start .pre .fits)
+    (fresh-judged .fresh-judged .result) _ _ (fresh-judged .fresh-judged .ensures) (table-of .table-of .ensures) (places-of .places-of .ensures)
+    (offsets-of .offsets-of .ensures)
 
 shared-slice-read-b : tie.Need-shared-slice-read-b Inv-loop μ-loop
 shared-slice-read-b c = search needs
@@ -53,25 +69,51 @@ refused-requires : tie.Need-refused-requires Inv-loop μ-loop
 refused-requires c κs = search needs
 
 same-length : tie.Need-same-length Inv-loop μ-loop
-same-length c = c .before .before .before .before .before .loop .inv .buffer ∙ sym (lent-lengths (c .before .before .before .before .before .before .before .before .before .before .before .before .before .before .before .before .before .before .before .before .before .before .before .args .file .now) (length (c .before .before .before .before .before .before .before .before .before .before .before .before .before .before .before .before .before .before .before .before .before .before .before .args .buffer .now)) (length (c .before .before .before .before .before .before .before .before .before .before .before .before .before .before .before .before .before .before .before .before .before .before .before .args .shared .now)) (c .before .before .before .before .before .before .before .before .before .before .before .before .before .before .before .before .before .before .before .before .before .before .before .pre .3) .0)
+same-length c =
+    let loop = c .before .before .before .before .before in
+    let start = loop .before .before .before .before .before .before .before .before .before .before .before .before .before .before .before .before .before .before in
+    let a = start .args in
+    loop .loop .inv .buffer ∙ sym (lent-lengths (a .file .now) (length (a .buffer .now)) (length (a .shared .now)) (start .pre .fits) .0)
 
 same-length-2 : tie.Need-same-length-2 Inv-loop μ-loop
-same-length-2 c = c .before .before .before .before .before .loop .inv .shared ∙ sym (lent-lengths (c .before .before .before .before .before .before .before .before .before .before .before .before .before .before .before .before .before .before .before .before .before .before .before .args .file .now) (length (c .before .before .before .before .before .before .before .before .before .before .before .before .before .before .before .before .before .before .before .before .before .before .before .args .buffer .now)) (length (c .before .before .before .before .before .before .before .before .before .before .before .before .before .before .before .before .before .before .before .before .before .before .before .args .shared .now)) (c .before .before .before .before .before .before .before .before .before .before .before .before .before .before .before .before .before .before .before .before .before .before .before .pre .3) .1)
+same-length-2 c =
+    let loop = c .before .before .before .before .before in
+    let start = loop .before .before .before .before .before .before .before .before .before .before .before .before .before .before .before .before .before .before in
+    let a = start .args in
+    loop .loop .inv .shared ∙ sym (lent-lengths (a .file .now) (length (a .buffer .now)) (length (a .shared .now)) (start .pre .fits) .1)
 
 returns : tie.Need-returns Inv-loop μ-loop
-returns c = reran-none _ _ _ _ _ _ (c .refused .ensures) (no-core (c .before .before .before .before .before .before .before .before .before .before .before .before .before .before .before .before .before .before .before .before .before .before .before .pre .0) (c .before .before .before .before .before .loop .inv) (c .before .before .before .before .loop-test .taken) _ refl (c .before .before .named-core .result) (c .before .before .named-core .ensures) (omega (arith, c .before .if1 .taken, cores-are (c .before .before .before .before .before .before .before .before .before .before .before .before .before .before .before .before .before .before .before .before .before .before .before .pre .0) (c .before .before .before .before .before .before .before .before .before .before .before .before .before .before .before .before .before .before .before .before .before .before .before .pre .1))))
+returns c =
+    let if1 = c .before in
+    let named-core = if1 .before in
+    let loop-test = named-core .before .before in
+    let loop = loop-test .before in
+    let start = loop .before .before .before .before .before .before .before .before .before .before .before .before .before .before .before .before .before .before in
+    reran-none _ _ _ _ _ _ (c .refused .ensures)
+    (no-core (start .pre .accepted) (loop .loop .inv) (loop-test .loop-test .taken) _ refl (named-core .named-core .result)
+    (named-core .named-core .ensures) (omega (arith, if1 .if1 .taken, cores-are (start .pre .accepted) (start .pre .laid))))
 
 mul-is-due : tie.Need-mul-is-due Inv-loop μ-loop
-mul-is-due c = omega (arith, known-few (c .before .before .before .before .before .before .before .before .before .before .before .before .before .before .before .before .before .before .before .before .before .before .pre .0) (c .before .before .before .before .before .before .before .before .before .before .before .before .before .before .before .before .before .before .before .before .before .before .pre .1) (c .if1 .left))
+mul-is-due c =
+    let start = c .before .before .before .before .before .before .before .before .before .before .before .before .before .before .before .before .before .before .before .before .before .before in
+    omega (arith, known-few (start .pre .accepted) (start .pre .laid) (c .if1 .left))
 
 array-copy-out-is-due : tie.Need-array-copy-out-is-due Inv-loop μ-loop
-array-copy-out-is-due c = search (needs, known-few (c .before .before .before .before .before .before .before .before .before .before .before .before .before .before .before .before .before .before .before .before .before .before .pre .0) (c .before .before .before .before .before .before .before .before .before .before .before .before .before .before .before .before .before .before .before .before .before .before .pre .1) (c .if1 .left))
+array-copy-out-is-due c =
+    let start = c .before .before .before .before .before .before .before .before .before .before .before .before .before .before .before .before .before .before .before .before .before .before in
+    search (needs, known-few (start .pre .accepted) (start .pre .laid) (c .if1 .left))
 
 mul-is-due-2 : tie.Need-mul-is-due-2 Inv-loop μ-loop
-mul-is-due-2 c = omega (arith, known-few (c .before .before .before .before .before .before .before .before .before .before .before .before .before .before .before .before .before .before .before .before .before .before .before .pre .0) (c .before .before .before .before .before .before .before .before .before .before .before .before .before .before .before .before .before .before .before .before .before .before .before .pre .1) (c .before .if1 .left))
+mul-is-due-2 c =
+    let if1 = c .before in
+    let start = if1 .before .before .before .before .before .before .before .before .before .before .before .before .before .before .before .before .before .before .before .before .before .before in
+    omega (arith, known-few (start .pre .accepted) (start .pre .laid) (if1 .if1 .left))
 
 element-copy-out-is-due : tie.Need-element-copy-out-is-due Inv-loop μ-loop
-element-copy-out-is-due c = search (needs, known-few (c .before .before .before .before .before .before .before .before .before .before .before .before .before .before .before .before .before .before .before .before .before .before .before .pre .0) (c .before .before .before .before .before .before .before .before .before .before .before .before .before .before .before .before .before .before .before .before .before .before .before .pre .1) (c .before .if1 .left))
+element-copy-out-is-due c =
+    let if1 = c .before in
+    let start = if1 .before .before .before .before .before .before .before .before .before .before .before .before .before .before .before .before .before .before .before .before .before .before in
+    search (needs, known-few (start .pre .accepted) (start .pre .laid) (if1 .if1 .left))
 
 is-due-requires : tie.Need-is-due-requires Inv-loop μ-loop
 is-due-requires c κs = search needs
@@ -80,82 +122,223 @@ refused-requires-2 : tie.Need-refused-requires-2 Inv-loop μ-loop
 refused-requires-2 c κs = search needs
 
 same-length-3 : tie.Need-same-length-3 Inv-loop μ-loop
-same-length-3 c = c .before .before .before .before .before .before .before .before .loop .inv .buffer ∙ sym (lent-lengths (c .before .before .before .before .before .before .before .before .before .before .before .before .before .before .before .before .before .before .before .before .before .before .before .before .before .before .args .file .now) (length (c .before .before .before .before .before .before .before .before .before .before .before .before .before .before .before .before .before .before .before .before .before .before .before .before .before .before .args .buffer .now)) (length (c .before .before .before .before .before .before .before .before .before .before .before .before .before .before .before .before .before .before .before .before .before .before .before .before .before .before .args .shared .now)) (c .before .before .before .before .before .before .before .before .before .before .before .before .before .before .before .before .before .before .before .before .before .before .before .before .before .before .pre .3) .0)
+same-length-3 c =
+    let loop = c .before .before .before .before .before .before .before .before in
+    let start = loop .before .before .before .before .before .before .before .before .before .before .before .before .before .before .before .before .before .before in
+    let a = start .args in
+    loop .loop .inv .buffer ∙ sym (lent-lengths (a .file .now) (length (a .buffer .now)) (length (a .shared .now)) (start .pre .fits) .0)
 
 same-length-4 : tie.Need-same-length-4 Inv-loop μ-loop
-same-length-4 c = c .before .before .before .before .before .before .before .before .loop .inv .shared ∙ sym (lent-lengths (c .before .before .before .before .before .before .before .before .before .before .before .before .before .before .before .before .before .before .before .before .before .before .before .before .before .before .args .file .now) (length (c .before .before .before .before .before .before .before .before .before .before .before .before .before .before .before .before .before .before .before .before .before .before .before .before .before .before .args .buffer .now)) (length (c .before .before .before .before .before .before .before .before .before .before .before .before .before .before .before .before .before .before .before .before .before .before .before .before .before .before .args .shared .now)) (c .before .before .before .before .before .before .before .before .before .before .before .before .before .before .before .before .before .before .before .before .before .before .before .before .before .before .pre .3) .1)
+same-length-4 c =
+    let loop = c .before .before .before .before .before .before .before .before in
+    let start = loop .before .before .before .before .before .before .before .before .before .before .before .before .before .before .before .before .before .before in
+    let a = start .args in
+    loop .loop .inv .shared ∙ sym (lent-lengths (a .file .now) (length (a .buffer .now)) (length (a .shared .now)) (start .pre .fits) .1)
 
 returns-2 : tie.Need-returns-2 Inv-loop μ-loop
-returns-2 c = reran-none _ _ _ _ _ _ (c .refused2 .ensures) (not-due (c .before .before .before .before .before .before .before .before .before .before .before .before .before .before .before .before .before .before .before .before .before .before .before .before .before .before .pre .0) (c .before .before .before .before .before .before .before .before .loop .inv) (c .before .before .before .before .before .before .before .loop-test .taken) _ refl (c .before .before .before .before .before .named-core .result) (c .before .before .before .before .before .named-core .ensures) (omega (arith, c .before .before .before .before .if1 .left, cores-are (c .before .before .before .before .before .before .before .before .before .before .before .before .before .before .before .before .before .before .before .before .before .before .before .before .before .before .pre .0) (c .before .before .before .before .before .before .before .before .before .before .before .before .before .before .before .before .before .before .before .before .before .before .before .before .before .before .pre .1))) _ (tasks-at _ _ (c .before .before .before .before .before .before .before .before .before .before .before .before .before .before .before .before .before .before .before .before .before .before .before .before .before .before .pre .0) _ (c .before .before .before .before .before .before .before .before .before .before .before .before .before .before .before .before .before .before .before .before .before .before .before .before .before .before .pre .2) _ (omega (arith, c .before .before .before .before .if1 .left, cores-are (c .before .before .before .before .before .before .before .before .before .before .before .before .before .before .before .before .before .before .before .before .before .before .before .before .before .before .pre .0) (c .before .before .before .before .before .before .before .before .before .before .before .before .before .before .before .before .before .before .before .before .before .before .before .before .before .before .pre .1)))) (sym (c .before .before .is-due .ensures) ∙ not-true _ (c .before .if2 .taken)))
+returns-2 c =
+    let if2 = c .before in
+    let is-due = if2 .before in
+    let if1 = is-due .before .before in
+    let named-core = if1 .before in
+    let loop-test = named-core .before .before in
+    let loop = loop-test .before in
+    let start = loop .before .before .before .before .before .before .before .before .before .before .before .before .before .before .before .before .before .before in
+    reran-none _ _ _ _ _ _ (c .refused2 .ensures)
+    (not-due (start .pre .accepted) (loop .loop .inv) (loop-test .loop-test .taken) _ refl (named-core .named-core .result)
+    (named-core .named-core .ensures) (omega (arith, if1 .if1 .left, cores-are (start .pre .accepted) (start .pre .laid))) _
+    (tasks-at _ _ (start .pre .accepted) _ (start .pre .tasked) _ (omega (arith, if1 .if1 .left, cores-are (start .pre .accepted) (start .pre .laid))))
+    (sym (is-due .is-due .ensures) ∙ not-true _ (if2 .if2 .taken)))
 
 mul-read : tie.Need-mul-read Inv-loop μ-loop
-mul-read c = omega (arith, known-few (c .before .before .before .before .before .before .before .before .before .before .before .before .before .before .before .before .before .before .before .before .before .before .before .before .before .before .pre .0) (c .before .before .before .before .before .before .before .before .before .before .before .before .before .before .before .before .before .before .before .before .before .before .before .before .before .before .pre .1) (c .before .before .before .before .if1 .left))
+mul-read c =
+    let if1 = c .before .before .before .before in
+    let start = if1 .before .before .before .before .before .before .before .before .before .before .before .before .before .before .before .before .before .before .before .before .before .before in
+    omega (arith, known-few (start .pre .accepted) (start .pre .laid) (if1 .if1 .left))
 
 array-copy-out-read : tie.Need-array-copy-out-read Inv-loop μ-loop
-array-copy-out-read c = search (needs, known-few (c .before .before .before .before .before .before .before .before .before .before .before .before .before .before .before .before .before .before .before .before .before .before .before .before .before .before .pre .0) (c .before .before .before .before .before .before .before .before .before .before .before .before .before .before .before .before .before .before .before .before .before .before .before .before .before .before .pre .1) (c .before .before .before .before .if1 .left))
+array-copy-out-read c =
+    let if1 = c .before .before .before .before in
+    let start = if1 .before .before .before .before .before .before .before .before .before .before .before .before .before .before .before .before .before .before .before .before .before .before in
+    search (needs, known-few (start .pre .accepted) (start .pre .laid) (if1 .if1 .left))
 
 mul-read-2 : tie.Need-mul-read-2 Inv-loop μ-loop
-mul-read-2 c = omega (arith, known-few (c .before .before .before .before .before .before .before .before .before .before .before .before .before .before .before .before .before .before .before .before .before .before .before .before .before .before .before .pre .0) (c .before .before .before .before .before .before .before .before .before .before .before .before .before .before .before .before .before .before .before .before .before .before .before .before .before .before .before .pre .1) (c .before .before .before .before .before .if1 .left))
+mul-read-2 c =
+    let if1 = c .before .before .before .before .before in
+    let start = if1 .before .before .before .before .before .before .before .before .before .before .before .before .before .before .before .before .before .before .before .before .before .before in
+    omega (arith, known-few (start .pre .accepted) (start .pre .laid) (if1 .if1 .left))
 
 array-copy-out-read-2 : tie.Need-array-copy-out-read-2 Inv-loop μ-loop
-array-copy-out-read-2 c = search (needs, known-few (c .before .before .before .before .before .before .before .before .before .before .before .before .before .before .before .before .before .before .before .before .before .before .before .before .before .before .before .pre .0) (c .before .before .before .before .before .before .before .before .before .before .before .before .before .before .before .before .before .before .before .before .before .before .before .before .before .before .before .pre .1) (c .before .before .before .before .before .if1 .left))
+array-copy-out-read-2 c =
+    let if1 = c .before .before .before .before .before in
+    let start = if1 .before .before .before .before .before .before .before .before .before .before .before .before .before .before .before .before .before .before .before .before .before .before in
+    search (needs, known-few (start .pre .accepted) (start .pre .laid) (if1 .if1 .left))
 
 read-requires : tie.Need-read-requires Inv-loop μ-loop
-read-requires c κs = reading-given (c .before .before .before .before .before .before .before .before .before .before .before .before .before .before .before .before .before .before .before .before .before .before .before .before .before .before .before .before .before .before .before .before .pre .0) (c .before .before .before .before .before .before .before .before .before .before .before .before .before .before .loop .inv) (c .before .before .before .before .before .before .before .before .before .before .before .before .before .loop-test .taken) _ refl (c .before .before .before .before .before .before .before .before .before .before .before .named-core .result) (c .before .before .before .before .before .before .before .before .before .before .before .named-core .ensures) (omega (arith, c .before .before .before .before .before .before .before .before .before .before .if1 .left, cores-are (c .before .before .before .before .before .before .before .before .before .before .before .before .before .before .before .before .before .before .before .before .before .before .before .before .before .before .before .before .before .before .before .before .pre .0) (c .before .before .before .before .before .before .before .before .before .before .before .before .before .before .before .before .before .before .before .before .before .before .before .before .before .before .before .before .before .before .before .before .pre .1))) _ (tasks-at _ _ (c .before .before .before .before .before .before .before .before .before .before .before .before .before .before .before .before .before .before .before .before .before .before .before .before .before .before .before .before .before .before .before .before .pre .0) _ (c .before .before .before .before .before .before .before .before .before .before .before .before .before .before .before .before .before .before .before .before .before .before .before .before .before .before .before .before .before .before .before .before .pre .2) _ (omega (arith, c .before .before .before .before .before .before .before .before .before .before .if1 .left, cores-are (c .before .before .before .before .before .before .before .before .before .before .before .before .before .before .before .before .before .before .before .before .before .before .before .before .before .before .before .before .before .before .before .before .pre .0) (c .before .before .before .before .before .before .before .before .before .before .before .before .before .before .before .before .before .before .before .before .before .before .before .before .before .before .before .before .before .before .before .before .pre .1)))) (sym (c .before .before .before .before .before .before .before .before .is-due .ensures) ∙ not-false _ (c .before .before .before .before .before .before .before .if2 .left)) (c .before .before .before .before .before .before .if3 .taken) _ _ (first-is (c .before .before .before .before .before .before .before .before .before .before .before .before .before .before .before .before .before .before .before .before .before .before .before .before .before .before .before .before .before .before .before .before .pre .0) (c .before .before .before .before .before .before .before .before .before .before .before .before .before .before .before .before .before .before .before .before .before .before .before .before .before .before .before .before .before .before .before .before .pre .1)) (end-is (c .before .before .before .before .before .before .before .before .before .before .before .before .before .before .before .before .before .before .before .before .before .before .before .before .before .before .before .before .before .before .before .before .pre .0) (c .before .before .before .before .before .before .before .before .before .before .before .before .before .before .before .before .before .before .before .before .before .before .before .before .before .before .before .before .before .before .before .before .pre .1))
+read-requires c κs =
+    let if3 = c .before .before .before .before .before .before in
+    let if2 = if3 .before in
+    let is-due = if2 .before in
+    let if1 = is-due .before .before in
+    let named-core = if1 .before in
+    let loop-test = named-core .before .before in
+    let loop = loop-test .before in
+    let start = loop .before .before .before .before .before .before .before .before .before .before .before .before .before .before .before .before .before .before in
+    reading-given (start .pre .accepted) (loop .loop .inv) (loop-test .loop-test .taken) _ refl (named-core .named-core .result)
+    (named-core .named-core .ensures) (omega (arith, if1 .if1 .left, cores-are (start .pre .accepted) (start .pre .laid))) _
+    (tasks-at _ _ (start .pre .accepted) _ (start .pre .tasked) _ (omega (arith, if1 .if1 .left, cores-are (start .pre .accepted) (start .pre .laid))))
+    (sym (is-due .is-due .ensures) ∙ not-false _ (if2 .if2 .left)) (if3 .if3 .taken) _ _ (first-is (start .pre .accepted) (start .pre .laid))
+    (end-is (start .pre .accepted) (start .pre .laid))
 
 mul-cores : tie.Need-mul-cores Inv-loop μ-loop
-mul-cores c = omega (arith, known-few (c .before .before .before .before .before .before .before .before .before .before .before .before .before .before .before .before .before .before .before .before .before .before .before .before .before .before .before .before .before .before .before .before .before .before .before .pre .0) (c .before .before .before .before .before .before .before .before .before .before .before .before .before .before .before .before .before .before .before .before .before .before .before .before .before .before .before .before .before .before .before .before .before .before .before .pre .1) (c .before .before .before .before .before .before .before .before .before .before .before .before .before .if1 .left))
+mul-cores c =
+    let if1 = c .before .before .before .before .before .before .before .before .before .before .before .before .before in
+    let start = if1 .before .before .before .before .before .before .before .before .before .before .before .before .before .before .before .before .before .before .before .before .before .before in
+    omega (arith, known-few (start .pre .accepted) (start .pre .laid) (if1 .if1 .left))
 
 array-set-from-cores : tie.Need-array-set-from-cores Inv-loop μ-loop
-array-set-from-cores c = search (needs, known-few (c .before .before .before .before .before .before .before .before .before .before .before .before .before .before .before .before .before .before .before .before .before .before .before .before .before .before .before .before .before .before .before .before .before .before .before .pre .0) (c .before .before .before .before .before .before .before .before .before .before .before .before .before .before .before .before .before .before .before .before .before .before .before .before .before .before .before .before .before .before .before .before .before .before .before .pre .1) (c .before .before .before .before .before .before .before .before .before .before .before .before .before .if1 .left))
+array-set-from-cores c =
+    let if1 = c .before .before .before .before .before .before .before .before .before .before .before .before .before in
+    let start = if1 .before .before .before .before .before .before .before .before .before .before .before .before .before .before .before .before .before .before .before .before .before .before in
+    search (needs, known-few (start .pre .accepted) (start .pre .laid) (if1 .if1 .left))
 
 mul-write-exchange : tie.Need-mul-write-exchange Inv-loop μ-loop
-mul-write-exchange c = omega (arith, known-few (c .before .before .before .before .before .before .before .before .before .before .before .before .before .before .before .before .before .before .before .before .before .before .before .before .before .before .pre .0) (c .before .before .before .before .before .before .before .before .before .before .before .before .before .before .before .before .before .before .before .before .before .before .before .before .before .before .pre .1) (c .before .before .before .before .if1 .left))
+mul-write-exchange c =
+    let if1 = c .before .before .before .before in
+    let start = if1 .before .before .before .before .before .before .before .before .before .before .before .before .before .before .before .before .before .before .before .before .before .before in
+    omega (arith, known-few (start .pre .accepted) (start .pre .laid) (if1 .if1 .left))
 
 array-copy-out-write-exchange : tie.Need-array-copy-out-write-exchange Inv-loop μ-loop
-array-copy-out-write-exchange c = search (needs, known-few (c .before .before .before .before .before .before .before .before .before .before .before .before .before .before .before .before .before .before .before .before .before .before .before .before .before .before .pre .0) (c .before .before .before .before .before .before .before .before .before .before .before .before .before .before .before .before .before .before .before .before .before .before .before .before .before .before .pre .1) (c .before .before .before .before .if1 .left))
+array-copy-out-write-exchange c =
+    let if1 = c .before .before .before .before in
+    let start = if1 .before .before .before .before .before .before .before .before .before .before .before .before .before .before .before .before .before .before .before .before .before .before in
+    search (needs, known-few (start .pre .accepted) (start .pre .laid) (if1 .if1 .left))
 
 mul-write-exchange-2 : tie.Need-mul-write-exchange-2 Inv-loop μ-loop
-mul-write-exchange-2 c = omega (arith, known-few (c .before .before .before .before .before .before .before .before .before .before .before .before .before .before .before .before .before .before .before .before .before .before .before .before .before .before .before .pre .0) (c .before .before .before .before .before .before .before .before .before .before .before .before .before .before .before .before .before .before .before .before .before .before .before .before .before .before .before .pre .1) (c .before .before .before .before .before .if1 .left))
+mul-write-exchange-2 c =
+    let if1 = c .before .before .before .before .before in
+    let start = if1 .before .before .before .before .before .before .before .before .before .before .before .before .before .before .before .before .before .before .before .before .before .before in
+    omega (arith, known-few (start .pre .accepted) (start .pre .laid) (if1 .if1 .left))
 
 array-copy-out-write-exchange-2 : tie.Need-array-copy-out-write-exchange-2 Inv-loop μ-loop
-array-copy-out-write-exchange-2 c = search (needs, known-few (c .before .before .before .before .before .before .before .before .before .before .before .before .before .before .before .before .before .before .before .before .before .before .before .before .before .before .before .pre .0) (c .before .before .before .before .before .before .before .before .before .before .before .before .before .before .before .before .before .before .before .before .before .before .before .before .before .before .before .pre .1) (c .before .before .before .before .before .if1 .left))
+array-copy-out-write-exchange-2 c =
+    let if1 = c .before .before .before .before .before in
+    let start = if1 .before .before .before .before .before .before .before .before .before .before .before .before .before .before .before .before .before .before .before .before .before .before in
+    search (needs, known-few (start .pre .accepted) (start .pre .laid) (if1 .if1 .left))
 
 write-exchange-requires : tie.Need-write-exchange-requires Inv-loop μ-loop
-write-exchange-requires c κs = writing-asks (c .before .before .before .before .before .before .before .before .before .before .before .before .before .before .before .before .before .before .before .before .before .before .before .before .before .before .before .before .before .before .pre .0) (c .before .before .before .before .before .before .before .before .before .before .before .before .loop .inv) (c .before .before .before .before .before .before .before .before .before .before .before .loop-test .taken) _ refl (c .before .before .before .before .before .before .before .before .before .named-core .result) (c .before .before .before .before .before .before .before .before .before .named-core .ensures) (omega (arith, c .before .before .before .before .before .before .before .before .if1 .left, cores-are (c .before .before .before .before .before .before .before .before .before .before .before .before .before .before .before .before .before .before .before .before .before .before .before .before .before .before .before .before .before .before .pre .0) (c .before .before .before .before .before .before .before .before .before .before .before .before .before .before .before .before .before .before .before .before .before .before .before .before .before .before .before .before .before .before .pre .1))) _ (tasks-at _ _ (c .before .before .before .before .before .before .before .before .before .before .before .before .before .before .before .before .before .before .before .before .before .before .before .before .before .before .before .before .before .before .pre .0) _ (c .before .before .before .before .before .before .before .before .before .before .before .before .before .before .before .before .before .before .before .before .before .before .before .before .before .before .before .before .before .before .pre .2) _ (omega (arith, c .before .before .before .before .before .before .before .before .if1 .left, cores-are (c .before .before .before .before .before .before .before .before .before .before .before .before .before .before .before .before .before .before .before .before .before .before .before .before .before .before .before .before .before .before .pre .0) (c .before .before .before .before .before .before .before .before .before .before .before .before .before .before .before .before .before .before .before .before .before .before .before .before .before .before .before .before .before .before .pre .1)))) (sym (c .before .before .before .before .before .before .is-due .ensures) ∙ not-false _ (c .before .before .before .before .before .if2 .left)) _ _ (first-is (c .before .before .before .before .before .before .before .before .before .before .before .before .before .before .before .before .before .before .before .before .before .before .before .before .before .before .before .before .before .before .pre .0) (c .before .before .before .before .before .before .before .before .before .before .before .before .before .before .before .before .before .before .before .before .before .before .before .before .before .before .before .before .before .before .pre .1)) (end-is (c .before .before .before .before .before .before .before .before .before .before .before .before .before .before .before .before .before .before .before .before .before .before .before .before .before .before .before .before .before .before .pre .0) (c .before .before .before .before .before .before .before .before .before .before .before .before .before .before .before .before .before .before .before .before .before .before .before .before .before .before .before .before .before .before .pre .1))
+write-exchange-requires c κs =
+    let if2 = c .before .before .before .before .before in
+    let is-due = if2 .before in
+    let if1 = is-due .before .before in
+    let named-core = if1 .before in
+    let loop-test = named-core .before .before in
+    let loop = loop-test .before in
+    let start = loop .before .before .before .before .before .before .before .before .before .before .before .before .before .before .before .before .before .before in
+    writing-asks (start .pre .accepted) (loop .loop .inv) (loop-test .loop-test .taken) _ refl (named-core .named-core .result)
+    (named-core .named-core .ensures) (omega (arith, if1 .if1 .left, cores-are (start .pre .accepted) (start .pre .laid))) _
+    (tasks-at _ _ (start .pre .accepted) _ (start .pre .tasked) _ (omega (arith, if1 .if1 .left, cores-are (start .pre .accepted) (start .pre .laid))))
+    (sym (is-due .is-due .ensures) ∙ not-false _ (if2 .if2 .left)) _ _ (first-is (start .pre .accepted) (start .pre .laid))
+    (end-is (start .pre .accepted) (start .pre .laid))
 
 mul-write-released : tie.Need-mul-write-released Inv-loop μ-loop
-mul-write-released c = omega (arith, known-few (c .before .before .before .before .before .before .before .before .before .before .before .before .before .before .before .before .before .before .before .before .before .before .before .before .before .before .before .before .before .before .before .before .before .pre .0) (c .before .before .before .before .before .before .before .before .before .before .before .before .before .before .before .before .before .before .before .before .before .before .before .before .before .before .before .before .before .before .before .before .before .pre .1) (c .before .before .before .before .before .before .before .before .before .before .before .if1 .left))
+mul-write-released c =
+    let if1 = c .before .before .before .before .before .before .before .before .before .before .before in
+    let start = if1 .before .before .before .before .before .before .before .before .before .before .before .before .before .before .before .before .before .before .before .before .before .before in
+    omega (arith, known-few (start .pre .accepted) (start .pre .laid) (if1 .if1 .left))
 
 array-copy-out-write-released : tie.Need-array-copy-out-write-released Inv-loop μ-loop
-array-copy-out-write-released c = search (needs, known-few (c .before .before .before .before .before .before .before .before .before .before .before .before .before .before .before .before .before .before .before .before .before .before .before .before .before .before .before .before .before .before .before .before .before .pre .0) (c .before .before .before .before .before .before .before .before .before .before .before .before .before .before .before .before .before .before .before .before .before .before .before .before .before .before .before .before .before .before .before .before .before .pre .1) (c .before .before .before .before .before .before .before .before .before .before .before .if1 .left))
+array-copy-out-write-released c =
+    let if1 = c .before .before .before .before .before .before .before .before .before .before .before in
+    let start = if1 .before .before .before .before .before .before .before .before .before .before .before .before .before .before .before .before .before .before .before .before .before .before in
+    search (needs, known-few (start .pre .accepted) (start .pre .laid) (if1 .if1 .left))
 
 write-released-requires : tie.Need-write-released-requires Inv-loop μ-loop
-write-released-requires c κs = cycles-few (c .before .before .before .before .before .before .before .before .before .before .before .before .before .before .before .before .before .before .before .before .before .before .before .before .before .before .before .before .before .before .before .before .before .before .pre .0) (c .before .before .before .before .before .before .before .before .before .before .before .before .before .before .before .before .loop .inv) (c .before .before .before .before .before .before .before .before .before .before .before .before .before .before .before .loop-test .taken) _ refl (c .before .before .before .before .before .before .before .before .before .before .before .before .before .named-core .result) (c .before .before .before .before .before .before .before .before .before .before .before .before .before .named-core .ensures) (omega (arith, c .before .before .before .before .before .before .before .before .before .before .before .before .if1 .left, cores-are (c .before .before .before .before .before .before .before .before .before .before .before .before .before .before .before .before .before .before .before .before .before .before .before .before .before .before .before .before .before .before .before .before .before .before .pre .0) (c .before .before .before .before .before .before .before .before .before .before .before .before .before .before .before .before .before .before .before .before .before .before .before .before .before .before .before .before .before .before .before .before .before .before .pre .1))) _ (tasks-at _ _ (c .before .before .before .before .before .before .before .before .before .before .before .before .before .before .before .before .before .before .before .before .before .before .before .before .before .before .before .before .before .before .before .before .before .before .pre .0) _ (c .before .before .before .before .before .before .before .before .before .before .before .before .before .before .before .before .before .before .before .before .before .before .before .before .before .before .before .before .before .before .before .before .before .before .pre .2) _ (omega (arith, c .before .before .before .before .before .before .before .before .before .before .before .before .if1 .left, cores-are (c .before .before .before .before .before .before .before .before .before .before .before .before .before .before .before .before .before .before .before .before .before .before .before .before .before .before .before .before .before .before .before .before .before .before .pre .0) (c .before .before .before .before .before .before .before .before .before .before .before .before .before .before .before .before .before .before .before .before .before .before .before .before .before .before .before .before .before .before .before .before .before .before .pre .1)))) (sym (c .before .before .before .before .before .before .before .before .before .before .is-due .ensures) ∙ not-false _ (c .before .before .before .before .before .before .before .before .before .if2 .left)) (omega (arith, c .before .before .before .before .before .before .before .before .if3 .left))
+write-released-requires c κs =
+    let if3 = c .before .before .before .before .before .before .before .before in
+    let if2 = if3 .before in
+    let is-due = if2 .before in
+    let if1 = is-due .before .before in
+    let named-core = if1 .before in
+    let loop-test = named-core .before .before in
+    let loop = loop-test .before in
+    let start = loop .before .before .before .before .before .before .before .before .before .before .before .before .before .before .before .before .before .before in
+    cycles-few (start .pre .accepted) (loop .loop .inv) (loop-test .loop-test .taken) _ refl (named-core .named-core .result)
+    (named-core .named-core .ensures) (omega (arith, if1 .if1 .left, cores-are (start .pre .accepted) (start .pre .laid))) _
+    (tasks-at _ _ (start .pre .accepted) _ (start .pre .tasked) _ (omega (arith, if1 .if1 .left, cores-are (start .pre .accepted) (start .pre .laid))))
+    (sym (is-due .is-due .ensures) ∙ not-false _ (if2 .if2 .left)) (omega (arith, if3 .if3 .left))
 
 mul-cores-2 : tie.Need-mul-cores-2 Inv-loop μ-loop
-mul-cores-2 c = omega (arith, known-few (c .before .before .before .before .before .before .before .before .before .before .before .before .before .before .before .before .before .before .before .before .before .before .before .before .before .before .before .before .before .before .before .before .before .before .before .pre .0) (c .before .before .before .before .before .before .before .before .before .before .before .before .before .before .before .before .before .before .before .before .before .before .before .before .before .before .before .before .before .before .before .before .before .before .before .pre .1) (c .before .before .before .before .before .before .before .before .before .before .before .before .before .if1 .left))
+mul-cores-2 c =
+    let if1 = c .before .before .before .before .before .before .before .before .before .before .before .before .before in
+    let start = if1 .before .before .before .before .before .before .before .before .before .before .before .before .before .before .before .before .before .before .before .before .before .before in
+    omega (arith, known-few (start .pre .accepted) (start .pre .laid) (if1 .if1 .left))
 
 array-set-from-cores-2 : tie.Need-array-set-from-cores-2 Inv-loop μ-loop
-array-set-from-cores-2 c = search (needs, known-few (c .before .before .before .before .before .before .before .before .before .before .before .before .before .before .before .before .before .before .before .before .before .before .before .before .before .before .before .before .before .before .before .before .before .before .before .pre .0) (c .before .before .before .before .before .before .before .before .before .before .before .before .before .before .before .before .before .before .before .before .before .before .before .before .before .before .before .before .before .before .before .before .before .before .before .pre .1) (c .before .before .before .before .before .before .before .before .before .before .before .before .before .if1 .left))
+array-set-from-cores-2 c =
+    let if1 = c .before .before .before .before .before .before .before .before .before .before .before .before .before in
+    let start = if1 .before .before .before .before .before .before .before .before .before .before .before .before .before .before .before .before .before .before .before .before .before .before in
+    search (needs, known-few (start .pre .accepted) (start .pre .laid) (if1 .if1 .left))
 
 add-i : tie.Need-add-i Inv-loop μ-loop
-add-i c = omega (arith, c .before .before .before .before .before .before .before .before .before .before .before .before .before .before .before .before .before .before .before .before .before .before .before .before .before .before .good, c .before .before .before .before .before .before .before .loop-test .taken)
+add-i c =
+    let loop-test = c .before .before .before .before .before .before .before in
+    let good = loop-test .before .before .before .before .before .before .before .before .before .before .before .before .before .before .before .before .before .before .before in
+    omega (arith, good .good, loop-test .loop-test .taken)
 
 loop-less : tie.Need-loop-less Inv-loop μ-loop
 loop-less c = omega (arith, c .before .before .before .before .before .before .before .loop-test .taken)
 
 loop-again : tie.Need-loop-again Inv-loop μ-loop
-loop-again c = ⊎-elim (λ w. rerunning-as (w .10) (w .11) (w .12) (w .13) (w .14) (reading-on (c .before .before .before .before .before .before .before .before .before .before .before .before .before .before .before .before .before .before .before .before .before .before .before .before .before .before .pre .0) (c .before .before .before .before .before .before .before .before .loop .inv) (c .before .before .before .before .before .before .before .loop-test .taken) _ refl (c .before .before .before .before .before .named-core .result) (c .before .before .before .before .before .named-core .ensures) (omega (arith, c .before .before .before .before .if1 .left, cores-are (c .before .before .before .before .before .before .before .before .before .before .before .before .before .before .before .before .before .before .before .before .before .before .before .before .before .before .pre .0) (c .before .before .before .before .before .before .before .before .before .before .before .before .before .before .before .before .before .before .before .before .before .before .before .before .before .before .pre .1))) _ (tasks-at _ _ (c .before .before .before .before .before .before .before .before .before .before .before .before .before .before .before .before .before .before .before .before .before .before .before .before .before .before .pre .0) _ (c .before .before .before .before .before .before .before .before .before .before .before .before .before .before .before .before .before .before .before .before .before .before .before .before .before .before .pre .2) _ (omega (arith, c .before .before .before .before .if1 .left, cores-are (c .before .before .before .before .before .before .before .before .before .before .before .before .before .before .before .before .before .before .before .before .before .before .before .before .before .before .pre .0) (c .before .before .before .before .before .before .before .before .before .before .before .before .before .before .before .before .before .before .before .before .before .before .before .before .before .before .pre .1)))) (sym (c .before .before .is-due .ensures) ∙ not-false _ (c .before .if2 .left)) (w .0 .taken) _ _ _ _ (w .7 .ensures) _ refl)) (λ w. rerunning-as (w .10) (w .11) (w .12) (w .13) (w .14) (writing-on (c .before .before .before .before .before .before .before .before .before .before .before .before .before .before .before .before .before .before .before .before .before .before .before .before .before .before .pre .0) (c .before .before .before .before .before .before .before .before .loop .inv) (c .before .before .before .before .before .before .before .loop-test .taken) _ refl (c .before .before .before .before .before .named-core .result) (c .before .before .before .before .before .named-core .ensures) (omega (arith, c .before .before .before .before .if1 .left, cores-are (c .before .before .before .before .before .before .before .before .before .before .before .before .before .before .before .before .before .before .before .before .before .before .before .before .before .before .pre .0) (c .before .before .before .before .before .before .before .before .before .before .before .before .before .before .before .before .before .before .before .before .before .before .before .before .before .before .pre .1))) _ (tasks-at _ _ (c .before .before .before .before .before .before .before .before .before .before .before .before .before .before .before .before .before .before .before .before .before .before .before .before .before .before .pre .0) _ (c .before .before .before .before .before .before .before .before .before .before .before .before .before .before .before .before .before .before .before .before .before .before .before .before .before .before .pre .2) _ (omega (arith, c .before .before .before .before .if1 .left, cores-are (c .before .before .before .before .before .before .before .before .before .before .before .before .before .before .before .before .before .before .before .before .before .before .before .before .before .before .pre .0) (c .before .before .before .before .before .before .before .before .before .before .before .before .before .before .before .before .before .before .before .before .before .before .before .before .before .before .pre .1)))) (sym (c .before .before .is-due .ensures) ∙ not-false _ (c .before .if2 .left)) (omega (arith, w .0 .left)) _ (w .5 .ensures) _ _ (w .9 .ensures) refl)) (c .if3 .came)
+loop-again c =
+    let if2 = c .before in
+    let is-due = if2 .before in
+    let if1 = is-due .before .before in
+    let named-core = if1 .before in
+    let loop-test = named-core .before .before in
+    let loop = loop-test .before in
+    let start = loop .before .before .before .before .before .before .before .before .before .before .before .before .before .before .before .before .before .before in
+    ⊎-elim
+    (λ w. rerunning-as (w .10) (w .11) (w .12) (w .13) (w .14)
+    (reading-on (start .pre .accepted) (loop .loop .inv) (loop-test .loop-test .taken) _ refl (named-core .named-core .result)
+    (named-core .named-core .ensures) (omega (arith, if1 .if1 .left, cores-are (start .pre .accepted) (start .pre .laid))) _
+    (tasks-at _ _ (start .pre .accepted) _ (start .pre .tasked) _ (omega (arith, if1 .if1 .left, cores-are (start .pre .accepted) (start .pre .laid))))
+    (sym (is-due .is-due .ensures) ∙ not-false _ (if2 .if2 .left)) (w .0 .taken) _ _ _ _ (w .7 .ensures) _ refl))
+    (λ w. rerunning-as (w .10) (w .11) (w .12) (w .13) (w .14)
+    (writing-on (start .pre .accepted) (loop .loop .inv) (loop-test .loop-test .taken) _ refl (named-core .named-core .result)
+    (named-core .named-core .ensures) (omega (arith, if1 .if1 .left, cores-are (start .pre .accepted) (start .pre .laid))) _
+    (tasks-at _ _ (start .pre .accepted) _ (start .pre .tasked) _ (omega (arith, if1 .if1 .left, cores-are (start .pre .accepted) (start .pre .laid))))
+    (sym (is-due .is-due .ensures) ∙ not-false _ (if2 .if2 .left)) (omega (arith, w .0 .left)) _ (w .5 .ensures) _ _ (w .9 .ensures) refl))
+    (c .if3 .came)
 
 same-length-5 : tie.Need-same-length-5 Inv-loop μ-loop
-same-length-5 c = c .before .before .loop .inv .buffer ∙ sym (lent-lengths (c .before .before .before .before .before .before .before .before .before .before .before .before .before .before .before .before .before .before .before .before .args .file .now) (length (c .before .before .before .before .before .before .before .before .before .before .before .before .before .before .before .before .before .before .before .before .args .buffer .now)) (length (c .before .before .before .before .before .before .before .before .before .before .before .before .before .before .before .before .before .before .before .before .args .shared .now)) (c .before .before .before .before .before .before .before .before .before .before .before .before .before .before .before .before .before .before .before .before .pre .3) .0)
+same-length-5 c =
+    let loop = c .before .before in
+    let start = loop .before .before .before .before .before .before .before .before .before .before .before .before .before .before .before .before .before .before in
+    let a = start .args in
+    loop .loop .inv .buffer ∙ sym (lent-lengths (a .file .now) (length (a .buffer .now)) (length (a .shared .now)) (start .pre .fits) .0)
 
 same-length-6 : tie.Need-same-length-6 Inv-loop μ-loop
-same-length-6 c = c .before .before .loop .inv .shared ∙ sym (lent-lengths (c .before .before .before .before .before .before .before .before .before .before .before .before .before .before .before .before .before .before .before .before .args .file .now) (length (c .before .before .before .before .before .before .before .before .before .before .before .before .before .before .before .before .before .before .before .before .args .buffer .now)) (length (c .before .before .before .before .before .before .before .before .before .before .before .before .before .before .before .before .before .before .before .before .args .shared .now)) (c .before .before .before .before .before .before .before .before .before .before .before .before .before .before .before .before .before .before .before .before .pre .3) .1)
+same-length-6 c =
+    let loop = c .before .before in
+    let start = loop .before .before .before .before .before .before .before .before .before .before .before .before .before .before .before .before .before .before in
+    let a = start .args in
+    loop .loop .inv .shared ∙ sym (lent-lengths (a .file .now) (length (a .buffer .now)) (length (a .shared .now)) (start .pre .fits) .1)
 
 returns-3 : tie.Need-returns-3 Inv-loop μ-loop
-returns-3 c = reran-all _ _ _ (c .before .before .before .before .before .before .before .before .before .before .before .before .before .before .before .before .before .before .before .before .pre .0) _ (fresh-table _ _ (c .before .before .before .before .before .before .before .before .before .before .before .before .before .before .before .before .before .before .before .before .args .list .now) (c .before .before .before .before .before .before .before .before .before .before .before .before .before .before .before .before .before .before .before .before .pre .0) (λ i. omega (arith, c .before .before .before .before .before .before .before .before .before .before .before .before .before .before .before .before .before .before .before .shared-slice-known .given i)) (λ i. omega (arith, c .before .before .before .before .before .before .before .before .before .before .before .before .before .before .before .before .before .before .shared-slice-known2 .given i)) (c .before .before .before .before .before .before .before .before .before .before .before .before .before .before .before .before .before .before .before .before .args .buffer .now) (c .before .before .before .before .before .before .before .before .before .before .before .before .before .before .before .before .before .before .before .before .args .shared .now) (c .before .before .before .before .before .before .before .before .before .before .before .before .before .before .before .before .before .before .before .before .pre .3) (c .before .before .before .before .before .before .before .before .before .before .before .before .fresh-judged .result) _ _ (c .before .before .before .before .before .before .before .before .before .before .before .before .fresh-judged .ensures)) _ _ _ _ _ _ (c .before .before .loop .inv) (c .before .loop-test .left)
+returns-3 c =
+    let loop-test = c .before in
+    let loop = loop-test .before in
+    let fresh-judged = loop .before .before .before .before .before .before .before .before .before .before in
+    let shared-slice-known2 = fresh-judged .before .before .before .before .before .before in
+    let shared-slice-known = shared-slice-known2 .before in
+    let start = shared-slice-known .before in
+    let a = start .args in
+    reran-all _ _ _ (start .pre .accepted) _
+    (fresh-table _ _ (a .list .now) (start .pre .accepted) (λ i. omega (arith, shared-slice-known .shared-slice-known .given i))
+    (λ i. omega (arith, shared-slice-known2 .shared-slice-known2 .given i)) (a .buffer .now) (a .shared .now) (start .pre .fits)
+    (fresh-judged .fresh-judged .result) _ _ (fresh-judged .fresh-judged .ensures))
+    _ _ _ _ _ _ (loop .loop .inv) (loop-test .loop-test .left)
 
 pub rerun-in-spec : {M : Type 1} → statement M
 rerun-in-spec =

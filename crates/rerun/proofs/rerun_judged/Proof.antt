@@ -8,7 +8,7 @@ use Rattle.rerun.proofs.rerun_judged.Statement.{statement}
 use Rattle.rerun.proofs.rerun_judged.Tie as tie
 
 sum-of-sizes-requires : tie.Need-sum-of-sizes-requires
-sum-of-sizes-requires c κs = (c .before .before .before .before .before .pre .0 .file, c .before .before .before .before .before .pre .1)
+sum-of-sizes-requires c κs = (c .before .before .before .before .before .pre .accepted .file, c .before .before .before .before .before .pre .laid)
 
 array-borrow-prefix-data : tie.Need-array-borrow-prefix-data
 array-borrow-prefix-data c = search needs
@@ -20,7 +20,16 @@ slice-aggregate-rerun-through-2 : tie.Need-slice-aggregate-rerun-through-2
 slice-aggregate-rerun-through-2 c = search needs
 
 rerun-through-requires : tie.Need-rerun-through-requires
-rerun-through-requires c κs = (c .before .before .before .before .before .before .before .before .before .before .pre .0, c .before .before .before .before .before .before .before .before .before .before .pre .1, c .before .before .before .before .before .before .before .before .before .before .pre .2, c .before .before .before .before .before .before .before .before .before .before .pre .3, sym (prefix _ 16384 (c .before .before .before .before .sum-of-sizes .ensures .1)) ∙ c .before .before .before .before .sum-of-sizes .ensures .0 ∙ sym (lent-lengths (c .before .before .before .before .before .before .before .before .before .before .args .file .now) (length (c .before .before .before .before .before .before .before .before .before .before .args .buffer .now)) (length (c .before .before .before .before .before .before .before .before .before .before .args .shared .now)) (c .before .before .before .before .before .before .before .before .before .before .pre .3) .0), sym (lent-lengths (c .before .before .before .before .before .before .before .before .before .before .args .file .now) (length (c .before .before .before .before .before .before .before .before .before .before .args .buffer .now)) (length (c .before .before .before .before .before .before .before .before .before .before .args .shared .now)) (c .before .before .before .before .before .before .before .before .before .before .pre .3) .1))
+rerun-through-requires c κs =
+    let sum-of-sizes = c .before .before .before .before in
+    let start = sum-of-sizes .before .before .before .before .before .before in
+    let a = start .args in (
+      start .pre,
+      sym (prefix _ 16384 (sum-of-sizes .sum-of-sizes .ensures .1))
+          ∙ sum-of-sizes .sum-of-sizes .ensures .0 ∙ sym
+          (lent-lengths (a .file .now) (length (a .buffer .now)) (length (a .shared .now)) (start .pre .fits) .0),
+      sym (lent-lengths (a .file .now) (length (a .buffer .now)) (length (a .shared .now)) (start .pre .fits) .1),
+    )
 
 same-length : tie.Need-same-length
 same-length c = search needs

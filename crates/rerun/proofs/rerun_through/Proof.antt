@@ -10,7 +10,15 @@ use Rattle.rerun.proofs.rerun_through.Statement.{statement}
 use Rattle.rerun.proofs.rerun_through.Tie as tie
 
 rerun-in-requires : tie.Need-rerun-in-requires
-rerun-in-requires c κs = (c .before .before .before .before .before .before .before .before .before .pre .0, c .before .before .before .before .before .before .before .before .before .pre .1, c .before .before .before .before .before .before .before .before .before .pre .2, ap₂ (λ (m n : ℕ). lentFits (c .before .before .before .before .before .before .before .before .before .args .file .now) m n) (c .before .before .before .before .before .before .before .before .before .pre .4) (c .before .before .before .before .before .before .before .before .before .pre .5) ∙ c .before .before .before .before .before .before .before .before .before .pre .3)
+rerun-in-requires c κs =
+    let start = c .before .before .before .before .before .before .before .before .before in
+    let given = start .pre in
+    record {
+      accepted = given .0 .accepted;
+      laid = given .0 .laid;
+      tasked = given .0 .tasked;
+      fits = ap₂ (λ (m n : ℕ). lentFits (start .args .file .now) m n) (given .1) (given .2) ∙ given .0 .fits;
+    }
 
 copy-requires : tie.Need-copy-requires
 copy-requires c κs = search needs
@@ -31,7 +39,18 @@ same-length-4 : tie.Need-same-length-4
 same-length-4 c = search needs
 
 returns : tie.Need-returns
-returns c = ap₂ (λ (l m : List ℕ). leftAs (c .before .before .before .before .before .before .before .before .before .before .before .before .before .before .before .before .rerun-in .result) l m []) (copied-out _ _ _ (c .before .before .before .before .before .before .before .copy .ensures) (c .before .before .before .before .before .before .before .before .before .before .before .before .before .before .before .before .rerun-in .kept .1 .1 .1 .1 .1 .0 ∙ c .before .before .before .before .before .before .before .before .before .before .before .before .before .before .before .before .before .before .before .before .before .before .before .before .before .before .pre .4) refl) (copied-out _ _ _ (c .before .before .copy2 .ensures) (c .before .before .before .before .before .before .before .before .before .before .before .before .before .before .before .before .rerun-in .kept .1 .1 .1 .1 .1 .1 .0 ∙ c .before .before .before .before .before .before .before .before .before .before .before .before .before .before .before .before .before .before .before .before .before .before .before .before .before .before .pre .5) refl) ∙ rerun-done (c .before .before .before .before .before .before .before .before .before .before .before .before .before .before .before .before .before .before .before .before .before .before .before .before .before .before .args .file .now) (c .before .before .before .before .before .before .before .before .before .before .before .before .before .before .before .before .before .before .before .before .before .before .before .before .before .before .args .trace .now) (c .before .before .before .before .before .before .before .before .before .before .before .before .before .before .before .before .before .before .before .before .before .before .before .before .before .before .args .list .now) (c .before .before .before .before .before .before .before .before .before .before .before .before .before .before .before .before .before .before .before .before .before .before .before .before .before .before .args .buffer .now) (c .before .before .before .before .before .before .before .before .before .before .before .before .before .before .before .before .before .before .before .before .before .before .before .before .before .before .args .shared .now) (c .before .before .before .before .before .before .before .before .before .before .before .before .before .before .before .before .before .before .before .before .before .before .before .before .before .before .pre .0 .file) (c .before .before .before .before .before .before .before .before .before .before .before .before .before .before .before .before .before .before .before .before .before .before .before .before .before .before .pre .3) (c .before .before .before .before .before .before .before .before .before .before .before .before .before .before .before .before .before .before .before .before .before .before .before .before .before .before .pre .0 .trace) (c .before .before .before .before .before .before .before .before .before .before .before .before .before .before .before .before .rerun-in .result) _ _ (c .before .before .before .before .before .before .before .before .before .before .before .before .before .before .before .before .rerun-in .ensures) (c .before .before .before .before .before .before .before .before .before .before .if1 .taken)
+returns c =
+    let copy2 = c .before .before in
+    let copy = copy2 .before .before .before .before .before in
+    let if1 = copy .before .before .before in
+    let rerun-in = if1 .before .before .before .before .before .before in
+    let start = rerun-in .before .before .before .before .before .before .before .before .before .before in
+    let a = start .args in
+    ap₂ (λ (l m : List ℕ). leftAs (rerun-in .rerun-in .result) l m [])
+    (copied-out _ _ _ (copy .copy .ensures) (rerun-in .rerun-in .kept .1 .1 .1 .1 .1 .0 ∙ start .pre .1) refl)
+    (copied-out _ _ _ (copy2 .copy2 .ensures) (rerun-in .rerun-in .kept .1 .1 .1 .1 .1 .1 .0 ∙ start .pre .2) refl)
+    ∙ rerun-done (a .file .now) (a .trace .now) (a .list .now) (a .buffer .now) (a .shared .now) (start .pre .0 .accepted .file) (start .pre .0 .fits)
+    (start .pre .0 .accepted .trace) (rerun-in .rerun-in .result) _ _ (rerun-in .rerun-in .ensures) (if1 .if1 .taken)
 
 same-length-5 : tie.Need-same-length-5
 same-length-5 c = search needs
@@ -40,7 +59,12 @@ same-length-6 : tie.Need-same-length-6
 same-length-6 c = search needs
 
 returns-2 : tie.Need-returns-2
-returns-2 c = rerun-left (c .before .before .before .before .before .before .before .before .before .before .before .before .before .before .before .before .args .file .now) (c .before .before .before .before .before .before .before .before .before .before .before .before .before .before .before .before .args .trace .now) (c .before .before .before .before .before .before .before .before .before .before .before .before .before .before .before .before .args .list .now) (c .before .before .before .before .before .before .before .before .before .before .before .before .before .before .before .before .args .buffer .now) (c .before .before .before .before .before .before .before .before .before .before .before .before .before .before .before .before .args .shared .now) (c .before .before .before .before .before .before .before .before .before .before .before .before .before .before .before .before .pre .0 .file) (c .before .before .before .before .before .before .before .before .before .before .before .before .before .before .before .before .pre .3) (c .before .before .before .before .before .before .before .before .before .before .before .before .before .before .before .before .pre .0 .trace) (c .before .before .before .before .before .before .rerun-in .result) _ _ (c .before .before .before .before .before .before .rerun-in .ensures) (c .if1 .left)
+returns-2 c =
+    let rerun-in = c .before .before .before .before .before .before in
+    let start = rerun-in .before .before .before .before .before .before .before .before .before .before in
+    let a = start .args in
+    rerun-left (a .file .now) (a .trace .now) (a .list .now) (a .buffer .now) (a .shared .now) (start .pre .0 .accepted .file) (start .pre .0 .fits)
+    (start .pre .0 .accepted .trace) (rerun-in .rerun-in .result) _ _ (rerun-in .rerun-in .ensures) (c .if1 .left)
 
 pub rerun-through-spec : {M : Type 1} → statement M
 rerun-through-spec =

@@ -13,7 +13,7 @@ use Rattle.rerun.proofs.write_exchange.Statement.{statement}
 use Rattle.rerun.proofs.write_exchange.Tie as tie
 
 add-e : tie.Need-add-e
-add-e c = record { fits = omega (arith, stretch-inside _ (c .before .before .before .before .before .pre .0) (c .before .before .before .before .before .pre .1)) }
+add-e c = record { fits = omega (arith, stretch-inside _ (c .before .before .before .before .before .pre .0 .ready) (c .before .before .before .before .before .pre .1)) }
 
 sub-publish-all : tie.Need-sub-publish-all
 sub-publish-all c = search needs
@@ -22,16 +22,29 @@ part-publish-all-start : tie.Need-part-publish-all-start
 part-publish-all-start c = search needs
 
 part-publish-all-end : tie.Need-part-publish-all-end
-part-publish-all-end c = omega (arith, stretch-inside _ (c .before .before .before .before .before .pre .0) (c .before .before .before .before .before .pre .1))
+part-publish-all-end c = omega (arith, stretch-inside _ (c .before .before .before .before .before .pre .0 .ready) (c .before .before .before .before .before .pre .1))
 
 publish-all-requires : tie.Need-publish-all-requires
-publish-all-requires c κs = (c .before .before .before .before .before .before .before .pre .0 .accepted .laid, c .before .before .before .before .before .before .before .pre .0 .known, c .before .before .before .before .before .before .before .pre .2, c .before .before .before .before .before .before .before .pre .3, ap length (stretch-is _ (c .before .before .before .before .before .before .before .pre .0) (c .before .before .before .before .before .before .before .pre .1) _ refl) ∙ c .before .before .before .before .before .before .before .pre .0 .fit .size, c .before .before .before .before .before .before .before .pre .4)
+publish-all-requires c κs =
+    let start = c .before .before .before .before .before .before .before in (
+      start .pre .0 .ready .accepted .laid,
+      start .pre .0 .ready .known,
+      start .pre .0 .from,
+      start .pre .0 .upto,
+      ap length (stretch-is _ (start .pre .0 .ready) (start .pre .1) _ refl) ∙ start .pre .0 .ready .fit .size,
+      start .pre .0 .shared,
+    )
 
 same-length : tie.Need-same-length
 same-length c = search needs
 
 returns : tie.Need-returns
-returns c = c .before .before .publish-all .ensures ∙ ap (λ (l : List ℕ). copy (writesOf (variablesOf (c .before .before .before .before .before .before .before .before .before .before .args .file .now)) (c .before .before .before .before .before .before .before .before .before .before .args .k)) l (c .before .before .before .before .before .before .before .before .before .before .args .shared .now)) (stretch-is _ (c .before .before .before .before .before .before .before .before .before .before .pre .0) (c .before .before .before .before .before .before .before .before .before .before .pre .1) _ refl)
+returns c =
+    let publish-all = c .before .before in
+    let start = publish-all .before .before .before .before .before .before .before .before in
+    let a = start .args in
+    publish-all .publish-all .ensures ∙ ap (λ (l : List ℕ). copy (writesOf (variablesOf (a .file .now)) (a .k)) l (a .shared .now))
+    (stretch-is _ (start .pre .0 .ready) (start .pre .1) _ refl)
 
 pub write-exchange-spec : {M : Type 1} → statement M
 write-exchange-spec =
