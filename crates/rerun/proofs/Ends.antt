@@ -35,7 +35,7 @@ use Rattle.calls.specs.Calling.{wholeOf}
 use Rattle.machine.proofs.Calls.{next-next, fresh-none}
 use Rattle.calls.proofs.Calling.{Lendable, fresh-whole, fresh-lendable}
 use Rattle.rerun.specs.Calls.{listRefusal, rerunRefusal, reran, rerunLeft, rerunCall}
-use Rattle.rerun.specs.Rerunning.{Rerunning, Reran}
+use Rattle.rerun.specs.Rerunning.{reranAnswer, Rerunning, Reran}
 use Rattle.rerun.proofs.Listed.{now-is, at-rest}
 
 -- ---- the fresh state
@@ -113,9 +113,9 @@ module _ (f t list : List ℕ) (ok : AcceptedSet f t) (h : Held) (table : h ≡ 
       sym (held-back f t [] [] now h 0 cs places offsets untaken 0 d sh [] idle (h .semaphore) (ap (λ (s : Held). s .semaphore) table ∙ table-semaphore (cores f) 4))
       ∙ ap₂ (heldAfter (cores f)) table end-is
 
-  pub reran-all : Reran f t list record { refusal = 0; taken = i; state = record { count = h .count; semaphore = h .semaphore; cores = cs; places = places; offsets = offsets } } d sh
+  all-taken : Reran f t list (reranAnswer h cs places offsets i) d sh
   unfolding listRefusal rerunLeft
-  reran-all = record {
+  all-taken = record {
     number = sym (yes _ 33 list-legal);
     done = λ z. same (let n : i ≡ length list = omega (arith, w .within) in n) state-is
         (sym (data-back f cs places offsets untaken d sh (w .buffer)) ∙ ap dataOf end-is)
@@ -126,6 +126,9 @@ module _ (f t list : List ℕ) (ok : AcceptedSet f t) (h : Held) (table : h ≡ 
       same : {n n′ : ℕ} {a a′ : Held} {m m′ x x′ : List ℕ} → n ≡ n′ → a ≡ a′ → m ≡ m′ → x ≡ x′
           → leftAs (record { refusal = 0; taken = n; state = a }) m x [] ≡ leftAs (record { refusal = 0; taken = n′; state = a′ }) m′ x′ []
       same p q u v = λ z. leftAs (record { refusal = 0; taken = p z; state = q z }) (u z) (v z) []
+
+  pub reran-all : (r : RunAnswer) → r ≡ reranAnswer h cs places offsets i → Reran f t list r d sh
+  reran-all r e = subst (λ (x : RunAnswer). Reran f t list x d sh) (sym e) all-taken
 
 -- ---- the list's refusal
 

@@ -1,4 +1,4 @@
--- What the functions of a rerun are given and what they promise. In order: a byte of the list; a state at rest; an exchange; a reading; the whole list.
+-- What the functions of a rerun are given and what they promise. In order: a byte of the list; a state at rest; an exchange; a reading; a taking; the whole list.
 use mathlib.Core.Path.{_≡_}
 use mathlib.Core.Logic.{_≢_}
 use mathlib.Core.Bool.{Bool, true}
@@ -14,7 +14,8 @@ use Rattle.protocol.specs.State.{core, untaken}
 use Rattle.protocol.specs.Step.{copy, reading}
 use Rattle.protocol.specs.Whole.{wholeOne, whole}
 use Rattle.protocol.specs.Laws.{Still}
-use Rattle.protocol.specs.Variables.{readsOf}
+use Rattle.protocol.specs.Variables.{readsOf, writesOf}
+use Rattle.protocol.specs.Registers.{writeReleased}
 use Rattle.protocol.specs.Rerun.{legal, decoded}
 use Rattle.records.specs.File.{cores, variables, recordPlace}
 use Rattle.taskset.specs.declared.Layout.{Layout}
@@ -103,7 +104,30 @@ abbrev pub ReadsWhole : List ℕ → List ℕ → ℕ → Registers → List ℕ
 ReadsWhole f t k r places offsets d sh r′ places′ offsets′ d′ =
     (cs : List Registers) → getD cs k noRegisters ≡ r → Resting f t cs places offsets d sh → Reread f t k cs places offsets d sh r′ places′ offsets′ d′
 
+-- ---- a taking
+
+-- core k with the registers r has the byte b of the list to do, in some state at rest
+pub record Due (f t : List ℕ) (b k : ℕ) (c : CoreTask) (first end : ℕ) (r : Registers) (places offsets d sh : List ℕ) : Type 0 where
+  pub accepted : AcceptedSet f t
+  pub known : k < cores f
+  pub task : c ≡ coreTask f t k
+  pub from : first ≡ recordPlace f 0
+  pub upto : end ≡ recordPlace f (variables f)
+  pub due : dueBy b r (c .count) ≡ true
+  pub cs : List Registers
+  pub here : getD cs k noRegisters ≡ r
+  pub rests : Resting f t cs places offsets d sh
+
+-- what it leaves: a reading leaves shared memory, a writing everything else
+pub record Took (f t : List ℕ) (b k : ℕ) (r : Registers) (places offsets d sh : List ℕ) (r′ : Registers) (places′ offsets′ d′ sh′ : List ℕ) : Type 0 where
+  pub reads : b < 16 → ReadsWhole f t k r places offsets d sh r′ places′ offsets′ d′ × (sh′ ≡ sh)
+  pub writes : 16 ≤ b → (r′ ≡ writeReleased r) × (sh′ ≡ copy (writesOf (variablesOf f) k) (dataIn f k d) sh) × (places′ ≡ places) × (offsets′ ≡ offsets) × (d′ ≡ d)
+
 -- ---- the whole list
+
+-- the answer where all of it is taken, from the fresh table h
+abbrev pub reranAnswer : Held → List Registers → List ℕ → List ℕ → ℕ → RunAnswer
+reranAnswer h cs places offsets taken = record { refusal = 0; taken = taken; state = record { count = h .count; semaphore = h .semaphore; cores = cs; places = places; offsets = offsets } }
 
 -- an accepted set that is laid out, and lent memories of its sizes
 pub record RerunGiven (f t : List ℕ) (layout : Layout) (tasks : List CoreTask) (d sh : List ℕ) : Type 0 where

@@ -1,6 +1,6 @@
 // Document 02, 2.13: rerun from the order of takings, with every exchange whole and each execution straight after its reading. Whether steps produce the
 // list is known at its end alone, so the rerun works in memories of its own and copies them out where nothing is refused.
-// In order: a byte of the list; a reading; a writing; the list; the call.
+// In order: a byte of the list; a reading; a writing; a taking; the list; the call.
 use code::Profile;
 use protocol::Registers;
 use runner::RunAnswer;
@@ -20,7 +20,7 @@ ghost use Rattle.taskset.specs.Task.{sizesOf, variablesOf};
 ghost use Rattle.runner.specs.Runs.{leftAs};
 ghost use Rattle.machine.specs.Calls.{answerOf, tableOf};
 ghost use Rattle.rerun.specs.Calls.{rerunCall};
-ghost use Rattle.rerun.specs.Rerunning.{namedCore, dueBy, dataIn, Exchanging, BroughtTo, BroughtIn, Reading, ReadsWhole, RerunGiven, Reran};
+ghost use Rattle.rerun.specs.Rerunning.{namedCore, dueBy, dataIn, Exchanging, BroughtTo, BroughtIn, Reading, ReadsWhole, Due, Took, reranAnswer, RerunGiven, Reran};
 
 const LARGEST: usize = 16384;
 
@@ -144,6 +144,46 @@ fn write_exchange(
     exchange::publish_all(file, first, end, k, &buffer[a..e], shared);
 }
 
+// ---- a taking
+
+// What core k has to do by the byte b of the list: a reading with the execution after it, or a writing. The answer is its registers afterwards.
+fn take(
+    b: usize,
+    file: &[u8],
+    trace: &[u8],
+    c: CoreTask,
+    first: usize,
+    end: usize,
+    k: usize,
+    r: Registers,
+    places: &mut [u16; 64],
+    offsets: &mut [u16; 64],
+    buffer: &mut [u8],
+    shared: &mut [u8],
+) -> Registers
+    requires { ⌜ Due (now file) (now trace) b k c first end r (now places) (now offsets) (now buffer) (now shared) ⌝ }
+    ensures { λ x. ⌜ Took (now (file .entry)) (now (trace .entry)) b k r (now (places .entry)) (now (offsets .entry)) (now (buffer .entry)) (now (shared .entry))
+        x (now (places .exit)) (now (offsets .exit)) (now (buffer .exit)) (now (shared .exit)) ⌝ }
+{
+    if b < WRITINGS {
+        return read(
+            file,
+            trace,
+            c,
+            first,
+            end,
+            k,
+            r,
+            places,
+            offsets,
+            buffer,
+            shared,
+        );
+    }
+    write_exchange(r, k, c, file, trace, first, end, buffer, shared);
+    protocol::write_released(r)
+}
+
 // ---- the list
 
 // What a refused call answers.
@@ -151,6 +191,31 @@ fn refused(number: u8) -> RunAnswer
     ensures { λ r. ⌜ r ≡ answerOf number (tableOf 0 0) ⌝ }
 {
     machine::answer(number, machine::table_of(0, 0))
+}
+
+// What a call answers that took the whole list: the table now, with the semaphore of the fresh state.
+fn reran(
+    s: Held,
+    cores: [Registers; 4],
+    places: [u16; 64],
+    offsets: [u16; 64],
+    taken: usize,
+) -> RunAnswer
+    ensures { λ r. ⌜ r ≡ reranAnswer s cores places offsets taken ⌝ }
+{
+    let semaphore = s.semaphore;
+    let state = Held {
+        count: s.count,
+        semaphore,
+        cores,
+        places,
+        offsets,
+    };
+    RunAnswer {
+        refusal: 0,
+        taken,
+        state,
+    }
 }
 
 // The takings of the list, one after another, from the fresh state, in memories whose bytes count only where nothing is refused.
@@ -184,49 +249,23 @@ fn rerun_in(
         if !is_due(b, cores[k], tasks[k].count) {
             return refused(UNPRODUCED);
         }
-        if b < WRITINGS {
-            cores[k] = read(
-                file,
-                trace,
-                tasks[k],
-                first,
-                end,
-                k,
-                cores[k],
-                &mut places,
-                &mut offsets,
-                buffer,
-                shared,
-            );
-        } else {
-            write_exchange(
-                cores[k],
-                k,
-                tasks[k],
-                file,
-                trace,
-                first,
-                end,
-                buffer,
-                shared,
-            );
-            cores[k] = protocol::write_released(cores[k]);
-        }
+        cores[k] = take(
+            b,
+            file,
+            trace,
+            tasks[k],
+            first,
+            end,
+            k,
+            cores[k],
+            &mut places,
+            &mut offsets,
+            buffer,
+            shared,
+        );
         i += 1;
     }
-    let semaphore = s.semaphore;
-    let state = Held {
-        count: s.count,
-        semaphore,
-        cores,
-        places,
-        offsets,
-    };
-    RunAnswer {
-        refusal: 0,
-        taken: i,
-        state,
-    }
+    reran(s, cores, places, offsets, i)
 }
 
 // ---- the call

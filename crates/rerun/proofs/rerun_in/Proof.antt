@@ -1,6 +1,5 @@
 -- `rerun::rerun_in` meets its contract. The invariant: the takings so far are legal, and made the state now. Assumes nothing.
-use mathlib.Core.Path.{refl, sym, ap, _∙_}
-use mathlib.Core.Logic.{⊎-elim}
+use mathlib.Core.Path.{refl, sym, _∙_}
 use Prim.Native.Nat.{_-_}
 use native.Mathlib.Omega.{arith}
 use borrow.Author.Needs.{needs}
@@ -8,7 +7,7 @@ use borrow.Author.Tests.{not-true, not-false}
 use lib.ListN.{length}
 use Rattle.states.proofs.Tasks.{tasks-at}
 use Rattle.rerun.specs.Rerunning.{Rerunning}
-use Rattle.rerun.proofs.Turns.{first-is, end-is, cores-are, few-variables, near-first, no-core, not-due, reading-given, reading-on, writing-asks, cycles-few, writing-on, known-few, lent-lengths, rerunning-as}
+use Rattle.rerun.proofs.Turns.{first-is, end-is, cores-are, few-variables, near-first, no-core, not-due, due-given, took-on, known-few, lent-lengths}
 use Rattle.rerun.proofs.Ends.{fresh-table, rerun-start, reran-all, reran-none}
 use Rattle.rerun.proofs.rerun_in.Statement.{statement}
 use Rattle.rerun.proofs.rerun_in.Tie as tie
@@ -150,166 +149,83 @@ returns-2 c =
     (tasks-at _ _ (start .pre .accepted) _ (start .pre .tasked) _ (omega (arith, if1 .if1 .left, cores-are (start .pre .accepted) (start .pre .laid))))
     (sym (is-due .is-due .ensures) ∙ not-true _ (if2 .if2 .taken)))
 
-mul-read : tie.Need-mul-read Inv-loop μ-loop
-mul-read c =
+mul-take : tie.Need-mul-take Inv-loop μ-loop
+mul-take c =
+    let if1 = c .before .before .before in
+    let start = if1 .before .before .before .before .before .before .before .before .before .before .before .before .before .before .before .before .before .before .before .before .before .before in
+    omega (arith, known-few (start .pre .accepted) (start .pre .laid) (if1 .if1 .left))
+
+array-copy-out-take : tie.Need-array-copy-out-take Inv-loop μ-loop
+array-copy-out-take c =
+    let if1 = c .before .before .before in
+    let start = if1 .before .before .before .before .before .before .before .before .before .before .before .before .before .before .before .before .before .before .before .before .before .before in
+    search (needs, known-few (start .pre .accepted) (start .pre .laid) (if1 .if1 .left))
+
+mul-take-2 : tie.Need-mul-take-2 Inv-loop μ-loop
+mul-take-2 c =
     let if1 = c .before .before .before .before in
     let start = if1 .before .before .before .before .before .before .before .before .before .before .before .before .before .before .before .before .before .before .before .before .before .before in
     omega (arith, known-few (start .pre .accepted) (start .pre .laid) (if1 .if1 .left))
 
-array-copy-out-read : tie.Need-array-copy-out-read Inv-loop μ-loop
-array-copy-out-read c =
+array-copy-out-take-2 : tie.Need-array-copy-out-take-2 Inv-loop μ-loop
+array-copy-out-take-2 c =
     let if1 = c .before .before .before .before in
     let start = if1 .before .before .before .before .before .before .before .before .before .before .before .before .before .before .before .before .before .before .before .before .before .before in
     search (needs, known-few (start .pre .accepted) (start .pre .laid) (if1 .if1 .left))
 
-mul-read-2 : tie.Need-mul-read-2 Inv-loop μ-loop
-mul-read-2 c =
-    let if1 = c .before .before .before .before .before in
-    let start = if1 .before .before .before .before .before .before .before .before .before .before .before .before .before .before .before .before .before .before .before .before .before .before in
-    omega (arith, known-few (start .pre .accepted) (start .pre .laid) (if1 .if1 .left))
-
-array-copy-out-read-2 : tie.Need-array-copy-out-read-2 Inv-loop μ-loop
-array-copy-out-read-2 c =
-    let if1 = c .before .before .before .before .before in
-    let start = if1 .before .before .before .before .before .before .before .before .before .before .before .before .before .before .before .before .before .before .before .before .before .before in
-    search (needs, known-few (start .pre .accepted) (start .pre .laid) (if1 .if1 .left))
-
-read-requires : tie.Need-read-requires Inv-loop μ-loop
-read-requires c κs =
-    let if3 = c .before .before .before .before .before .before in
-    let if2 = if3 .before in
+take-requires : tie.Need-take-requires Inv-loop μ-loop
+take-requires c κs =
+    let if2 = c .before .before .before .before .before .before in
     let is-due = if2 .before in
     let if1 = is-due .before .before in
     let named-core = if1 .before in
     let loop-test = named-core .before .before in
     let loop = loop-test .before in
     let start = loop .before .before .before .before .before .before .before .before .before .before .before .before .before .before .before .before .before .before in
-    reading-given (start .pre .accepted) (loop .loop .inv) (loop-test .loop-test .taken) _ refl (named-core .named-core .result)
-    (named-core .named-core .ensures) (omega (arith, if1 .if1 .left, cores-are (start .pre .accepted) (start .pre .laid))) _
-    (tasks-at _ _ (start .pre .accepted) _ (start .pre .tasked) _ (omega (arith, if1 .if1 .left, cores-are (start .pre .accepted) (start .pre .laid))))
-    (sym (is-due .is-due .ensures) ∙ not-false _ (if2 .if2 .left)) (if3 .if3 .taken) _ _ (first-is (start .pre .accepted) (start .pre .laid))
-    (end-is (start .pre .accepted) (start .pre .laid))
-
-mul-cores : tie.Need-mul-cores Inv-loop μ-loop
-mul-cores c =
-    let if1 = c .before .before .before .before .before .before .before .before .before .before .before .before .before in
-    let start = if1 .before .before .before .before .before .before .before .before .before .before .before .before .before .before .before .before .before .before .before .before .before .before in
-    omega (arith, known-few (start .pre .accepted) (start .pre .laid) (if1 .if1 .left))
-
-array-set-from-cores : tie.Need-array-set-from-cores Inv-loop μ-loop
-array-set-from-cores c =
-    let if1 = c .before .before .before .before .before .before .before .before .before .before .before .before .before in
-    let start = if1 .before .before .before .before .before .before .before .before .before .before .before .before .before .before .before .before .before .before .before .before .before .before in
-    search (needs, known-few (start .pre .accepted) (start .pre .laid) (if1 .if1 .left))
-
-mul-write-exchange : tie.Need-mul-write-exchange Inv-loop μ-loop
-mul-write-exchange c =
-    let if1 = c .before .before .before .before in
-    let start = if1 .before .before .before .before .before .before .before .before .before .before .before .before .before .before .before .before .before .before .before .before .before .before in
-    omega (arith, known-few (start .pre .accepted) (start .pre .laid) (if1 .if1 .left))
-
-array-copy-out-write-exchange : tie.Need-array-copy-out-write-exchange Inv-loop μ-loop
-array-copy-out-write-exchange c =
-    let if1 = c .before .before .before .before in
-    let start = if1 .before .before .before .before .before .before .before .before .before .before .before .before .before .before .before .before .before .before .before .before .before .before in
-    search (needs, known-few (start .pre .accepted) (start .pre .laid) (if1 .if1 .left))
-
-mul-write-exchange-2 : tie.Need-mul-write-exchange-2 Inv-loop μ-loop
-mul-write-exchange-2 c =
-    let if1 = c .before .before .before .before .before in
-    let start = if1 .before .before .before .before .before .before .before .before .before .before .before .before .before .before .before .before .before .before .before .before .before .before in
-    omega (arith, known-few (start .pre .accepted) (start .pre .laid) (if1 .if1 .left))
-
-array-copy-out-write-exchange-2 : tie.Need-array-copy-out-write-exchange-2 Inv-loop μ-loop
-array-copy-out-write-exchange-2 c =
-    let if1 = c .before .before .before .before .before in
-    let start = if1 .before .before .before .before .before .before .before .before .before .before .before .before .before .before .before .before .before .before .before .before .before .before in
-    search (needs, known-few (start .pre .accepted) (start .pre .laid) (if1 .if1 .left))
-
-write-exchange-requires : tie.Need-write-exchange-requires Inv-loop μ-loop
-write-exchange-requires c κs =
-    let if2 = c .before .before .before .before .before in
-    let is-due = if2 .before in
-    let if1 = is-due .before .before in
-    let named-core = if1 .before in
-    let loop-test = named-core .before .before in
-    let loop = loop-test .before in
-    let start = loop .before .before .before .before .before .before .before .before .before .before .before .before .before .before .before .before .before .before in
-    writing-asks (start .pre .accepted) (loop .loop .inv) (loop-test .loop-test .taken) _ refl (named-core .named-core .result)
+    due-given (start .pre .accepted) (loop .loop .inv) (loop-test .loop-test .taken) _ refl (named-core .named-core .result)
     (named-core .named-core .ensures) (omega (arith, if1 .if1 .left, cores-are (start .pre .accepted) (start .pre .laid))) _
     (tasks-at _ _ (start .pre .accepted) _ (start .pre .tasked) _ (omega (arith, if1 .if1 .left, cores-are (start .pre .accepted) (start .pre .laid))))
     (sym (is-due .is-due .ensures) ∙ not-false _ (if2 .if2 .left)) _ _ (first-is (start .pre .accepted) (start .pre .laid))
     (end-is (start .pre .accepted) (start .pre .laid))
 
-mul-write-released : tie.Need-mul-write-released Inv-loop μ-loop
-mul-write-released c =
-    let if1 = c .before .before .before .before .before .before .before .before .before .before .before in
+mul-cores : tie.Need-mul-cores Inv-loop μ-loop
+mul-cores c =
+    let if1 = c .before .before .before .before .before .before .before .before .before .before .before .before .before .before in
     let start = if1 .before .before .before .before .before .before .before .before .before .before .before .before .before .before .before .before .before .before .before .before .before .before in
     omega (arith, known-few (start .pre .accepted) (start .pre .laid) (if1 .if1 .left))
 
-array-copy-out-write-released : tie.Need-array-copy-out-write-released Inv-loop μ-loop
-array-copy-out-write-released c =
-    let if1 = c .before .before .before .before .before .before .before .before .before .before .before in
-    let start = if1 .before .before .before .before .before .before .before .before .before .before .before .before .before .before .before .before .before .before .before .before .before .before in
-    search (needs, known-few (start .pre .accepted) (start .pre .laid) (if1 .if1 .left))
-
-write-released-requires : tie.Need-write-released-requires Inv-loop μ-loop
-write-released-requires c κs =
-    let if3 = c .before .before .before .before .before .before .before .before in
-    let if2 = if3 .before in
-    let is-due = if2 .before in
-    let if1 = is-due .before .before in
-    let named-core = if1 .before in
-    let loop-test = named-core .before .before in
-    let loop = loop-test .before in
-    let start = loop .before .before .before .before .before .before .before .before .before .before .before .before .before .before .before .before .before .before in
-    cycles-few (start .pre .accepted) (loop .loop .inv) (loop-test .loop-test .taken) _ refl (named-core .named-core .result)
-    (named-core .named-core .ensures) (omega (arith, if1 .if1 .left, cores-are (start .pre .accepted) (start .pre .laid))) _
-    (tasks-at _ _ (start .pre .accepted) _ (start .pre .tasked) _ (omega (arith, if1 .if1 .left, cores-are (start .pre .accepted) (start .pre .laid))))
-    (sym (is-due .is-due .ensures) ∙ not-false _ (if2 .if2 .left)) (omega (arith, if3 .if3 .left))
-
-mul-cores-2 : tie.Need-mul-cores-2 Inv-loop μ-loop
-mul-cores-2 c =
-    let if1 = c .before .before .before .before .before .before .before .before .before .before .before .before .before in
-    let start = if1 .before .before .before .before .before .before .before .before .before .before .before .before .before .before .before .before .before .before .before .before .before .before in
-    omega (arith, known-few (start .pre .accepted) (start .pre .laid) (if1 .if1 .left))
-
-array-set-from-cores-2 : tie.Need-array-set-from-cores-2 Inv-loop μ-loop
-array-set-from-cores-2 c =
-    let if1 = c .before .before .before .before .before .before .before .before .before .before .before .before .before in
+array-set-from-cores : tie.Need-array-set-from-cores Inv-loop μ-loop
+array-set-from-cores c =
+    let if1 = c .before .before .before .before .before .before .before .before .before .before .before .before .before .before in
     let start = if1 .before .before .before .before .before .before .before .before .before .before .before .before .before .before .before .before .before .before .before .before .before .before in
     search (needs, known-few (start .pre .accepted) (start .pre .laid) (if1 .if1 .left))
 
 add-i : tie.Need-add-i Inv-loop μ-loop
 add-i c =
-    let loop-test = c .before .before .before .before .before .before .before in
+    let loop-test = c .before .before .before .before .before .before .before .before .before .before .before .before .before .before .before .before .before in
     let good = loop-test .before .before .before .before .before .before .before .before .before .before .before .before .before .before .before .before .before .before .before in
     omega (arith, good .good, loop-test .loop-test .taken)
 
 loop-less : tie.Need-loop-less Inv-loop μ-loop
-loop-less c = omega (arith, c .before .before .before .before .before .before .before .loop-test .taken)
+loop-less c = omega (arith, c .before .before .before .before .before .before .before .before .before .before .before .before .before .before .before .before .before .loop-test .taken)
 
 loop-again : tie.Need-loop-again Inv-loop μ-loop
 loop-again c =
-    let if2 = c .before in
+    let take = c .before .before .before .before in
+    let if2 = take .before .before .before .before .before .before .before in
     let is-due = if2 .before in
     let if1 = is-due .before .before in
     let named-core = if1 .before in
     let loop-test = named-core .before .before in
     let loop = loop-test .before in
     let start = loop .before .before .before .before .before .before .before .before .before .before .before .before .before .before .before .before .before .before in
-    ⊎-elim
-    (λ w. rerunning-as (w .10) (w .11) (w .12) (w .13) (w .14)
-    (reading-on (start .pre .accepted) (loop .loop .inv) (loop-test .loop-test .taken) _ refl (named-core .named-core .result)
+    took-on (start .pre .accepted) (loop .loop .inv) (loop-test .loop-test .taken) _ refl (named-core .named-core .result)
     (named-core .named-core .ensures) (omega (arith, if1 .if1 .left, cores-are (start .pre .accepted) (start .pre .laid))) _
     (tasks-at _ _ (start .pre .accepted) _ (start .pre .tasked) _ (omega (arith, if1 .if1 .left, cores-are (start .pre .accepted) (start .pre .laid))))
-    (sym (is-due .is-due .ensures) ∙ not-false _ (if2 .if2 .left)) (w .0 .taken) _ _ _ _ (w .7 .ensures) _ refl))
-    (λ w. rerunning-as (w .10) (w .11) (w .12) (w .13) (w .14)
-    (writing-on (start .pre .accepted) (loop .loop .inv) (loop-test .loop-test .taken) _ refl (named-core .named-core .result)
-    (named-core .named-core .ensures) (omega (arith, if1 .if1 .left, cores-are (start .pre .accepted) (start .pre .laid))) _
-    (tasks-at _ _ (start .pre .accepted) _ (start .pre .tasked) _ (omega (arith, if1 .if1 .left, cores-are (start .pre .accepted) (start .pre .laid))))
-    (sym (is-due .is-due .ensures) ∙ not-false _ (if2 .if2 .left)) (omega (arith, w .0 .left)) _ (w .5 .ensures) _ _ (w .9 .ensures) refl))
-    (c .if3 .came)
+    (sym (is-due .is-due .ensures) ∙ not-false _ (if2 .if2 .left)) (take .take .ensures) _ refl
+
+reran-requires : tie.Need-reran-requires Inv-loop μ-loop
+reran-requires c κs = search needs
 
 same-length-5 : tie.Need-same-length-5 Inv-loop μ-loop
 same-length-5 c =
@@ -338,7 +254,7 @@ returns-3 c =
     (fresh-table _ _ (a .list .now) (start .pre .accepted) (λ i. omega (arith, shared-slice-known .shared-slice-known .given i))
     (λ i. omega (arith, shared-slice-known2 .shared-slice-known2 .given i)) (a .buffer .now) (a .shared .now) (start .pre .fits)
     (fresh-judged .fresh-judged .result) _ _ (fresh-judged .fresh-judged .ensures))
-    _ _ _ _ _ _ (loop .loop .inv) (loop-test .loop-test .left)
+    _ _ _ _ _ _ (loop .loop .inv) (loop-test .loop-test .left) _ (c .reran .ensures)
 
 pub rerun-in-spec : {M : Type 1} → statement M
 rerun-in-spec =
@@ -369,26 +285,17 @@ rerun-in-spec =
     same-length-3
     same-length-4
     returns-2
-    mul-read
-    array-copy-out-read
-    mul-read-2
-    array-copy-out-read-2
-    read-requires
+    mul-take
+    array-copy-out-take
+    mul-take-2
+    array-copy-out-take-2
+    take-requires
     mul-cores
     array-set-from-cores
-    mul-write-exchange
-    array-copy-out-write-exchange
-    mul-write-exchange-2
-    array-copy-out-write-exchange-2
-    write-exchange-requires
-    mul-write-released
-    array-copy-out-write-released
-    write-released-requires
-    mul-cores-2
-    array-set-from-cores-2
     add-i
     loop-less
     loop-again
+    reran-requires
     same-length-5
     same-length-6
     returns-3)
