@@ -145,14 +145,17 @@ fn judge_call(file: &[u8], trace: &[u8], loaded: Loaded, s: Held, order: &[u8]) 
     ensures { λ r. ⌜ JudgedAs (now (file .entry)) (now (trace .entry)) (loaded .refusal) s (now (order .entry)) r ⌝ }
 {
     let layout = loaded.layout;
-    if loaded.refusal != 0 {
-        return refused(loaded.refusal, layout);
+    let number = loaded.refusal;
+    if number != 0 {
+        return refused(number, layout);
     }
     let prepared = states::prepare(file, trace, layout, s);
-    if prepared.refusal != 0 {
-        return refused(prepared.refusal, layout);
+    let held = prepared.refusal;
+    let named = all_below(order, layout.cores);
+    if held != 0 {
+        return refused(held, layout);
     }
-    if !all_below(order, layout.cores) {
+    if !named {
         return refused(verdict::NO_SUCH_CORE, layout);
     }
     let tasks = prepared.tasks;

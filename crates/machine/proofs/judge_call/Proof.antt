@@ -14,36 +14,39 @@ returns : tie.Need-returns
 returns c = judge-refused _ _ _ _ _ _ (c .refused .ensures) (judge-file _ _ _ _ _ refl (c .before .if1 .taken)) (c .before .if1 .taken)
 
 prepare-requires : tie.Need-prepare-requires
-prepare-requires c κs = c .before .before .before .before .before .before .pre (c .if1 .left)
+prepare-requires c κs = c .before .before .before .before .before .pre (c .if1 .left)
+
+all-below-requires : tie.Need-all-below-requires
+all-below-requires c κs = search needs
 
 refused-requires-2 : tie.Need-refused-requires-2
 refused-requires-2 c κs = search needs
 
 returns-2 : tie.Need-returns-2
-returns-2 c = judge-refused _ _ _ _ _ _ (c .refused2 .ensures) (judge-held _ _ _ _ _ (c .before .before .before .before .if1 .left) (held-judged _ _ _ _ (c .before .before .before .prepare .ensures)) (c .before .if2 .taken)) (c .before .if2 .taken)
-
-all-below-requires : tie.Need-all-below-requires
-all-below-requires c κs = search needs
+returns-2 c =
+    judge-refused _ _ _ _ _ _ (c .refused2 .ensures)
+    (judge-held _ _ _ _ _ (c .before .before .before .before .if1 .left) (held-judged _ _ _ _ (c .before .before .before .prepare .ensures)) (c .before .if2 .taken)) (c .before .if2 .taken)
 
 refused-requires-3 : tie.Need-refused-requires-3
 refused-requires-3 c κs = search needs
 
 returns-3 : tie.Need-returns-3
 returns-3 c =
-    let a = c .before .before .before .before .before .before .before .before .before .before .before .before .args in
-    let named = below-laid (a .file .now) (a .order .now) _ (c .before .before .before .before .before .before .before .before .before .before .before .before .pre (c .before .before .before .before .before .before .if1 .left) .1) _ (c .before .before .all-below .ensures) in
-    judge-refused _ _ _ _ _ _ (c .refused3 .ensures)
-    (judge-unnamed _ _ _ _ _ (c .before .before .before .before .before .before .if1 .left) (sym (held-judged _ _ _ _ (c .before .before .before .before .before .prepare .ensures)) ∙ c .before .before .before .if2 .left) (named ∙ not-true _ (c .before .if3 .taken)))
-    (λ e. absurd (omega arith))
+    let a = c .before .before .before .before .before .before .before .before .before .before .args in
+    let named = below-laid (a .file .now) (a .order .now) _ (c .before .before .before .before .before .before .before .before .before .before .pre (c .before .before .before .before .before .if1 .left) .1) _ (c .before .before .before .all-below .ensures) in
+    let held = sym (held-judged _ _ _ _ (c .before .before .before .before .prepare .ensures)) ∙ c .before .before .if2 .left in
+    judge-refused _ _ _ _ _ _ (c .refused3 .ensures) (judge-unnamed _ _ _ _ _ (c .before .before .before .before .before .if1 .left) held (named ∙ not-true _ (c .before .if3 .taken))) (λ e. absurd (omega arith))
 
 returns-4 : tie.Need-returns-4
 returns-4 c =
-    let a = c .before .before .before .before .before .before .before .before .before .before .before .before .args in
-    let named = below-laid (a .file .now) (a .order .now) _ (c .before .before .before .before .before .before .before .before .before .before .before .before .pre (c .before .before .before .before .before .before .if1 .left) .1) _ (c .before .before .all-below .ensures) in
+    let a = c .before .before .before .before .before .before .before .before .before .before .args in
+    let laid = c .before .before .before .before .before .before .before .before .before .before .pre (c .before .before .before .before .before .if1 .left) .1 in
+    let named = below-laid (a .file .now) (a .order .now) _ laid _ (c .before .before .before .all-below .ensures) in
+    let held = sym (held-judged _ _ _ _ (c .before .before .before .before .prepare .ensures)) ∙ c .before .before .if2 .left in
     record {
-      number = sym (judge-none _ _ _ _ _ (c .before .before .before .before .before .before .if1 .left) (sym (held-judged _ _ _ _ (c .before .before .before .before .before .prepare .ensures)) ∙ c .before .before .before .if2 .left) (named ∙ not-false _ (c .before .if3 .left)));
-      laid = λ z. c .before .before .before .before .before .before .before .before .before .before .before .before .pre (c .before .before .before .before .before .before .if1 .left) .1;
-      tasked = λ z. held-tasks _ _ _ _ (c .before .before .before .before .before .prepare .ensures) (c .before .before .before .if2 .left);
+      number = sym (judge-none _ _ _ _ _ (c .before .before .before .before .before .if1 .left) held (named ∙ not-false _ (c .before .if3 .left)));
+      laid = λ z. laid;
+      tasked = λ z. held-tasks _ _ _ _ (c .before .before .before .before .prepare .ensures) (c .before .before .if2 .left);
     }
 
 pub judge-call-spec : {M : Type 1} → statement M
@@ -53,9 +56,9 @@ judge-call-spec =
     refused-requires
     returns
     prepare-requires
+    all-below-requires
     refused-requires-2
     returns-2
-    all-below-requires
     refused-requires-3
     returns-3
     returns-4)
