@@ -262,7 +262,13 @@ fn run_core(
     let mut depth = before.depth;
     let mut step = from;
     while step < end {
-        let r = executing_at(before, counter, offset, depth, before.count + (step - from) as u16);
+        let r = executing_at(
+            before,
+            counter,
+            offset,
+            depth,
+            before.count + (step - from) as u16,
+        );
         let op = steps::command_of(counter, k, c, file, trace);
         if processor::has_three(op) {
             let p = steps::typed_of(op, r, k, c, file, trace, buffer);
@@ -301,7 +307,13 @@ fn run_core(
         }
         step += 1;
     }
-    let r = executing_at(before, counter, offset, depth, before.count + (step - from) as u16);
+    let r = executing_at(
+        before,
+        counter,
+        offset,
+        depth,
+        before.count + (step - from) as u16,
+    );
     reach(step, r)
 }
 

@@ -34,7 +34,7 @@ returns c =
     let start = c .before .before .before .before .before .before .before .before .before .args in
     let ready = ready-now (given .0) (carry-none _ _ _ _ _ _ _ _ _) (given .1) in
     let done : Instructed (start .file .now) (start .trace .now) (start .order .now) (start .k) (start .from) (start .before) (start .places .now) (start .offsets .now) (start .buffer .now) (start .from) (start .before) (start .places .now) (start .offsets .now) (start .buffer .now) (Failed 1) (start .buffer .now) =
-        record { accepted = given .0 .accepted; on = given .2; known = given .0 .known; carried = carry-none _ _ _ _ _ _ _ _ _; answered = limit-in _ ready (given .0 .loops .running .buffer) (given .3) (c .before .before .if1 .taken); same = refl } in
+    record { accepted = given .0 .accepted; on = given .2; known = given .0 .known; carried = carry-none _ _ _ _ _ _ _ _ _; answered = limit-in _ ready (given .0 .loops .running .buffer) (given .3) (c .before .before .if1 .taken); same = refl } in
     reaches-fault (c .reach .ensures) (omega arith) 1 (c .before .faulted .ensures) keeps-same (carry-fault done _ refl)
 
 sub-least : tie.Need-sub-least Inv-loop μ-loop
@@ -230,20 +230,32 @@ loop-again c =
     let count : c .before .before .before .before .before .before .before .before .before .before .before .before .before .before .before .before .before .before .args .before .count + (here .step + 1 - c .before .before .before .before .before .before .before .before .before .before .before .before .before .before .before .before .before .before .args .from) ≡ c .before .before .before .before .before .before .before .before .before .before .before .before .before .before .before .before .before .before .args .before .count + (here .step - c .before .before .before .before .before .before .before .before .before .before .before .before .before .before .before .before .before .before .args .from) + 1 = omega (arith, here .inv .0) in
     let at = c .before .before .before .executing-at .ensures in
     ⊎-elim
-    (λ w. (omega (arith, here .inv .0), omega (arith, c .before .before .before .before .before .loop-test .taken),
+    (λ w. (
+      omega (arith, here .inv .0),
+      omega (arith, c .before .before .before .before .before .loop-test .taken),
       carries-as (advanced-at (c .before .before .before .before .before .before .before .before .before .before .before .before .before .before .before .before .before .before .args .before) (here .counter) (here .offset) (here .depth) _ (w .10 ∙ ap (λ (r : Registers). r .counter + 8) (sym at)) (w .11) (w .12) count) (w .7) (w .8) (w .9)
-      (carry-next (doing (given .0) (given .1) (given .3) (c .before .before .before .before .before .before .before .before .before .before .before .if1 .left) (c .before .before .before .before .before .before .before .before .least .ensures) (c .before .before .before .before .before .before .before .execution-ahead .ensures) (here .inv .0) (c .before .before .before .before .before .loop-test .taken) (here .inv .2) (c .before .before .before .executing-at .ensures) _ (w .2 .ensures) (search (needs, w .3 .given))) _ (ap (outcomeOf _) (w .6 .given .1)))))
+          (carry-next (doing (given .0) (given .1) (given .3) (c .before .before .before .before .before .before .before .before .before .before .before .if1 .left) (c .before .before .before .before .before .before .before .before .least .ensures) (c .before .before .before .before .before .before .before .execution-ahead .ensures) (here .inv .0) (c .before .before .before .before .before .loop-test .taken) (here .inv .2) (c .before .before .before .executing-at .ensures) _ (w .2 .ensures) (search (needs, w .3 .given))) _ (ap (outcomeOf _) (w .6 .given .1))),
+    ))
     (⊎-elim
-    (λ w. (omega (arith, here .inv .0), omega (arith, c .before .before .before .before .before .loop-test .taken),
+    (λ w. (
+      omega (arith, here .inv .0),
+      omega (arith, c .before .before .before .before .before .loop-test .taken),
       carries-as (advanced-at (c .before .before .before .before .before .before .before .before .before .before .before .before .before .before .before .before .before .before .args .before) (here .counter) (here .offset) (here .depth) _ (w .11) (w .12) (w .13) count) (w .8) (w .9) (w .10)
-      (carry-next (doing (given .0) (given .1) (given .3) (c .before .before .before .before .before .before .before .before .before .before .before .if1 .left) (c .before .before .before .before .before .before .before .before .least .ensures) (c .before .before .before .before .before .before .before .execution-ahead .ensures) (here .inv .0) (c .before .before .before .before .before .loop-test .taken) (here .inv .2) (c .before .before .before .executing-at .ensures) _ (w .2 .ensures) (search (needs, w .3 .given))) _ (w .6 .given .1))))
+          (carry-next (doing (given .0) (given .1) (given .3) (c .before .before .before .before .before .before .before .before .before .before .before .if1 .left) (c .before .before .before .before .before .before .before .before .least .ensures) (c .before .before .before .before .before .before .before .execution-ahead .ensures) (here .inv .0) (c .before .before .before .before .before .loop-test .taken) (here .inv .2) (c .before .before .before .executing-at .ensures) _ (w .2 .ensures) (search (needs, w .3 .given))) _ (w .6 .given .1)),
+    ))
     (⊎-elim
-    (λ w. (omega (arith, here .inv .0), omega (arith, c .before .before .before .before .before .loop-test .taken),
+    (λ w. (
+      omega (arith, here .inv .0),
+      omega (arith, c .before .before .before .before .before .loop-test .taken),
       carries-as (called-at (c .before .before .before .before .before .before .before .before .before .before .before .before .before .before .before .before .before .before .args .before) (here .counter) (here .offset) (here .depth) _ (w .15) (w .16) (w .17) count) (w .12 ∙ w .9 .ensures) (w .13 ∙ w .11 .ensures) (w .14)
-      (carry-call (doing (given .0) (given .1) (given .3) (c .before .before .before .before .before .before .before .before .before .before .before .if1 .left) (c .before .before .before .before .before .before .before .before .least .ensures) (c .before .before .before .before .before .before .before .execution-ahead .ensures) (here .inv .0) (c .before .before .before .before .before .loop-test .taken) (here .inv .2) (c .before .before .before .executing-at .ensures) _ (w .2 .ensures) (search (needs, w .3 .given))) _ _ _ (w .6 .given .1))))
-    (λ w. (omega (arith, here .inv .0), omega (arith, c .before .before .before .before .before .loop-test .taken),
+          (carry-call (doing (given .0) (given .1) (given .3) (c .before .before .before .before .before .before .before .before .before .before .before .if1 .left) (c .before .before .before .before .before .before .before .before .least .ensures) (c .before .before .before .before .before .before .before .execution-ahead .ensures) (here .inv .0) (c .before .before .before .before .before .loop-test .taken) (here .inv .2) (c .before .before .before .executing-at .ensures) _ (w .2 .ensures) (search (needs, w .3 .given))) _ _ _ (w .6 .given .1)),
+    ))
+    (λ w. (
+      omega (arith, here .inv .0),
+      omega (arith, c .before .before .before .before .before .loop-test .taken),
       carries-as (returned-at (c .before .before .before .before .before .before .before .before .before .before .before .before .before .before .before .before .before .before .args .before) (here .counter) (here .offset) (here .depth) _ (w .19 ∙ w .9 .ensures) (w .20 ∙ w .11 .ensures) (w .21) count) (w .16 ∙ w .13 .ensures) (w .17 ∙ w .15 .ensures) (w .18)
-      (carry-return (doing (given .0) (given .1) (given .3) (c .before .before .before .before .before .before .before .before .before .before .before .if1 .left) (c .before .before .before .before .before .before .before .before .least .ensures) (c .before .before .before .before .before .before .before .execution-ahead .ensures) (here .inv .0) (c .before .before .before .before .before .loop-test .taken) (here .inv .2) (c .before .before .before .executing-at .ensures) _ (w .2 .ensures) (search (needs, w .3 .given))) (here .depth - 1) (w .6 .given .1) (omega (arith, w .7 .left)))))))
+          (carry-return (doing (given .0) (given .1) (given .3) (c .before .before .before .before .before .before .before .before .before .before .before .if1 .left) (c .before .before .before .before .before .before .before .before .least .ensures) (c .before .before .before .before .before .before .before .execution-ahead .ensures) (here .inv .0) (c .before .before .before .before .before .loop-test .taken) (here .inv .2) (c .before .before .before .executing-at .ensures) _ (w .2 .ensures) (search (needs, w .3 .given))) (here .depth - 1) (w .6 .given .1) (omega (arith, w .7 .left))),
+    ))))
     (c .if2 .came)
 
 sub-executing-at-2 : tie.Need-sub-executing-at-2 Inv-loop μ-loop
