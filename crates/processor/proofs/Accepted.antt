@@ -75,7 +75,11 @@ Others op = ((((((((((((Unit {0} × (op ≡ 0 → ⊥)) × (op ≡ 1 → ⊥)) �
 
 -- such a one below 10 is AURD's or AUWD's
 pub element-of : {op : ℕ} → Others op → op < 10 → (op ≡ 8) ⊎ (op ≡ 9)
-element-of {op} n h = two-of 8 op h (past (past (past (past (past (past (past (past (omega arith) (n .0 .0 .0 .0 .0 .0 .0 .0 .0 .0 .0 .0 .1)) (n .0 .0 .0 .0 .0 .0 .0 .0 .0 .0 .0 .1)) (n .0 .0 .0 .0 .0 .0 .0 .0 .0 .0 .1)) (n .0 .0 .0 .0 .0 .0 .0 .0 .0 .1)) (n .0 .0 .0 .0 .0 .0 .0 .0 .1)) (n .0 .0 .0 .0 .0 .0 .0 .1)) (n .0 .0 .0 .0 .0 .0 .1)) (n .0 .0 .0 .0 .0 .1))
+element-of {op} n h =
+    let low = n .0 .0 .0 .0 .0 in
+    let least = low .0 .0 .0 .0 in
+    two-of 8 op h
+    (past (past (past (past (past (past (past (past (omega arith) (least .0 .0 .0 .1)) (least .0 .0 .1)) (least .0 .1)) (least .1)) (low .0 .0 .0 .1)) (low .0 .0 .1)) (low .0 .1)) (low .1))
   where
     past : {k : ℕ} → k ≤ op → (op ≡ k → ⊥) → suc k ≤ op
     past l m = omega arith

@@ -36,7 +36,12 @@ any-beyond-requires : tie.Need-any-beyond-requires
 any-beyond-requires c κs = (omega arith, omega (arith, width-le (c .before .before .before .before .before .before .pre .2)), omega arith, omega arith)
 
 returns : tie.Need-returns
-returns c = element-beyond _ _ _ _ _ _ _ (c .before .before .before .before .before .before .before .before .pre .0) (c .before .before .before .before .before .before .before .before .pre .1 .here) (c .before .before .before .before .operand .ensures .0) (c .before .before .before .operand2 .ensures .0) (c .before .any-beyond .ensures) (c .if1 .taken)
+returns c =
+    let after-operand2 = c .before .before .before in
+    let after-operand = after-operand2 .before in
+    let start = after-operand .before .before .before .before in
+    element-beyond _ _ _ _ _ _ _ (start .pre .0) (start .pre .1 .here) (after-operand .operand .ensures .0) (after-operand2 .operand2 .ensures .0)
+    (c .before .any-beyond .ensures) (c .if1 .taken)
 
 word-requires : tie.Need-word-requires
 word-requires c κs = both-inside _ _ _ _ _ (sym (c .before .before .any-beyond .ensures) ∙ c .before .if1 .left) .1
@@ -51,7 +56,14 @@ same-length : tie.Need-same-length
 same-length c = search needs
 
 returns-2 : tie.Need-returns-2
-returns-2 c = element-index _ _ _ _ _ _ _ _ _ (c .before .before .before .before .before .before .before .before .before .before .before .before .pre .0) (c .before .before .before .before .before .before .before .before .before .before .before .before .pre .1 .here) (c .before .before .before .before .before .before .before .before .operand .ensures .0) (c .before .before .before .before .before .before .before .operand2 .ensures .0) (c .before .before .before .before .before .any-beyond .ensures) (c .before .before .before .before .if1 .left) (c .before .before .word .ensures) (c .before .word2 .ensures) (c .if2 .taken)
+returns-2 c =
+    let else1 = c .before .before .before .before in
+    let after-any-beyond = else1 .before in
+    let after-operand2 = after-any-beyond .before .before in
+    let after-operand = after-operand2 .before in
+    let start = after-operand .before .before .before .before in
+    element-index _ _ _ _ _ _ _ _ _ (start .pre .0) (start .pre .1 .here) (after-operand .operand .ensures .0) (after-operand2 .operand2 .ensures .0)
+    (after-any-beyond .any-beyond .ensures) (else1 .if1 .left) (c .before .before .word .ensures) (c .before .word2 .ensures) (c .if2 .taken)
 
 add-operand-3 : tie.Need-add-operand-3
 add-operand-3 c = search needs
@@ -69,7 +81,19 @@ same-length-2 : tie.Need-same-length-2
 same-length-2 c = search needs
 
 returns-3 : tie.Need-returns-3
-returns-3 c = element-outside _ _ _ _ _ _ _ _ _ _ _ _ (c .before .before .before .before .before .before .before .before .before .before .before .before .before .before .before .before .pre .0) (c .before .before .before .before .before .before .before .before .before .before .before .before .before .before .before .before .pre .1 .here) (c .before .before .before .before .before .before .before .before .before .before .before .before .operand .ensures .0) (c .before .before .before .before .before .before .before .before .before .before .before .operand2 .ensures .0) (c .before .before .before .before .before .before .before .before .before .any-beyond .ensures) (c .before .before .before .before .before .before .before .before .if1 .left) (c .before .before .before .before .before .before .word .ensures) (c .before .before .before .before .before .word2 .ensures) (c .before .before .before .before .if2 .left) (c .before .before .before .operand3 .ensures .0) (c .before .before .element-place .ensures .0) (c .before .is-beyond .ensures) (c .if3 .taken)
+returns-3 c =
+    let after-operand3 = c .before .before .before in
+    let else2 = after-operand3 .before in
+    let after-word2 = else2 .before in
+    let after-word = after-word2 .before in
+    let else1 = after-word .before .before in
+    let after-any-beyond = else1 .before in
+    let after-operand2 = after-any-beyond .before .before in
+    let after-operand = after-operand2 .before in
+    let start = after-operand .before .before .before .before in
+    element-outside _ _ _ _ _ _ _ _ _ _ _ _ (start .pre .0) (start .pre .1 .here) (after-operand .operand .ensures .0) (after-operand2 .operand2 .ensures .0)
+    (after-any-beyond .any-beyond .ensures) (else1 .if1 .left) (after-word .word .ensures) (after-word2 .word2 .ensures) (else2 .if2 .left)
+    (after-operand3 .operand3 .ensures .0) (c .before .before .element-place .ensures .0) (c .before .is-beyond .ensures) (c .if3 .taken)
 
 select-requires : tie.Need-select-requires
 select-requires c κs = search needs
@@ -78,16 +102,48 @@ select-requires-2 : tie.Need-select-requires-2
 select-requires-2 c κs = search needs
 
 copy-element-requires : tie.Need-copy-element-requires
-copy-element-requires c κs = (c .before .before .before .before .before .before .before .before .before .before .before .before .before .before .before .before .before .before .before .pre .2, select-both _ _ _ _ _ _ (c .before .select .ensures) (both-inside _ _ _ _ _ (sym (c .before .before .before .before .before .before .before .before .before .before .before .before .any-beyond .ensures) ∙ c .before .before .before .before .before .before .before .before .before .before .before .if1 .left) .0) (inside _ _ _ (sym (c .before .before .before .before .is-beyond .ensures) ∙ c .before .before .before .if3 .left)), select-both _ _ _ _ _ _ (c .select2 .ensures) (inside _ _ _ (sym (c .before .before .before .before .is-beyond .ensures) ∙ c .before .before .before .if3 .left)) (both-inside _ _ _ _ _ (sym (c .before .before .before .before .before .before .before .before .before .before .before .before .any-beyond .ensures) ∙ c .before .before .before .before .before .before .before .before .before .before .before .if1 .left) .0))
+copy-element-requires c κs =
+    let else3 = c .before .before .before in
+    let after-is-beyond = else3 .before in
+    let else1 = after-is-beyond .before .before .before .before .before .before .before in
+    let after-any-beyond = else1 .before in
+    let start = after-any-beyond .before .before .before .before .before .before .before in (
+      start .pre .2,
+      select-both _ _ _ _ _ _ (c .before .select .ensures) (both-inside _ _ _ _ _ (sym (after-any-beyond .any-beyond .ensures) ∙ else1 .if1 .left) .0)
+          (inside _ _ _ (sym (after-is-beyond .is-beyond .ensures) ∙ else3 .if3 .left)),
+      select-both _ _ _ _ _ _ (c .select2 .ensures) (inside _ _ _ (sym (after-is-beyond .is-beyond .ensures) ∙ else3 .if3 .left))
+          (both-inside _ _ _ _ _ (sym (after-any-beyond .any-beyond .ensures) ∙ else1 .if1 .left) .0),
+    )
 
 add-t18 : tie.Need-add-t18
-add-t18 c = omega (arith, c .before .before .before .before .before .before .before .before .before .before .before .before .before .before .before .before .before .before .before .before .before .before .before .pre .1 .whole, c .before .before .before .before .before .before .before .before .before .before .before .before .before .before .before .before .before .before .before .before .before .before .before .pre .1 .short)
+add-t18 c =
+    let start = c .before .before .before .before .before .before .before .before .before .before .before .before .before .before .before .before .before .before .before .before .before .before .before in
+    omega (arith, start .pre .1 .whole, start .pre .1 .short)
 
 same-length-3 : tie.Need-same-length-3
 same-length-3 c = search needs
 
 returns-4 : tie.Need-returns-4
-returns-4 c = element-done _ _ _ _ _ _ _ _ _ _ _ _ _ _ _ (c .before .before .before .before .before .before .before .before .before .before .before .before .before .before .before .before .before .before .before .before .before .before .before .pre .0) (c .before .before .before .before .before .before .before .before .before .before .before .before .before .before .before .before .before .before .before .before .before .before .before .pre .1 .here) (c .before .before .before .before .before .before .before .before .before .before .before .before .before .before .before .before .before .before .before .operand .ensures .0) (c .before .before .before .before .before .before .before .before .before .before .before .before .before .before .before .before .before .before .operand2 .ensures .0) (c .before .before .before .before .before .before .before .before .before .before .before .before .before .before .before .before .any-beyond .ensures) (c .before .before .before .before .before .before .before .before .before .before .before .before .before .before .before .if1 .left) (c .before .before .before .before .before .before .before .before .before .before .before .before .before .word .ensures) (c .before .before .before .before .before .before .before .before .before .before .before .before .word2 .ensures) (c .before .before .before .before .before .before .before .before .before .before .before .if2 .left) (c .before .before .before .before .before .before .before .before .before .before .operand3 .ensures .0) (c .before .before .before .before .before .before .before .before .before .element-place .ensures .0) (c .before .before .before .before .before .before .before .before .is-beyond .ensures) (c .before .before .before .before .before .before .before .if3 .left) (c .before .before .before .before .before .select .ensures) (c .before .before .before .before .select2 .ensures) (c .before .before .before .copy-element .ensures)
+returns-4 c =
+    let after-copy-element = c .before .before .before in
+    let after-select2 = after-copy-element .before in
+    let after-select = after-select2 .before in
+    let else3 = after-select .before .before in
+    let after-is-beyond = else3 .before in
+    let after-element-place = after-is-beyond .before in
+    let after-operand3 = after-element-place .before in
+    let else2 = after-operand3 .before in
+    let after-word2 = else2 .before in
+    let after-word = after-word2 .before in
+    let else1 = after-word .before .before in
+    let after-any-beyond = else1 .before in
+    let after-operand2 = after-any-beyond .before .before in
+    let after-operand = after-operand2 .before in
+    let start = after-operand .before .before .before .before in
+    element-done _ _ _ _ _ _ _ _ _ _ _ _ _ _ _ (start .pre .0) (start .pre .1 .here) (after-operand .operand .ensures .0) (after-operand2 .operand2 .ensures .0)
+    (after-any-beyond .any-beyond .ensures) (else1 .if1 .left) (after-word .word .ensures) (after-word2 .word2 .ensures) (else2 .if2 .left)
+    (after-operand3 .operand3 .ensures .0) (after-element-place .element-place .ensures .0) (after-is-beyond .is-beyond .ensures) (else3 .if3 .left)
+    (after-select .select .ensures) (after-select2 .select2 .ensures) (after-copy-element .copy-element .ensures)
 
 pub access-element-spec : {M : Type 1} → statement M
 access-element-spec =

@@ -10,7 +10,13 @@ convert-at-requires : tie.Need-convert-at-requires
 convert-at-requires c κs = (c .before .before .before .before .before .before .before .before .pre .1, c .before .before .before .before .before .before .before .before .pre .2, c .before .before .operand .ensures .1, c .before .operand2 .ensures .1)
 
 returns : tie.Need-returns
-returns c = conversion-done _ _ _ _ _ _ _ _ _ _ (c .before .before .before .before .before .before .before .before .before .before .before .before .before .pre .0 .here) refl refl (c .before .before .before .before .before .before .before .operand .ensures .0) (c .before .before .before .before .before .before .operand2 .ensures .0) (c .before .before .before .before .convert-at .ensures) (c .conversion-outcome .ensures)
+returns c =
+    let after-convert-at = c .before .before .before .before in
+    let after-operand2 = after-convert-at .before .before in
+    let after-operand = after-operand2 .before in
+    let start = after-operand .before .before .before .before .before .before in
+    conversion-done _ _ _ _ _ _ _ _ _ _ (start .pre .0 .here) refl refl (after-operand .operand .ensures .0) (after-operand2 .operand2 .ensures .0)
+    (after-convert-at .convert-at .ensures) (c .conversion-outcome .ensures)
 
 pub convert-spec : {M : Type 1} → statement M
 convert-spec =

@@ -34,25 +34,50 @@ same-length : tie.Need-same-length
 same-length c = search needs
 
 returns : tie.Need-returns
-returns c = stored-copy _ _ _ _ _ _ _ (c .before .before .before .before .before .before .before .slice-known .given) (c .before .before .before .before .before .before .before .before .pre .2) (c .before .before .before .before .before .before .match .keys1) (c .before .before .before .load .ensures .0) (c .before .before .store .ensures)
+returns c =
+    let after-load = c .before .before .before in
+    let matched = after-load .before .before .before in
+    let known = matched .before in
+    let start = known .before in
+    stored-copy _ _ _ _ _ _ _ (known .slice-known .given) (start .pre .2) (matched .match .keys1) (after-load .load .ensures .0)
+    (c .before .before .store .ensures)
 
 same-length-2 : tie.Need-same-length-2
 same-length-2 c = search needs
 
 returns-2 : tie.Need-returns-2
-returns-2 c = stored-copy _ _ _ _ _ _ _ (c .before .before .before .before .before .before .before .slice-known .given) (c .before .before .before .before .before .before .before .before .pre .2) (c .before .before .before .before .before .before .match .keys2) (c .before .before .before .load2 .ensures .0) (c .before .before .store2 .ensures)
+returns-2 c =
+    let after-load2 = c .before .before .before in
+    let matched = after-load2 .before .before .before in
+    let known = matched .before in
+    let start = known .before in
+    stored-copy _ _ _ _ _ _ _ (known .slice-known .given) (start .pre .2) (matched .match .keys2) (after-load2 .load2 .ensures .0)
+    (c .before .before .store2 .ensures)
 
 same-length-3 : tie.Need-same-length-3
 same-length-3 c = search needs
 
 returns-3 : tie.Need-returns-3
-returns-3 c = stored-copy _ _ _ _ _ _ _ (c .before .before .before .before .before .before .before .slice-known .given) (c .before .before .before .before .before .before .before .before .pre .2) (c .before .before .before .before .before .before .match .keys3) (c .before .before .before .load3 .ensures .0) (c .before .before .store3 .ensures)
+returns-3 c =
+    let after-load3 = c .before .before .before in
+    let matched = after-load3 .before .before .before in
+    let known = matched .before in
+    let start = known .before in
+    stored-copy _ _ _ _ _ _ _ (known .slice-known .given) (start .pre .2) (matched .match .keys3) (after-load3 .load3 .ensures .0)
+    (c .before .before .store3 .ensures)
 
 same-length-4 : tie.Need-same-length-4
 same-length-4 c = search needs
 
 returns-4 : tie.Need-returns-4
-returns-4 c = stored-copy _ _ _ _ _ _ _ (c .before .before .before .before .before .before .before .slice-known .given) (c .before .before .before .before .before .before .before .before .pre .2) (last-width (c .before .before .before .before .before .before .before .before .pre .0) (c .before .before .before .before .before .before .match .rest .0 .0 .1) (c .before .before .before .before .before .before .match .rest .0 .1) (c .before .before .before .before .before .before .match .rest .1)) (c .before .before .before .load4 .ensures .0) (c .before .before .store4 .ensures)
+returns-4 c =
+    let after-load4 = c .before .before .before in
+    let matched = after-load4 .before .before .before in
+    let known = matched .before in
+    let start = known .before in
+    stored-copy _ _ _ _ _ _ _ (known .slice-known .given) (start .pre .2)
+    (last-width (start .pre .0) (matched .match .rest .0 .0 .1) (matched .match .rest .0 .1) (matched .match .rest .1)) (after-load4 .load4 .ensures .0)
+    (c .before .before .store4 .ensures)
 
 pub copy-element-spec : {M : Type 1} → statement M
 copy-element-spec =

@@ -82,8 +82,14 @@ returns-2 c = rw (c .word .ensures) (sym (jump-at _ _ _ (c .before .before .befo
 
 returns-15 : tie.Need-returns-15
 returns-15 c =
-    let given = c .before .before .before .before .before .before .before .before .before .before .before .pre in
-    typed-done _ _ _ 27 4 _ _ _ _ (not-last _ _ _ (given .0) (given .1) (given .2) (c .before .before .before .before .before .before .before .before .match .rest) (c .before .before .before .before .before .before .before .if1 .left)) (c .before .before .before .before .before .single .ensures .0) (c .before .before .before .before .not-at .ensures) (c .outcome .ensures)
+    let after-not-at = c .before .before .before .before in
+    let after-single = after-not-at .before in
+    let else1 = after-single .before .before in
+    let matched = else1 .before in
+    let start = matched .before .before .before in
+    let given = start .pre in
+    typed-done _ _ _ 27 4 _ _ _ _ (not-last _ _ _ (given .0) (given .1) (given .2) (matched .match .rest) (else1 .if1 .left)) (after-single .single .ensures .0)
+    (after-not-at .not-at .ensures) (c .outcome .ensures)
 
 pub execute-other-spec : {M : Type 1} → statement M
 execute-other-spec =

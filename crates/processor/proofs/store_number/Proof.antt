@@ -33,7 +33,14 @@ same-length : tie.Need-same-length
 same-length c = search needs
 
 returns-2 : tie.Need-returns-2
-returns-2 c = report-done _ _ _ _ _ _ _ _ _ (c .before .before .before .before .before .before .before .before .before .before .before .pre .0) (c .before .before .before .before .before .before .before .before .before .before .before .pre .1 .here) (c .before .before .before .before .before .before .before .operand .ensures .0) (c .before .before .before .before .before .before .is-beyond .ensures) (c .before .before .before .before .before .if1 .left) (c .before .before .before .store .ensures)
+returns-2 c =
+    let after-store = c .before .before .before in
+    let else1 = after-store .before .before in
+    let after-is-beyond = else1 .before in
+    let after-operand = after-is-beyond .before in
+    let start = after-operand .before .before .before .before in
+    report-done _ _ _ _ _ _ _ _ _ (start .pre .0) (start .pre .1 .here) (after-operand .operand .ensures .0) (after-is-beyond .is-beyond .ensures)
+    (else1 .if1 .left) (after-store .store .ensures)
 
 pub store-number-spec : {M : Type 1} → statement M
 store-number-spec =
