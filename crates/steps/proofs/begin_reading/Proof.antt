@@ -23,7 +23,16 @@ same-length : tie.Need-same-length
 same-length c = search needs
 
 returns-3 : tie.Need-returns-3
-returns-3 c = λ sh. ((λ m u. read-acquired (c .before .before .before .before .before .before .before .before .before .before .before .pre .0) m _ _ (c .before .before .before .before .before .before .before .before .before .before .before .pre .1) (omega (arith, c .before .before .before .before .before .if1 .left)) (c .before .before .take-record .ensures .0) (c .before .before .take-record .ensures .1) (u ∙ not-false _ (c .before .before .before .before .if2 .left)) sh), not-false _ (c .before .before .before .before .if2 .left))
+returns-3 c =
+    let after-take-record = c .before .before in
+    let else2 = after-take-record .before .before in
+    let else1 = else2 .before in
+    let start = else1 .before .before .before .before .before .before in
+    λ sh. (
+      (λ m u. read-acquired (start .pre .0) m _ _ (start .pre .1) (omega (arith, else1 .if1 .left)) (after-take-record .take-record .ensures .0)
+          (after-take-record .take-record .ensures .1) (u ∙ not-false _ (else2 .if2 .left)) sh),
+      not-false _ (else2 .if2 .left),
+    )
 
 pub begin-reading-spec : {M : Type 1} → statement M
 begin-reading-spec = tie.close (tie.spec cast-cycles returns returns-2 take-record-requires same-length returns-3)

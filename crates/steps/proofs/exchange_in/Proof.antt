@@ -9,10 +9,16 @@ begin-reading-requires : tie.Need-begin-reading-requires
 begin-reading-requires c κs = search needs
 
 read-byte-requires : tie.Need-read-byte-requires
-read-byte-requires c κs = (c .before .before .before .before .before .before .before .pre .0, c .before .before .match .keys2, c .before .before .before .before .before .before .before .pre .2, c .before .before .before .before .before .before .before .pre .3 .reading (c .before .before .match .keys2), c .before .before .before .before .before .before .before .pre .4)
+read-byte-requires c κs =
+    let matched = c .before .before in
+    let start = matched .before .before .before .before .before in
+    (start .pre .0, matched .match .keys2, start .pre .2, start .pre .3 .reading (matched .match .keys2), start .pre .4)
 
 write-byte-requires : tie.Need-write-byte-requires
-write-byte-requires c κs = (c .before .before .before .before .before .before .before .pre .0, c .before .before .match .keys4, c .before .before .before .before .before .before .before .pre .2, c .before .before .before .before .before .before .before .pre .3 .writing (c .before .before .match .keys4), c .before .before .before .before .before .before .before .pre .4)
+write-byte-requires c κs =
+    let matched = c .before .before in
+    let start = matched .before .before .before .before .before in
+    (start .pre .0, matched .match .keys4, start .pre .2, start .pre .3 .writing (matched .match .keys4), start .pre .4)
 
 begin-writing-requires : tie.Need-begin-writing-requires
 begin-writing-requires c κs = search needs

@@ -20,7 +20,14 @@ part-exchange-in-end : tie.Need-part-exchange-in-end
 part-exchange-in-end c = omega (arith, stretch-inside _ (c .before .before .before .before .before .pre .0 .ready) (c .before .before .before .before .before .pre .0 .buffer))
 
 exchange-in-requires : tie.Need-exchange-in-requires
-exchange-in-requires c κs = (subst⁻¹ (StepGiven _ _ _ _ _) (stretch-is _ (c .before .before .before .before .before .before .before .pre .0 .ready) (c .before .before .before .before .before .before .before .pre .0 .buffer) _ refl) (c .before .before .before .before .before .before .before .pre .0 .ready), c .before .before .before .before .before .before .before .pre .1, c .before .before .before .before .before .before .before .pre .0 .shared, c .before .before .before .before .before .before .before .pre .0 .aimed, c .before .before .before .before .before .before .before .pre .0 .upto)
+exchange-in-requires c κs =
+    let start = c .before .before .before .before .before .before .before in (
+      subst⁻¹ (StepGiven _ _ _ _ _) (stretch-is _ (start .pre .0 .ready) (start .pre .0 .buffer) _ refl) (start .pre .0 .ready),
+      start .pre .1,
+      start .pre .0 .shared,
+      start .pre .0 .aimed,
+      start .pre .0 .upto,
+    )
 
 same-length : tie.Need-same-length
 same-length c = search needs
@@ -29,7 +36,13 @@ same-length-2 : tie.Need-same-length-2
 same-length-2 c = search needs
 
 returns : tie.Need-returns
-returns c = ((λ h z. steps-in _ (c .before .before .before .before .before .before .before .before .before .before .before .before .pre .0 .ready) (c .before .before .before .before .before .before .before .before .before .before .before .before .pre .0 .buffer) _ refl h _ _ _ _ (c .before .before .before .before .exchange-in .ensures .0 h z) (c .before .before .before .before .exchange-in .kept .1 .1 .1 .1 .1 .0)), c .before .before .before .before .exchange-in .ensures .1)
+returns c =
+    let after-exchange-in = c .before .before .before .before in
+    let start = after-exchange-in .before .before .before .before .before .before .before .before in (
+      (λ h z. steps-in _ (start .pre .0 .ready) (start .pre .0 .buffer) _ refl h _ _ _ _ (after-exchange-in .exchange-in .ensures .0 h z)
+          (after-exchange-in .exchange-in .kept .1 .1 .1 .1 .1 .0)),
+      after-exchange-in .exchange-in .ensures .1,
+    )
 
 pub exchange-of-spec : {M : Type 1} → statement M
 exchange-of-spec =

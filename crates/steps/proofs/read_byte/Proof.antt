@@ -12,7 +12,15 @@ returns : tie.Need-returns
 returns c = λ b. ((λ h z. read-none (c .before .before .before .before .before .before .before .pre .0) _ h (c .before .before .before .before .before .before .before .pre .1) (c .if1 .taken)), tt)
 
 bring-requires : tie.Need-bring-requires
-bring-requires c κs = (c .before .before .before .before .before .before .before .before .pre .0 .accepted .laid, c .before .before .before .before .before .before .before .before .pre .0 .known, c .before .before .before .before .before .before .before .before .pre .3, reads-left (c .before .before .before .before .before .before .before .before .pre .0) (c .before .if1 .left), c .before .before .before .before .before .before .before .before .pre .0 .fit .size, c .before .before .before .before .before .before .before .before .pre .2)
+bring-requires c κs =
+    let start = c .before .before .before .before .before .before .before .before in (
+      start .pre .0 .accepted .laid,
+      start .pre .0 .known,
+      start .pre .3,
+      reads-left (start .pre .0) (c .before .if1 .left),
+      start .pre .0 .fit .size,
+      start .pre .2,
+    )
 
 add-if2 : tie.Need-add-if2
 add-if2 c = search needs
@@ -21,19 +29,28 @@ same-length : tie.Need-same-length
 same-length c = search needs
 
 returns-2 : tie.Need-returns-2
-returns-2 c = λ b. ((λ h z. read-last (c .before .before .before .before .before .before .before .before .before .before .before .before .before .pre .0) _ h _ (c .before .before .before .before .before .before .before .before .before .before .before .before .before .pre .1) (c .if2 .taken) (c .before .before .before .before .bring .ensures)), tt)
+returns-2 c =
+    let after-bring = c .before .before .before .before in
+    let start = after-bring .before .before .before .before .before .before .before .before .before in
+    λ b. ((λ h z. read-last (start .pre .0) _ h _ (start .pre .1) (c .if2 .taken) (after-bring .bring .ensures)), tt)
 
 add-onward : tie.Need-add-onward
 add-onward c = search needs
 
 onward-requires : tie.Need-onward-requires
-onward-requires c κs = (c .before .before .before .before .before .before .before .before .before .before .before .before .before .pre .0 .accepted .laid, c .before .before .before .before .before .before .before .before .before .before .before .before .before .pre .4, omega (arith, core-few (c .before .before .before .before .before .before .before .before .before .before .before .before .before .pre .0)), c .before .before .before .before .before .before .before .before .before .before .before .before .before .pre .3, reads-left (c .before .before .before .before .before .before .before .before .before .before .before .before .before .pre .0) (c .before .before .before .before .before .before .if1 .left))
+onward-requires c κs =
+    let else1 = c .before .before .before .before .before .before in
+    let start = else1 .before .before .before .before .before .before .before in
+    (start .pre .0 .accepted .laid, start .pre .4, omega (arith, core-few (start .pre .0)), start .pre .3, reads-left (start .pre .0) (else1 .if1 .left))
 
 same-length-2 : tie.Need-same-length-2
 same-length-2 c = search needs
 
 returns-3 : tie.Need-returns-3
-returns-3 c = λ b. ((λ h z. read-more (c .before .before .before .before .before .before .before .before .before .before .before .before .before .before .pre .0) _ h _ (c .before .before .before .before .before .before .before .before .before .before .before .before .before .before .pre .1) (c .before .if2 .left) (c .before .before .before .before .before .bring .ensures)), (c .before .before .before .before .before .before .before .before .before .before .before .before .before .before .pre .1, c .onward .ensures))
+returns-3 c =
+    let after-bring = c .before .before .before .before .before in
+    let start = after-bring .before .before .before .before .before .before .before .before .before in
+    λ b. ((λ h z. read-more (start .pre .0) _ h _ (start .pre .1) (c .before .if2 .left) (after-bring .bring .ensures)), (start .pre .1, c .onward .ensures))
 
 pub read-byte-spec : {M : Type 1} → statement M
 read-byte-spec =

@@ -13,7 +13,10 @@ same-length : tie.Need-same-length
 same-length c = search needs
 
 returns : tie.Need-returns
-returns c = (blank-time (c .before .before .before .before .before .before .before .before .pre .0) (c .before .before .before .before .if1 .taken), blank-input (c .before .before .before .before .before .before .before .before .pre .0) (c .before .before .before .before .if1 .taken) _ (c .before .before .clear .ensures))
+returns c =
+    let then1 = c .before .before .before .before in
+    let start = then1 .before .before .before .before in
+    (blank-time (start .pre .0) (then1 .if1 .taken), blank-input (start .pre .0) (then1 .if1 .taken) _ (c .before .before .clear .ensures))
 
 cast-place : tie.Need-cast-place
 cast-place c = search needs
@@ -31,10 +34,16 @@ add-copy : tie.Need-add-copy
 add-copy c = record { fits = omega (arith, record-inside (c .before .before .before .before .before .before .before .before .pre .0) (c .before .before .before .before .if1 .left) (c .before .before .before .before .before .before .before .before .pre .1)) }
 
 copy-requires : tie.Need-copy-requires
-copy-requires c κs = (omega (arith, inputs-inside (c .before .before .before .before .before .before .before .before .pre .0)), omega (arith, record-inside (c .before .before .before .before .before .before .before .before .pre .0) (c .before .before .before .before .if1 .left) (c .before .before .before .before .before .before .before .before .pre .1)))
+copy-requires c κs =
+    let else1 = c .before .before .before .before in
+    let start = else1 .before .before .before .before in
+    (omega (arith, inputs-inside (start .pre .0)), omega (arith, record-inside (start .pre .0) (else1 .if1 .left) (start .pre .1)))
 
 load-requires : tie.Need-load-requires
-load-requires c κs = (omega (arith, record-inside (c .before .before .before .before .before .before .before .before .before .before .before .pre .0) (c .before .before .before .before .before .before .before .if1 .left) (c .before .before .before .before .before .before .before .before .before .before .before .pre .1)), omega arith)
+load-requires c κs =
+    let else1 = c .before .before .before .before .before .before .before in
+    let start = else1 .before .before .before .before in
+    (omega (arith, record-inside (start .pre .0) (else1 .if1 .left) (start .pre .1)), omega arith)
 
 cast-result : tie.Need-cast-result
 cast-result c = search needs
@@ -43,7 +52,13 @@ same-length-2 : tie.Need-same-length-2
 same-length-2 c = search needs
 
 returns-2 : tie.Need-returns-2
-returns-2 c = (stored-time (c .before .before .before .before .before .before .before .before .before .before .before .before .pre .0) (c .before .before .before .before .before .before .before .before .if1 .left) _ _ refl (c .load .ensures .0), stored-input (c .before .before .before .before .before .before .before .before .before .before .before .before .pre .0) (c .before .before .before .before .before .before .before .before .if1 .left) _ _ refl (c .before .before .before .copy .ensures))
+returns-2 c =
+    let after-copy = c .before .before .before in
+    let else1 = after-copy .before .before .before .before .before in
+    let start = else1 .before .before .before .before in (
+      stored-time (start .pre .0) (else1 .if1 .left) _ _ refl (c .load .ensures .0),
+      stored-input (start .pre .0) (else1 .if1 .left) _ _ refl (after-copy .copy .ensures),
+    )
 
 pub take-record-spec : {M : Type 1} → statement M
 take-record-spec =

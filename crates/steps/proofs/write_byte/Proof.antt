@@ -12,7 +12,15 @@ returns : tie.Need-returns
 returns c = λ b. ((λ h z. write-none (c .before .before .before .before .before .before .before .pre .0) _ h (c .before .before .before .before .before .before .before .pre .1) (c .if1 .taken)), tt)
 
 publish-requires : tie.Need-publish-requires
-publish-requires c κs = (c .before .before .before .before .before .before .before .before .pre .0 .accepted .laid, c .before .before .before .before .before .before .before .before .pre .0 .known, c .before .before .before .before .before .before .before .before .pre .3, writes-left (c .before .before .before .before .before .before .before .before .pre .0) (c .before .if1 .left), c .before .before .before .before .before .before .before .before .pre .0 .fit .size, c .before .before .before .before .before .before .before .before .pre .2)
+publish-requires c κs =
+    let start = c .before .before .before .before .before .before .before .before in (
+      start .pre .0 .accepted .laid,
+      start .pre .0 .known,
+      start .pre .3,
+      writes-left (start .pre .0) (c .before .if1 .left),
+      start .pre .0 .fit .size,
+      start .pre .2,
+    )
 
 add-if2 : tie.Need-add-if2
 add-if2 c = search needs
@@ -21,16 +29,28 @@ same-length : tie.Need-same-length
 same-length c = search needs
 
 returns-2 : tie.Need-returns-2
-returns-2 c = λ b. ((λ h z. write-last (c .before .before .before .before .before .before .before .before .before .before .before .before .before .pre .0) _ h _ (c .before .before .before .before .before .before .before .before .before .before .before .before .before .pre .1) (c .if2 .taken) (c .before .before .before .before .publish .ensures)), tt)
+returns-2 c =
+    let after-publish = c .before .before .before .before in
+    let start = after-publish .before .before .before .before .before .before .before .before .before in
+    λ b. ((λ h z. write-last (start .pre .0) _ h _ (start .pre .1) (c .if2 .taken) (after-publish .publish .ensures)), tt)
 
 onward-requires : tie.Need-onward-requires
-onward-requires c κs = (c .before .before .before .before .before .before .before .before .before .before .before .before .before .pre .0 .accepted .laid, c .before .before .before .before .before .before .before .before .before .before .before .before .before .pre .4, omega (arith, core-few (c .before .before .before .before .before .before .before .before .before .before .before .before .before .pre .0)), c .before .before .before .before .before .before .before .before .before .before .before .before .before .pre .3, writes-left (c .before .before .before .before .before .before .before .before .before .before .before .before .before .pre .0) (c .before .before .before .before .before .before .if1 .left))
+onward-requires c κs =
+    let else1 = c .before .before .before .before .before .before in
+    let start = else1 .before .before .before .before .before .before .before in
+    (start .pre .0 .accepted .laid, start .pre .4, omega (arith, core-few (start .pre .0)), start .pre .3, writes-left (start .pre .0) (else1 .if1 .left))
 
 same-length-2 : tie.Need-same-length-2
 same-length-2 c = search needs
 
 returns-3 : tie.Need-returns-3
-returns-3 c = λ b. ((λ h z. write-more (c .before .before .before .before .before .before .before .before .before .before .before .before .before .before .pre .0) _ h _ (c .before .before .before .before .before .before .before .before .before .before .before .before .before .before .pre .1) (c .before .if2 .left) (c .before .before .before .before .before .publish .ensures)), (c .before .before .before .before .before .before .before .before .before .before .before .before .before .before .pre .1, c .onward .ensures))
+returns-3 c =
+    let after-publish = c .before .before .before .before .before in
+    let start = after-publish .before .before .before .before .before .before .before .before .before in
+    λ b. (
+      (λ h z. write-more (start .pre .0) _ h _ (start .pre .1) (c .before .if2 .left) (after-publish .publish .ensures)),
+      (start .pre .1, c .onward .ensures),
+    )
 
 pub write-byte-spec : {M : Type 1} → statement M
 write-byte-spec =
