@@ -48,7 +48,14 @@ returns-3 : tie.Need-returns-3 Inv-loop μ-loop
 returns-3 c = search needs
 
 execute-requires : tie.Need-execute-requires Inv-loop μ-loop
-execute-requires c κs = record { accepted = c .before .before .before .before .before .before .before .before .before .before .before .before .pre .0; short = c .before .before .before .before .before .before .before .before .before .before .before .before .pre .1; start = sym (c .before .before .is-start .ensures) ∙ not-false _ (c .before .if3 .left); small = c .before .before .before .before .if2 .left }
+execute-requires c κs =
+    let given = c .before .before .before .before .before .before .before .before .before .before .before .before .pre in
+    record {
+      accepted = given .0;
+      short = given .1;
+      start = sym (c .before .before .is-start .ensures) ∙ not-false _ (c .before .if3 .left);
+      small = c .before .before .before .before .if2 .left;
+    }
 
 enum-known-b : tie.Need-enum-known-b Inv-loop μ-loop
 enum-known-b c = search needs
@@ -99,7 +106,10 @@ array-write-offsets : tie.Need-array-write-offsets Inv-loop μ-loop
 array-write-offsets c = search needs
 
 called-requires : tie.Need-called-requires Inv-loop μ-loop
-called-requires c κs = (omega (arith, c .before .before .before .before .before .before .before .before .before .before .before .before .before .if1 .left, c .before .before .before .before .before .before .before .before .before .before .before .before .before .before .before .before .before .before .before .before .fits), omega (arith, c .if5 .left))
+called-requires c κs =
+    let else1 = c .before .before .before .before .before .before .before .before .before .before .before .before .before in
+    let start = else1 .before .before .before .before .before .before .before in
+    (omega (arith, else1 .if1 .left, start .fits), omega (arith, c .if5 .left))
 
 enum-told : tie.Need-enum-told Inv-loop μ-loop
 enum-told c = search needs
