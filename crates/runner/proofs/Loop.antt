@@ -305,7 +305,9 @@ module _ {f t : List ℕ} {order list₀ : List ℕ} {s₀ : State} {cs₀ : Lis
         running = running-on f t g (executes f t g) order list₀ s₀ cs₀ places₀ offsets₀ i cs places offsets h taken d sh list (w .running)
             b k (sym e) ik (g .few) z₀ (y₀ .memory) sh′ cs′ places′ offsets′ h′ taken′ d′ list′ (y₀ .does)
             record { registers = ce ∙ ap (set cs k) re; stack = se; stacks = so; semaphore = he; memory = y₀ .kept } le te one en dl;
-        aimed = λ j l q. subst (λ (u : List Registers). CursorAimed f j (getD u j noRegisters) cursor′) (sym ce) (after-aimed ik (rw (w .running .four) (omega (arith, g .few))) (subst (After f k (h .holder) (getD cs k noRegisters) r′ cursor cursor′) (sym (ap (λ (m : Semaphore). m .holder) he)) ae) j l q);
+        aimed = λ j l q. subst (λ (u : List Registers). CursorAimed f j (getD u j noRegisters) cursor′) (sym ce)
+            (after-aimed ik (rw (w .running .four) (omega (arith, g .few)))
+            (subst (After f k (h .holder) (getD cs k noRegisters) r′ cursor cursor′) (sym (ap (λ (m : Semaphore). m .holder) he)) ae) j l q);
       }
 
   -- a core in an exchange is the holder

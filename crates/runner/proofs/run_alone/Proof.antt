@@ -26,14 +26,18 @@ slice-aggregate-run-core : tie.Need-slice-aggregate-run-core Inv-loop μ-loop
 slice-aggregate-run-core c = search needs
 
 run-core-requires : tie.Need-run-core-requires Inv-loop μ-loop
-run-core-requires c κs = (standing-alone _ (executing-on (c .before .before .before .before .before .before .before .before .before .before .pre .0) (c .before .before .before .before .before .before .loop .inv)), c .before .before .before .before .before .before .before .before .before .before .pre .1, steps-alone 256 (c .before .before .before .before .before .before .before .before .before .before .args .k) (omega arith), c .before .before .before .before .if1 .taken)
+run-core-requires c κs =
+    let here = c .before .before .before .before .before .before in
+    let start = here .before .before .before .before in
+    (standing-alone _ (executing-on (start .pre .0) (here .loop .inv)), start .pre .1, steps-alone 256 (start .args .k) (omega arith), c .before .before .before .before .if1 .taken)
 
 loop-less : tie.Need-loop-less Inv-loop μ-loop
 loop-less c =
     let here = c .before .before .before .before .before .before .before .before .before .before .loop in
     let ran = c .before .before .before .run-core in
     let at = c .reached-at .ensures in
-    rw at (left-less (here .r) (reachedAt (here .r) (ran .result)) (ran .result .step) (c .before .before .before .before .before .before .before .before .if1 .taken) (executing-count (executing-on (c .before .before .before .before .before .before .before .before .before .before .before .before .before .before .pre .0) (here .inv))) (ran .ensures .onward) (ran .ensures .counted))
+    let counted = executing-count (executing-on (c .before .before .before .before .before .before .before .before .before .before .before .before .before .before .pre .0) (here .inv)) in
+    rw at (left-less (here .r) (reachedAt (here .r) (ran .result)) (ran .result .step) (c .before .before .before .before .before .before .before .before .if1 .taken) counted (ran .ensures .onward) (ran .ensures .counted))
 
 loop-again : tie.Need-loop-again Inv-loop μ-loop
 loop-again c =
