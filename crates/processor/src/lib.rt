@@ -1,5 +1,12 @@
 // Document 01, mode 2: one instruction of a core, from its registers, its code and its lent data. What it answers is applied to the
 // registers and the call stack by the machine, which also tries the instruction limit first.
+mod addresses;
+
+use addresses::any_beyond;
+use addresses::is_beyond;
+use addresses::operand;
+use addresses::operands;
+use addresses::single;
 use commands::Operands;
 use commands::Performed;
 use conversions::Conversion;
@@ -10,15 +17,13 @@ ghost use mathlib.Core.Bool.{true, false};
 ghost use mathlib.Core.Logic.{_⊎_};
 ghost use Prim.Native.Nat.{_+_, _*_, _≤_, _<_};
 ghost use lib.ListN.{length};
-ghost use lib.Dec.{ltb};
 ghost use Rattle.memory.specs.Memory.{byte, splice, part, word};
 ghost use Rattle.verdict.specs.Verdict.{pick};
 ghost use Rattle.values.specs.Width.{Width};
 ghost use Rattle.code.specs.Commands.{three};
 ghost use Rattle.code.specs.Code.{judgeCode, isStart};
-ghost use Rattle.values.specs.Commands.{beyond, anyBeyond};
-ghost use Rattle.processor.specs.Processor.{placeOf, answer, executed};
-ghost use Rattle.processor.specs.Typed.{operandsAt, Low, outcomeOf, conversionOutcome};
+ghost use Rattle.processor.specs.Processor.{answer, executed};
+ghost use Rattle.processor.specs.Typed.{outcomeOf, conversionOutcome};
 ghost use Rattle.processor.specs.Executable.{Executable, InstructionStands, Reports};
 
 // The entries of the table of lengths that lead to the next instruction.
@@ -43,58 +48,6 @@ const REPORT: u16 = code::LENGTHS[41] as u16;
 const CONVERT: u16 = code::LENGTHS[43] as u16;
 
 const PACKED: u16 = code::LENGTHS[44] as u16;
-
-// ---- addresses
-
-// From here on an address is absolute.
-const ABSOLUTE: u16 = 32768;
-
-// What the sum with an address wraps at: it takes 32,768 away.
-const BACK: u64 = u64::MAX - 32767;
-
-// What an address is added to.
-fn base(offset: u16, address: u16) -> u64
-    ensures { λ r. ⌜ r ≡ pick (ltb address 32768) offset 18446744073709518848 ⌝ }
-{
-    if address < ABSOLUTE {
-        return offset as u64;
-    }
-    BACK
-}
-
-// The place of an address, for a core with this data offset. One sum for both kinds of address: of a sum and a difference the compiler makes both.
-fn place(offset: u16, address: u16) -> usize
-    ensures { λ r. ⌜ (r ≡ placeOf offset address) × (r < 98304) ⌝ }
-{
-    std::num::wrapping_add_u64(base(offset, address), address as u64) as usize
-}
-
-// The place of the address that stands in the code at `at`.
-fn operand(offset: u16, code: &[u8], at: usize) -> usize
-    requires { ⌜ at + 2 ≤ length (now code) ⌝ }
-    ensures { λ r. ⌜ (r ≡ placeOf offset (word (now (code .entry)) at)) × (r < 98304) ⌝ }
-{
-    place(offset, code::word(code, at))
-}
-
-// Whether an operand is beyond the data.
-fn is_beyond(size: usize, place: usize, width: usize) -> bool
-    requires { ⌜ (place < 1000000) × (width < 65536) ⌝ }
-    ensures { λ r. ⌜ r ≡ beyond size place width ⌝ }
-{
-    size < place + width
-}
-
-// Whether one of two operands is, of n bytes at p and of m bytes at q.
-fn any_beyond(size: usize, p: usize, n: usize, q: usize, m: usize) -> bool
-    requires { ⌜ (p < 1000000) × (n < 65536) × (q < 1000000) × (m < 65536) ⌝ }
-    ensures { λ r. ⌜ r ≡ anyBeyond size p n q m ⌝ }
-{
-    if is_beyond(size, p, n) {
-        return true;
-    }
-    is_beyond(size, q, m)
-}
 
 // ---- control
 
@@ -244,48 +197,6 @@ fn access_element(op: u8, r: Registers, code: &[u8], d: &mut [u8]) -> Outcome
 }
 
 // ---- typed commands
-
-// The operands of a command with three addresses. Mostly none of them is absolute: then the data offset is added to each.
-fn operands(r: Registers, code: &[u8]) -> Operands
-    requires { ⌜ (r .counter + 8 ≤ length (now code)) × (length (now code) ≤ 8192) ⌝ }
-    ensures { λ o. ⌜ (o ≡ operandsAt 6 (now (code .entry)) r) × Low o ⌝ }
-{
-    let p = r.counter as usize;
-    let kind = code[p + 1];
-    let to = code::word(code, p + 2);
-    let first = code::word(code, p + 4);
-    let second = code::word(code, p + 6);
-    if (to < ABSOLUTE) & (first < ABSOLUTE) & (second < ABSOLUTE) {
-        let offset = r.offset as usize;
-        return Operands {
-            kind,
-            to: offset + to as usize,
-            first: offset + first as usize,
-            second: offset + second as usize,
-        };
-    }
-    Operands {
-        kind,
-        to: place(r.offset, to),
-        first: place(r.offset, first),
-        second: place(r.offset, second),
-    }
-}
-
-// Those of NOT, which has two, and of 44 and 45: the one source stands for both.
-fn single(r: Registers, code: &[u8]) -> Operands
-    requires { ⌜ (r .counter + 6 ≤ length (now code)) × (length (now code) ≤ 8192) ⌝ }
-    ensures { λ o. ⌜ (o ≡ operandsAt 4 (now (code .entry)) r) × Low o ⌝ }
-{
-    let p = r.counter as usize;
-    let source = operand(r.offset, code, p + 4);
-    Operands {
-        kind: code[p + 1],
-        to: operand(r.offset, code, p + 2),
-        first: source,
-        second: source,
-    }
-}
 
 // What a typed command before the place `next` answers, as an instruction.
 fn outcome(performed: Performed, next: u16) -> Outcome

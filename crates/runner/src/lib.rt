@@ -1,6 +1,13 @@
 // The steps of an order, one after another.
+mod order;
+
 use commands::Performed;
 use exchange::Cursor;
+use order::STRETCH;
+use order::core_at;
+use order::execution_ahead;
+use order::least;
+use order::steps_ahead;
 use processor::TYPED;
 use protocol::ADDRESS;
 use protocol::DIVISOR;
@@ -12,17 +19,16 @@ use states::CoreTask;
 use states::Held;
 use steps::Exchange;
 ghost use mathlib.Core.Path.{_≡_};
-ghost use mathlib.Core.Bool.{true, false};
+ghost use mathlib.Core.Bool.{true};
 ghost use mathlib.Core.Logic.{_≢_};
-ghost use Prim.Native.Nat.{_+_, _*_, _<_, _≤_, min};
+ghost use Prim.Native.Nat.{_+_, _*_, _<_};
 ghost use lib.ListN.{length, getD, set};
 ghost use Rattle.commands.specs.Attempts.{flagBit};
 ghost use Rattle.records.specs.File.{cores};
-ghost use Rattle.runner.specs.Runs.{allBelow, leftAs, ranCall};
+ghost use Rattle.runner.specs.Runs.{leftAs, ranCall};
 ghost use Rattle.states.specs.Tasks.{coreTask};
-ghost use Rattle.steps.specs.Bytes.{Ahead};
 ghost use Rattle.runner.specs.Going.{RunGiven};
-ghost use Rattle.runner.specs.Running.{stepsOn, AllOn, Stretches, faultedBy, executingAt, reachedOf, reachedAt, bytesOn, RunStands, Reaches};
+ghost use Rattle.runner.specs.Running.{stepsOn, faultedBy, executingAt, reachedOf, reachedAt, bytesOn, RunStands, Reaches};
 ghost use Rattle.runner.specs.Executing.{ExecutionGiven, Executes};
 ghost use Rattle.protocol.specs.Modes.{executing};
 
@@ -67,14 +73,6 @@ pub fn offsets_of(s: Held) -> [u16; 64]
     s.offsets
 }
 
-// Core i of an order that was judged.
-fn core_at(file: &[u8], order: &[u8], i: usize) -> usize
-    requires { ⌜ (i < length (now order)) × (allBelow (cores (now file)) (now order) ≡ true) × (cores (now file) ≤ 4) ⌝ }
-    ensures { λ k. ⌜ (k ≡ getD (now (order .entry)) i 0) × (k < cores (now (file .entry))) × (k < 4) ⌝ }
-{
-    order[i] as usize
-}
-
 // The registers of a core with another place of execution. Field by field, so that a run loads only what it needs.
 fn executing_at(r: Registers, counter: u16, offset: u16, depth: u8, count: u16) -> Registers
     ensures { λ s. ⌜ s ≡ executingAt r counter offset depth count ⌝ }
@@ -92,71 +90,6 @@ fn executing_at(r: Registers, counter: u16, offset: u16, depth: u8, count: u16) 
     }
 }
 
-// Whether step i of an order is one of core k.
-fn stays(order: &[u8], i: usize, k: usize) -> bool
-    ensures { λ b. ⌜ b ≡ stepsOn (now (order .entry)) i k ⌝ }
-{
-    if order.len() <= i {
-        return false;
-    }
-    order[i] as usize == k
-}
-
-// Eight bytes of 1 each: times k, eight steps of core k.
-const ONES: u64 = 0x0101010101010101;
-
-// Whether at least eight steps are left from step i on, `room` in all, and the next eight are of core k.
-fn eight_on(order: &[u8], i: usize, room: usize, k: usize) -> bool
-    requires { ⌜ (i + room ≤ length (now order)) × (k < 4) ⌝ }
-    ensures { λ b. ⌜ (b ≡ true → (8 ≤ room) × AllOn (now (order .entry)) k i 8) ⌝ }
-{
-    if room < 8 {
-        return false;
-    }
-    memory::load(order, i, 8) == k as u64 * ONES
-}
-
-// The lesser of two numbers.
-fn least(a: usize, b: usize) -> usize
-    ensures { λ r. ⌜ r ≡ min a b ⌝ }
-{
-    if a < b {
-        return a;
-    }
-    b
-}
-
-// How many of the steps from i on are of core k, one after another, `most` of them at most.
-fn stretch(order: &[u8], i: usize, most: usize, k: usize) -> usize
-    requires { ⌜ (i ≤ length (now order)) × (k < 4) ⌝ }
-    ensures { λ m. ⌜ Stretches (now (order .entry)) i most k m ⌝ }
-{
-    let room = least(order.len() - i, most);
-    let mut m: usize = 0;
-    while eight_on(order, i + m, room - m, k) {
-        m += 8;
-    }
-    while m < room {
-        if order[i + m] as usize != k {
-            return m;
-        }
-        m += 1;
-    }
-    m
-}
-
-// How many of the steps from i on are of core k, with the registers r and the task c, and copy bytes of its exchange that leave one; 0 where the next
-// step is of another core, so that a single step is told at once.
-fn steps_ahead(order: &[u8], i: usize, k: usize, r: Registers, c: CoreTask) -> usize
-    requires { ⌜ (i < length (now order)) × (k < 4) ⌝ }
-    ensures { λ m. ⌜ (0 < m → Ahead c r m) × (i + m ≤ length (now (order .entry))) × AllOn (now (order .entry)) k i m ⌝ }
-{
-    if !stays(order, i + 1, k) {
-        return 0;
-    }
-    stretch(order, i, steps::bytes_ahead(r, c), k)
-}
-
 // The registers of a core that has copied `count` more bytes.
 fn bytes_on(r: Registers, count: usize) -> Registers
     requires { ⌜ r .exchange + count < 65536 ⌝ }
@@ -165,20 +98,6 @@ fn bytes_on(r: Registers, count: usize) -> Registers
     let mut s = r;
     s.exchange = r.exchange + count as u16;
     s
-}
-
-// Steps that are looked at ahead: so many that the look at them costs a step little, and so few that little is lost where the core leaves mode 2 before.
-const STRETCH: usize = 256;
-
-// How many of the steps from i on are of core k, as step i is, `most` of them at most. A single step is told at once.
-fn execution_ahead(order: &[u8], i: usize, most: usize, k: usize) -> usize
-    requires { ⌜ (stepsOn (now order) i k ≡ true) × (0 < most) × (k < 4) ⌝ }
-    ensures { λ m. ⌜ Stretches (now (order .entry)) i most k m ⌝ }
-{
-    if !stays(order, i + 1, k) {
-        return 1;
-    }
-    stretch(order, i, most, k)
 }
 
 // The registers of a core whose typed command did not end well.
@@ -192,8 +111,7 @@ fn stopped(r: Registers, p: Performed) -> Registers
     }
 }
 
-// What a stretch of instructions leaves: the step after them, and what they change of the registers. A whole structure would be copied in wide words,
-// which wait for the narrow stores of its fields.
+// What a stretch of instructions leaves: the step after them, and what they change of the registers. A copied structure waits for narrow stores.
 struct Reached {
     step: usize,
     mode: u8,

@@ -1,9 +1,9 @@
--- `runner::stays` meets its contract: past the end of the order no step is left. Assumes nothing.
+-- `runner::order::stays` meets its contract: past the end of the order no step is left. Assumes nothing.
 use native.Mathlib.Omega.{arith}
 use borrow.Author.Tests.{lt-ltb, le-ltb}
 use borrow.Author.Needs.{needs}
-use Rattle.runner.proofs.stays.Statement.{statement}
-use Rattle.runner.proofs.stays.Tie as tie
+use Rattle.runner.proofs.order.stays.Statement.{statement}
+use Rattle.runner.proofs.order.stays.Tie as tie
 
 returns : tie.Need-returns
 returns c = rw (le-ltb _ _ (c .if1 .taken))

@@ -1,7 +1,7 @@
 -- Each place is the one that `operand` gives; the source's stands twice.
 use borrow.Author.Needs.{needs}
-use Rattle.processor.proofs.single.Statement.{statement}
-use Rattle.processor.proofs.single.Tie as tie
+use Rattle.processor.proofs.addresses.single.Statement.{statement}
+use Rattle.processor.proofs.addresses.single.Tie as tie
 
 returns : tie.Need-returns
 returns c = (rw (c .before .before .operand .ensures .0, c .operand2 .ensures .0), (c .operand2 .ensures .1, c .before .before .operand .ensures .1, c .before .before .operand .ensures .1))

@@ -1,9 +1,9 @@
--- `processor::operands` meets its contract. Each place is that of its address; where none is absolute, by one sum. Assumes nothing.
+-- `processor::addresses::operands` meets its contract. Each place is that of its address; where none is absolute, by one sum. Assumes nothing.
 use native.Mathlib.Omega.{arith}
 use borrow.Author.Needs.{needs}
 use Rattle.processor.proofs.Inside.{relative-operands}
-use Rattle.processor.proofs.operands.Statement.{statement}
-use Rattle.processor.proofs.operands.Tie as tie
+use Rattle.processor.proofs.addresses.operands.Statement.{statement}
+use Rattle.processor.proofs.addresses.operands.Tie as tie
 
 returns : tie.Need-returns
 returns c =

@@ -2,8 +2,8 @@
 use mathlib.Core.Path.{ap, _∙_}
 use borrow.Author.Needs.{needs}
 use Rattle.processor.specs.Processor.{placeOf}
-use Rattle.processor.proofs.operand.Tie as tie
-use Rattle.processor.proofs.operand.Statement.{statement}
+use Rattle.processor.proofs.addresses.operand.Tie as tie
+use Rattle.processor.proofs.addresses.operand.Statement.{statement}
 
 word-requires : tie.Need-word-requires
 word-requires c κs = search needs

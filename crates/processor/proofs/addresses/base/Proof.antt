@@ -1,8 +1,8 @@
 -- The offset below 32,768, from there on what takes 32,768 away, by the test.
 use borrow.Author.Tests.{lt-ltb, le-ltb}
 use Rattle.verdict.specs.Verdict.{pick}
-use Rattle.processor.proofs.base.Tie as tie
-use Rattle.processor.proofs.base.Statement.{statement}
+use Rattle.processor.proofs.addresses.base.Tie as tie
+use Rattle.processor.proofs.addresses.base.Statement.{statement}
 
 returns : tie.Need-returns
 unfolding pick

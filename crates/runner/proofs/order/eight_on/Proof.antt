@@ -1,12 +1,12 @@
--- `runner::eight_on` meets its contract: eight equal bytes are k times eight bytes of 1. Assumes nothing.
+-- `runner::order::eight_on` meets its contract: eight equal bytes are k times eight bytes of 1. Assumes nothing.
 use mathlib.Core.Path.{sym, _∙_}
 use native.Mathlib.Omega.{arith}
 use borrow.Author.Needs.{needs}
 use borrow.Author.Tests.{eqb-true}
 use Rattle.verdict.proofs.Verdict.{absurd-bool}
 use Rattle.runner.proofs.Bytes.{eight-equal}
-use Rattle.runner.proofs.eight_on.Statement.{statement}
-use Rattle.runner.proofs.eight_on.Tie as tie
+use Rattle.runner.proofs.order.eight_on.Statement.{statement}
+use Rattle.runner.proofs.order.eight_on.Tie as tie
 
 returns : tie.Need-returns
 returns c = λ e. absurd-bool e

@@ -1,8 +1,8 @@
 -- The test is the definition; the bounds keep the sum from wrapping.
 use borrow.Author.Needs.{needs}
 use Rattle.values.specs.Commands.{beyond}
-use Rattle.processor.proofs.is_beyond.Tie as tie
-use Rattle.processor.proofs.is_beyond.Statement.{statement}
+use Rattle.processor.proofs.addresses.is_beyond.Tie as tie
+use Rattle.processor.proofs.addresses.is_beyond.Statement.{statement}
 
 add-result : tie.Need-add-result
 add-result c = search needs

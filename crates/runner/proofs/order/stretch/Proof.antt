@@ -1,4 +1,4 @@
--- `runner::stretch` meets its contract. The invariant of both loops: the m steps looked at are of core k. Assumes nothing.
+-- `runner::order::stretch` meets its contract. The invariant of both loops: the m steps looked at are of core k. Assumes nothing.
 use mathlib.Core.Path.{_≡_}
 use Prim.Native.Nat.{_+_, _-_, _≤_}
 use native.Mathlib.Omega.{arith}
@@ -6,8 +6,8 @@ use borrow.Author.Needs.{needs}
 use lib.ListN.{length}
 use Rattle.runner.specs.Running.{AllOn}
 use Rattle.runner.proofs.Stretches.{step-in, first-on, all-none, all-more, all-one}
-use Rattle.runner.proofs.stretch.Statement.{statement}
-use Rattle.runner.proofs.stretch.Tie as tie
+use Rattle.runner.proofs.order.stretch.Statement.{statement}
+use Rattle.runner.proofs.order.stretch.Tie as tie
 
 abbrev Inv-loop : tie.InvT-loop
 Inv-loop order i most k room m₀ m = (room ≤ most) × (i + room ≤ length order) × (m ≤ room) × AllOn order k i m

@@ -2,8 +2,8 @@
 use native.Mathlib.Omega.{arith}
 use borrow.Author.Needs.{needs}
 use Rattle.processor.proofs.Inside.{summed}
-use Rattle.processor.proofs.place.Tie as tie
-use Rattle.processor.proofs.place.Statement.{statement}
+use Rattle.processor.proofs.addresses.place.Tie as tie
+use Rattle.processor.proofs.addresses.place.Statement.{statement}
 
 returns : tie.Need-returns
 returns c = summed (c .before .before .args .offset) (c .before .before .args .address) _ _ (omega arith) (omega arith) (c .before .base .ensures) (c .wrapping-add-u64 .ensures)

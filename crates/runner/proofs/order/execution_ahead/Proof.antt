@@ -1,10 +1,10 @@
--- `runner::execution_ahead` meets its contract: step i is of core k, so one step is a stretch. Assumes nothing.
+-- `runner::order::execution_ahead` meets its contract: step i is of core k, so one step is a stretch. Assumes nothing.
 use mathlib.Core.Path.{sym}
 use native.Mathlib.Omega.{arith}
 use borrow.Author.Needs.{needs}
 use Rattle.runner.proofs.Stretches.{step-in, all-one}
-use Rattle.runner.proofs.execution_ahead.Statement.{statement}
-use Rattle.runner.proofs.execution_ahead.Tie as tie
+use Rattle.runner.proofs.order.execution_ahead.Statement.{statement}
+use Rattle.runner.proofs.order.execution_ahead.Tie as tie
 
 add-stays : tie.Need-add-stays
 add-stays c = let good = c .before .good in record { fits = omega (arith, step-in (c .before .args .order .now) (c .before .args .i) (c .before .args .k) (c .before .pre .0) .0) }

@@ -1,10 +1,10 @@
--- `runner::steps_ahead` meets its contract: as many steps as leave a byte, of those that are of core k. Assumes nothing.
+-- `runner::order::steps_ahead` meets its contract: as many steps as leave a byte, of those that are of core k. Assumes nothing.
 use native.Mathlib.Omega.{arith}
 use borrow.Author.Needs.{needs}
 use Rattle.runner.proofs.Stretches.{all-none}
 use Rattle.runner.proofs.Bytes.{ahead-less}
-use Rattle.runner.proofs.steps_ahead.Statement.{statement}
-use Rattle.runner.proofs.steps_ahead.Tie as tie
+use Rattle.runner.proofs.order.steps_ahead.Statement.{statement}
+use Rattle.runner.proofs.order.steps_ahead.Tie as tie
 
 returns : tie.Need-returns
 returns c = let given = c .before .before .before in ((λ h. absurd (omega arith)), omega (arith, given .pre .0), all-none (given .args .order .now) (given .args .k) (given .args .i))

@@ -1,4 +1,4 @@
--- `runner::core_at` meets its contract: an order that was judged names cores below n. Assumes nothing.
+-- `runner::order::core_at` meets its contract: an order that was judged names cores below n. Assumes nothing.
 use mathlib.Core.Path.{refl}
 use Prim.Native.Nat.{_<_}
 use native.Mathlib.Omega.{arith}
@@ -6,8 +6,8 @@ use lib.ListN.{getD}
 use Rattle.records.specs.File.{cores}
 use Rattle.runner.proofs.Running.{below-at}
 use borrow.Author.Needs.{needs}
-use Rattle.runner.proofs.core_at.Statement.{statement}
-use Rattle.runner.proofs.core_at.Tie as tie
+use Rattle.runner.proofs.order.core_at.Statement.{statement}
+use Rattle.runner.proofs.order.core_at.Tie as tie
 
 shared-slice-read-result : tie.Need-shared-slice-read-result
 shared-slice-read-result c = search needs

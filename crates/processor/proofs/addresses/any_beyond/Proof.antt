@@ -1,8 +1,8 @@
 -- The first operand decides where it is beyond, else the second does.
 use mathlib.Core.Path.{sym, _∙_}
 use borrow.Author.Needs.{needs}
-use Rattle.processor.proofs.any_beyond.Tie as tie
-use Rattle.processor.proofs.any_beyond.Statement.{statement}
+use Rattle.processor.proofs.addresses.any_beyond.Tie as tie
+use Rattle.processor.proofs.addresses.any_beyond.Statement.{statement}
 
 is-beyond-requires : tie.Need-is-beyond-requires
 is-beyond-requires c κs = search needs
