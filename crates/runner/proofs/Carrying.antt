@@ -5,6 +5,7 @@ use mathlib.Core.Bool.{true, not}
 use mathlib.Core.Logic.{_≢_}
 use mathlib.Core.List.{List, []}
 use Prim.Native.Nat.{ℕ, zero, suc, _+_, _-_, _*_, _<_, _≤_, min}
+use native.Mathlib.Nat.{add-zero}
 use native.Mathlib.Omega.{arith}
 use borrow.Author.Tests.{ltb-true, eqb-true, lt-ltb, eq-eqb, not-true}
 use lib.Dec.{ltb, eqb}
@@ -37,9 +38,11 @@ use Rattle.steps.specs.Effects.{Idle, Fault, Next, Call, Return, CycleEnded, ba
 use Rattle.steps.specs.Moving.{StepGiven, InstructionGiven}
 use Rattle.steps.proofs.Given.{limit-low}
 use Rattle.steps.proofs.Does.{does-wait}
-use Rattle.runner.specs.Running.{stepsOn, Stretches, faultedBy, executingAt, reachedOf, reachedAt, RunningAt, RunStands, CarriesRun, Reaches}
+use Rattle.runner.specs.Runs.{allBelow}
+use Rattle.runner.specs.Running.{Waits, stepsOn, Stretches, faultedBy, executingAt, reachedOf, reachedAt, RunningAt, RunStands, CarriesRun, Reaches}
 use Rattle.runner.specs.declared.Reached.{Reached}
 use Rattle.runner.proofs.Stretches.{step-in, on-stretch}
+use Rattle.runner.proofs.Running.{below-at}
 use Rattle.runner.proofs.Loop.{ready, stays, plain-arm, stack-arm, after-advanced, after-called, after-returned, after-faulted, after-ended, returned-by, in-line}
 
 -- ---- an instruction
@@ -307,13 +310,6 @@ stands {list₀ = list₀} {s₀ = s₀} {cs₀ = cs₀} {places₀ = places₀}
 
 -- ---- waiting
 
--- the steps from i to before i′ change nothing
-abbrev pub Idles : List ℕ → List ℕ → List ℕ → List Registers → List ℕ → List ℕ → Semaphore → ℕ → List ℕ → List ℕ → List ℕ → Cursor → ℕ → ℕ → Type 0
-Idles f t order cs places offsets h taken d sh list cursor i i′ =
-    (list₀ : List ℕ) (s₀ : State) (cs₀ : List Registers) (places₀ offsets₀ : List ℕ)
-    → RunningAt f t order list₀ s₀ cs₀ places₀ offsets₀ i cs places offsets h taken d sh list cursor
-    → RunningAt f t order list₀ s₀ cs₀ places₀ offsets₀ i′ cs places offsets h taken d sh list cursor
-
 -- the step of a core that waits changes nothing
 pub idle : {f t : List ℕ} {order list₀ : List ℕ} {s₀ : State} {cs₀ : List Registers} {places₀ offsets₀ : List ℕ}
     {i : ℕ} {cs : List Registers} {places offsets : List ℕ} {h : Semaphore} {taken : ℕ} {d sh list : List ℕ} {cursor : Cursor} → AcceptedSet f t
@@ -324,3 +320,30 @@ idle {f} {cs = cs} {h = h} {d = d} ok w b {k} e ik z =
     plain-arm w ok b e ik
     record { memory = getD (split (sizesOf f) d) k []; does = does-wait _ _ _ _ _ _ (a .0) (not-true _ (a .1)) (in-line w ik (a .0)); kept = sym (set-getD (split (sizesOf f) d) k []) }
     refl Idle refl refl refl refl refl (sym (set-getD cs k noRegisters)) refl refl refl (stays (λ a. a) refl) refl
+
+-- and so do the steps of such cores from i up to j, n of them
+pub idle-on : {f t : List ℕ} {order list₀ : List ℕ} {s₀ : State} {cs₀ : List Registers} {places₀ offsets₀ : List ℕ}
+    {i : ℕ} {cs : List Registers} {places offsets : List ℕ} {h : Semaphore} {taken : ℕ} {d sh list : List ℕ} {cursor : Cursor} → AcceptedSet f t → allBelow (cores f) order ≡ true
+    → RunningAt f t order list₀ s₀ cs₀ places₀ offsets₀ i cs places offsets h taken d sh list cursor → (n : ℕ) → i + n ≤ length order → Waits order h i (i + n)
+    → RunningAt f t order list₀ s₀ cs₀ places₀ offsets₀ (i + n) cs places offsets h taken d sh list cursor
+idle-on {f} {t} {order} {list₀} {s₀} {cs₀} {places₀} {offsets₀} {i} {cs} {places} {offsets} {h} {taken} {d} {sh} {list} {cursor} ok low w zero b z =
+    subst (λ (j : ℕ). RunningAt f t order list₀ s₀ cs₀ places₀ offsets₀ j cs places offsets h taken d sh list cursor) (sym (add-zero i)) w
+idle-on {f} {t} {order} {list₀} {s₀} {cs₀} {places₀} {offsets₀} {i} {cs} {places} {offsets} {h} {taken} {d} {sh} {list} {cursor} ok low w (suc n) b z =
+    let within : i + n < length order = omega arith in
+    let on = idle-on ok low w n (omega arith) (λ m a c. z m a (omega arith)) in
+    let next : (i + n) + 1 ≡ i + suc n = omega arith in
+    subst (λ (j : ℕ). RunningAt f t order list₀ s₀ cs₀ places₀ offsets₀ j cs places offsets h taken d sh list cursor) next
+    (idle ok on within refl (below-at (cores f) order (i + n) low within) (z (i + n) (omega arith) (omega arith)))
+
+-- the step of a core that waits, and those of such cores that follow it
+pub waited : {f t : List ℕ} {order list₀ : List ℕ} {s₀ : State} {cs₀ : List Registers} {places₀ offsets₀ : List ℕ}
+    {i : ℕ} {cs : List Registers} {places offsets : List ℕ} {h : Semaphore} {taken : ℕ} {d sh list : List ℕ} {cursor : Cursor} → AcceptedSet f t → allBelow (cores f) order ≡ true
+    → RunningAt f t order list₀ s₀ cs₀ places₀ offsets₀ i cs places offsets h taken d sh list cursor → i < length order → waitsAt h (getD order i 0) ≡ true
+    → (j : ℕ) → i + 1 ≤ j → j ≤ length order → Waits order h (i + 1) j
+    → RunningAt f t order list₀ s₀ cs₀ places₀ offsets₀ j cs places offsets h taken d sh list cursor
+waited {f} {t} {order} {list₀} {s₀} {cs₀} {places₀} {offsets₀} {i} {cs} {places} {offsets} {h} {taken} {d} {sh} {list} {cursor} ok low w b e j a c z =
+    let n = j - (i + 1) in
+    let q : (i + 1) + n ≡ j = omega arith in
+    let first = idle ok w b refl (below-at (cores f) order i low b) e in
+    subst (λ (m : ℕ). RunningAt f t order list₀ s₀ cs₀ places₀ offsets₀ m cs places offsets h taken d sh list cursor) q
+    (idle-on ok low first n (rw q c) (λ m u v. z m u (rw q at v)))

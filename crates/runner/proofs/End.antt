@@ -29,7 +29,7 @@ use Rattle.states.specs.declared.Held.{Held}
 use Rattle.states.specs.declared.CoreTask.{CoreTask}
 use Rattle.states.specs.Task.{taskOf}
 use Rattle.states.specs.Machine.{noRegisters, stackIn, coreIn, stateIn, stateOf, registersBack, entryBack, heldAfter, dataOf}
-use Rattle.runner.specs.Runs.{leftAs, ranCall}
+use Rattle.runner.specs.Runs.{ranAnswer, leftAs, ranCall}
 use Rattle.runner.specs.Going.{RunGiven}
 use Rattle.runner.specs.Running.{Running, RunningAt}
 use Rattle.runner.proofs.Loop.{part-entry}
@@ -114,7 +114,7 @@ pub looping-end : {f t : List ℕ} {tasks : List CoreTask} {first end : ℕ} {or
     {i : ℕ} {cs : List Registers} {places offsets : List ℕ} {x : Line} {taken : ℕ} {d sh list : List ℕ} {cursor : Cursor}
     → RunGiven f t tasks first end order s aim d₀ sh₀ list₀
     → RunningAt f t order list₀ (stateOf f s d₀ sh₀) (s .cores) (s .places) (s .offsets) i cs places offsets (semaphoreOf (x .semaphore)) taken d sh list cursor → Lined x → length order ≤ i
-    → leftAs (record { refusal = 0; taken = taken; state = record { count = s .count; semaphore = x .semaphore; cores = cs; places = places; offsets = offsets } }) d sh list
+    → leftAs (ranAnswer s (x .semaphore) cs places offsets taken) d sh list
     ≡ ranCall f t s d₀ sh₀ order list₀
 unfolding ranCall splice lineOf
 looping-end {f} {t} {order = order} {s = s} {d₀ = d₀} {sh₀ = sh₀} {list₀ = list₀} {i = i} {cs = cs} {places = places} {offsets = offsets} {x = x} {taken = taken} {d = d} {sh = sh} {list = list} g w l b =

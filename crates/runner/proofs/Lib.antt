@@ -1,7 +1,7 @@
 pub mod Stretches
 pub mod Running
 pub mod Loop
-pub mod Arms
+pub mod Exchanging
 pub mod End
 pub mod Carrying
 pub mod Executing

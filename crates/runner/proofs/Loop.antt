@@ -37,9 +37,7 @@ use Rattle.states.specs.Tasks.{coreTask, noTask}
 use Rattle.states.specs.Machine.{noRegisters, stackIn, coreIn, stateIn, stateOf}
 use Rattle.states.specs.Fit.{FitCore, Fit}
 use Rattle.states.proofs.Executes.{executes}
-use Rattle.steps.specs.Effects.{Effect, registersBy, stackBy, semaphoreBy, takenBy, Takes, More, Steps}
-use Rattle.steps.specs.declared.Exchange.{Exchange}
-use Rattle.steps.specs.declared.Exchange.the-variants.{Joins, ReadBegun, ReadOn, WriteBegun, WriteOn}
+use Rattle.steps.specs.Effects.{Effect, registersBy, stackBy, semaphoreBy, takenBy, Steps}
 use Rattle.steps.specs.Moving.{CursorAimed, StepGiven, ExchangeGiven}
 use Rattle.runner.specs.Going.{RunGiven}
 use Rattle.runner.specs.Running.{RunningAt}
@@ -133,29 +131,6 @@ moving {f} {t} {cs = cs} {places = places} {offsets = offsets} {h = h} {d = d} {
     mine : (mode (core (stateIn f cs places offsets h d sh .plant) k) ≡ 1) ⊎ (mode (core (stateIn f cs places offsets h d sh .plant) k) ≡ 4) → h .holder ≡ suc k
     mine e = ap (λ (m : Semaphore). m .holder) (sym (semaphore-in f cs places offsets h d sh)) ∙ w .running .fit .held .held k e
 
--- what the effect that a step answered lets the registers take
-pub takes-of : {f t : List ℕ} {k : ℕ} {r : Registers} {d sh : List ℕ} {h : Semaphore} {z : Effect} {d′ sh′ : List ℕ} → Steps f t k r d sh h z d′ sh′ → (z₀ : Effect) → z ≡ z₀ → Takes r z₀
-takes-of {r = r} y z₀ e = subst (Takes r) e (y .does .ready)
-
--- what goes with an answer
-module _ (f : List ℕ) (k : ℕ) (r : Registers) (turns : Bool) {z : Exchange} where
-  -- where a byte was copied and others are left
-  pub read-on : {next : Cursor} → z ≡ ReadOn next → More f k r turns z → (r .mode ≡ 1) × At f (4 + k) (r .exchange + 1) next
-  read-on = subst (More f k r turns)
-
-  pub write-on : {next : Cursor} → z ≡ WriteOn next → More f k r turns z → (r .mode ≡ 4) × At f k (r .exchange + 1) next
-  write-on = subst (More f k r turns)
-
-  -- out of its turn, or in it
-  pub joins-out : z ≡ Joins → More f k r turns z → turns ≡ false
-  joins-out = subst (More f k r turns)
-
-  pub reads-in : {time : ℕ} → z ≡ ReadBegun time → More f k r turns z → turns ≡ true
-  reads-in = subst (More f k r turns)
-
-  pub writes-in : z ≡ WriteBegun → More f k r turns z → turns ≡ true
-  writes-in = subst (More f k r turns)
-
 -- a run's semaphore that is not changed
 pub kept-line : {x y : Line} → Lined x → y ≡ x → Becomes y (semaphoreOf (x .semaphore))
 kept-line {x} {y} l e = record { is = ap (λ (u : Line). semaphoreOf (u .semaphore)) e; lined = subst Lined (sym e) l }
@@ -240,11 +215,11 @@ returned-by r places offsets k n e a b h =
 
 -- ---- the order list
 
-list-none : (list : List ℕ) (n : ℕ) → splice list n [] ≡ list
+pub list-none : (list : List ℕ) (n : ℕ) → splice list n [] ≡ list
 unfolding splice
 list-none list n = refl
 
-list-one : (list : List ℕ) (n x : ℕ) → splice list n (x ∷ []) ≡ set list n x
+pub list-one : (list : List ℕ) (n x : ℕ) → splice list n (x ∷ []) ≡ set list n x
 unfolding splice
 list-one list n x = refl
 
@@ -351,18 +326,6 @@ module _ {f t : List ℕ} {order list₀ : List ℕ} {s₀ : State} {cs₀ : Lis
         (ap length pe ∙ w .running .entries .0, ap length oe ∙ w .running .entries .1) he ae
         (le ∙ sym (ap (λ (xs : List Taking). splice list taken (map encoded xs)) nt ∙ list-none list taken))
         (te ∙ sym (ap (λ (xs : List Taking). taken + length xs) nt ∙ add-zero taken)) (rw nt (omega arith))
-
-    -- a taking
-    pub taking-arm : (z₀ : Effect) → z ≡ z₀ → (x : Taking) → takenBy z₀ k ≡ x ∷ [] → stackBy z₀ (coreIn f cs places offsets d k) ≡ stackIn places offsets k → r′ ≡ registersBy z₀ (coreIn f cs places offsets d k)
-        → list′ ≡ set list taken (encoded x) → cs′ ≡ set cs k r′ → places′ ≡ places → offsets′ ≡ offsets → h′ ≡ semaphoreBy z₀ k h
-        → After f k (h .holder) (getD cs k noRegisters) r′ cursor cursor′ (semaphoreBy z₀ k h .holder) → taken′ ≡ taken + 1
-        → RunningAt f t order list₀ s₀ cs₀ places₀ offsets₀ (i + 1) cs′ places′ offsets′ h′ taken′ d′ sh′ list′ cursor′
-    taking-arm z₀ ze x one st re le ce pe oe he ae te =
-        arm g b e ik y dl z₀ ze ce re (same-stack (ap (λ (l : List ℕ). part l (16 * k) 16) pe) (ap (λ (l : List ℕ). part l (16 * k) 16) oe) ∙ sym st)
-        (λ j n. same-stack (ap (λ (l : List ℕ). part l (16 * j) 16) pe) (ap (λ (l : List ℕ). part l (16 * j) 16) oe))
-        (ap length pe ∙ w .running .entries .0, ap length oe ∙ w .running .entries .1) he ae
-        (le ∙ sym (ap (λ (xs : List Taking). splice list taken (map encoded xs)) one ∙ list-one list taken (encoded x)))
-        (te ∙ sym (ap (λ (xs : List Taking). taken + length xs) one)) (rw one (omega arith))
 
     -- an entry of the call stack
     pub stack-arm : (z₀ : Effect) → z ≡ z₀ → takenBy z₀ k ≡ [] → r′ ≡ registersBy z₀ (coreIn f cs places offsets d k) → (n v u : ℕ) → n < 16

@@ -1,5 +1,5 @@
 -- The order: steps of one core that follow one another. Assumes nothing.
-use mathlib.Core.Path.{_≡_, sym, ap, _∙_}
+use mathlib.Core.Path.{_≡_, sym, ap, _∙_, subst}
 use mathlib.Core.Bool.{true}
 use mathlib.Core.List.{List}
 use Prim.Native.Nat.{ℕ, zero, suc, _+_, _≤_, _<_}
@@ -9,7 +9,9 @@ use borrow.Author.Tests.{ltb-true, eqb-true, lt-ltb, eq-eqb}
 use lib.Dec.{ltb, eqb}
 use lib.ListN.{length, getD}
 use Rattle.verdict.proofs.Verdict.{both-true}
-use Rattle.runner.specs.Running.{stepsOn, AllOn, Stretches}
+use Rattle.protocol.specs.State.{Semaphore}
+use Rattle.semaphore.specs.Line.{waitsAt}
+use Rattle.runner.specs.Running.{stepsOn, AllOn, Stretches, Waits}
 
 -- ---- one step
 
@@ -44,3 +46,15 @@ all-one order k i e j a b = let q : j ≡ i = omega arith in ap (λ (x : ℕ). g
 -- a step of a stretch
 pub on-stretch : {order : List ℕ} {from most k m i : ℕ} → Stretches order from most k m → from ≤ i → i < from + m → stepsOn order i k ≡ true
 on-stretch {order} {from} {most} {k} {m} {i} s l h = steps-on order i k (omega (arith, s .within)) (sym (s .all i l h))
+
+-- ---- steps of cores that wait
+
+pub waits-none : (order : List ℕ) (h : Semaphore) (i : ℕ) → Waits order h i i
+waits-none order h i m a b = absurd (let z : ⊥ = omega arith in z)
+
+pub waits-on : (order : List ℕ) (h : Semaphore) {i j : ℕ} → i ≤ j → Waits order h i j → waitsAt h (getD order j 0) ≡ true → Waits order h i (j + 1)
+waits-on order h {i} {j} l w e m a b = go (decLe (suc m) j)
+  where
+    go : Dec (m < j) → waitsAt h (getD order m 0) ≡ true
+    go (yes u) = w m a u
+    go (no u) = let q : j ≡ m = omega (arith, u) in subst (λ (n : ℕ). waitsAt h (getD order n 0) ≡ true) q e

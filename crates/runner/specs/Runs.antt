@@ -7,6 +7,8 @@ use lib.Dec.{ltb}
 use Rattle.verdict.specs.Verdict.{both}
 use Rattle.memory.specs.Memory.{splice}
 use Rattle.protocol.specs.Step.{run, orderList}
+use Rattle.protocol.specs.declared.Registers.{Registers}
+use Rattle.semaphore.specs.declared.Semaphore.{Semaphore}
 use Rattle.records.specs.File.{cores}
 use Rattle.states.specs.declared.Held.{Held}
 use Rattle.states.specs.Task.{taskOf}
@@ -28,6 +30,10 @@ pub record Left : Type 0 where
 
 abbrev pub leftAs : RunAnswer → List ℕ → List ℕ → List ℕ → Left
 leftAs r d sh list = record { answer = r; memory = d; shared = sh; order = list }
+
+-- the answer of a run from the state h, by its parts afterwards
+abbrev pub ranAnswer : Held → Semaphore → List Registers → List ℕ → List ℕ → ℕ → RunAnswer
+ranAnswer h semaphore cs places offsets taken = record { refusal = 0; taken = taken; state = record { count = h .count; semaphore = semaphore; cores = cs; places = places; offsets = offsets } }
 
 -- the steps of an order, whose takings go to the front of the order list
 unfoldable pub ranCall : List ℕ → List ℕ → Held → List ℕ → List ℕ → List ℕ → List ℕ → Left

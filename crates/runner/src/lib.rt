@@ -1,12 +1,18 @@
 // The steps of an order, one after another.
+mod effects;
 mod order;
 
 use commands::Performed;
+use effects::cursor_after;
+use effects::line_after;
+use effects::list_taking;
+use effects::registers_after;
 use exchange::Cursor;
 use order::STRETCH;
 use order::core_at;
 use order::execution_ahead;
 use order::least;
+use order::past_waiting;
 use order::steps_ahead;
 use processor::TYPED;
 use protocol::ADDRESS;
@@ -15,9 +21,9 @@ use protocol::EXECUTING;
 use protocol::LIMIT;
 use protocol::Outcome;
 use protocol::Registers;
+use semaphore::Semaphore;
 use states::CoreTask;
 use states::Held;
-use steps::Exchange;
 ghost use mathlib.Core.Path.{_≡_};
 ghost use mathlib.Core.Bool.{true};
 ghost use mathlib.Core.Logic.{_≢_};
@@ -25,7 +31,7 @@ ghost use Prim.Native.Nat.{_+_, _*_, _<_};
 ghost use lib.ListN.{length, getD, set};
 ghost use Rattle.commands.specs.Attempts.{flagBit};
 ghost use Rattle.records.specs.File.{cores};
-ghost use Rattle.runner.specs.Runs.{leftAs, ranCall};
+ghost use Rattle.runner.specs.Runs.{leftAs, ranAnswer, ranCall};
 ghost use Rattle.states.specs.Tasks.{coreTask};
 ghost use Rattle.runner.specs.Going.{RunGiven};
 ghost use Rattle.runner.specs.Running.{stepsOn, faultedBy, executingAt, reachedOf, reachedAt, bytesOn, RunStands, Reaches};
@@ -258,6 +264,31 @@ pub fn run_alone(
     r
 }
 
+// What a run from the state s answers.
+fn ran(
+    s: Held,
+    semaphore: Semaphore,
+    cores: [Registers; 4],
+    places: [u16; 64],
+    offsets: [u16; 64],
+    taken: usize,
+) -> RunAnswer
+    ensures { λ r. ⌜ r ≡ ranAnswer s semaphore cores places offsets taken ⌝ }
+{
+    let state = Held {
+        count: s.count,
+        semaphore,
+        cores,
+        places,
+        offsets,
+    };
+    RunAnswer {
+        refusal: 0,
+        taken,
+        state,
+    }
+}
+
 // The steps of an order, one after another; everything is judged before.
 pub fn run_order(
     file: &[u8],
@@ -302,99 +333,27 @@ pub fn run_order(
             cores[k] = reached_at(cores[k], x);
             i = x.step;
         } else if semaphore::waits(line, k) {
-            // a loop of its own: most steps of waiting cores follow one another, and what they test of a core is one byte
-            let mut waiting = true;
-            while waiting {
-                i += 1;
-                waiting = false;
-                if i < n {
-                    let j = core_at(file, order, i);
-                    waiting = semaphore::waits(line, j);
-                }
-            }
+            i = past_waiting(file, order, i + 1, line);
         } else {
-            let m = steps_ahead(order, i, k, cores[k], tasks[k]);
+            let r = cores[k];
+            let m = steps_ahead(order, i, k, r, tasks[k]);
             if 0 < m {
                 // all but the last of the bytes that follow one another, in one go
-                cursor = steps::move_bytes(
-                    cores[k],
-                    k,
-                    tasks[k],
-                    file,
-                    trace,
-                    buffer,
-                    shared,
-                    end,
-                    cursor,
-                    m,
-                );
-                cores[k] = bytes_on(cores[k], m);
+                let c = tasks[k];
+                cursor = steps::move_bytes(r, k, c, file, trace, buffer, shared, end, cursor, m);
+                cores[k] = bytes_on(r, m);
                 i += m;
             } else {
                 let turn = semaphore::turn(line.semaphore, k as u8);
-                let z = steps::exchange_of(
-                    cores[k],
-                    k,
-                    tasks[k],
-                    file,
-                    trace,
-                    buffer,
-                    shared,
-                    end,
-                    cursor,
-                    turn,
-                );
-                match z {
-                    Exchange::Rests => {}
-                    Exchange::Joins => {
-                        line = semaphore::joined(line, k);
-                    }
-                    Exchange::ReadBegun(time) => {
-                        cores[k] = protocol::read_acquired(cores[k], time);
-                        line = semaphore::acquired(line, k);
-                        cursor = exchange::start(file, first, end, 4 + k);
-                        list[taken] = k as u8;
-                        taken = taken + 1;
-                    }
-                    Exchange::ReadOn(next) => {
-                        cores[k] = protocol::byte_copied(cores[k]);
-                        cursor = next;
-                    }
-                    Exchange::ReadEnded => {
-                        cores[k] = protocol::read_released(cores[k]);
-                        line = semaphore::released(line);
-                    }
-                    Exchange::WriteBegun => {
-                        cores[k] = protocol::write_acquired(cores[k]);
-                        line = semaphore::acquired(line, k);
-                        cursor = exchange::start(file, first, end, k);
-                        list[taken] = 16 + k as u8;
-                        taken = taken + 1;
-                    }
-                    Exchange::WriteOn(next) => {
-                        cores[k] = protocol::byte_copied(cores[k]);
-                        cursor = next;
-                    }
-                    Exchange::WriteEnded => {
-                        cores[k] = protocol::write_released(cores[k]);
-                        line = semaphore::released(line);
-                    }
-                }
+                let c = tasks[k];
+                let z = steps::exchange_of(r, k, c, file, trace, buffer, shared, end, cursor, turn);
+                cores[k] = registers_after(z, r);
+                line = line_after(z, line, k);
+                cursor = cursor_after(z, cursor, file, first, end, k);
+                taken = list_taking(z, list, taken, k);
                 i += 1;
             }
         }
     }
-    let semaphore = line.semaphore;
-    let state = Held {
-        count: s.count,
-        semaphore,
-        cores,
-        places,
-        offsets,
-    };
-    RunAnswer {
-        refusal: 0,
-        taken,
-        state,
-    }
+    ran(s, line.semaphore, cores, places, offsets, taken)
 }

@@ -1,6 +1,7 @@
 // The order of a run: which core a step is of, and how many of the steps from one on are of the same core.
 // Not here: the steps themselves (src/lib.rt).
 use protocol::Registers;
+use semaphore::Line;
 use states::CoreTask;
 ghost use mathlib.Core.Path.{_≡_};
 ghost use mathlib.Core.Bool.{true, false};
@@ -9,7 +10,8 @@ ghost use lib.ListN.{length, getD};
 ghost use Rattle.records.specs.File.{cores};
 ghost use Rattle.runner.specs.Runs.{allBelow};
 ghost use Rattle.steps.specs.Bytes.{Ahead};
-ghost use Rattle.runner.specs.Running.{stepsOn, AllOn, Stretches};
+ghost use Rattle.semaphore.specs.Line.{Lined, semaphoreOf};
+ghost use Rattle.runner.specs.Running.{stepsOn, AllOn, Stretches, Waits};
 
 // Core i of an order that was judged.
 pub fn core_at(file: &[u8], order: &[u8], i: usize) -> usize
@@ -82,6 +84,24 @@ pub fn steps_ahead(order: &[u8], i: usize, k: usize, r: Registers, c: CoreTask) 
         return 0;
     }
     stretch(order, i, steps::bytes_ahead(r, c), k)
+}
+
+// The first step from i on that is not one of a core which waits in line. A loop of its own: most steps of waiting cores follow one another, and what they test
+// of a core is one byte.
+pub fn past_waiting(file: &[u8], order: &[u8], i: usize, line: Line) -> usize
+    requires { ⌜ (i ≤ length (now order)) × (allBelow (cores (now file)) (now order) ≡ true) × (cores (now file) ≤ 4) × Lined line ⌝ }
+    ensures { λ j. ⌜ (i ≤ j) × (j ≤ length (now (order .entry))) × Waits (now (order .entry)) (semaphoreOf (line .semaphore)) i j ⌝ }
+{
+    let n = order.len();
+    let mut j = i;
+    while j < n {
+        let k = core_at(file, order, j);
+        if !semaphore::waits(line, k) {
+            return j;
+        }
+        j += 1;
+    }
+    j
 }
 
 // Steps that are looked at ahead: so many that the look at them costs a step little, and so few that little is lost where the core leaves mode 2 before.

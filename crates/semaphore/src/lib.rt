@@ -50,7 +50,7 @@ pub fn turn(m: Semaphore, k: u8) -> bool
 }
 
 // Entry i of the line, 0 past its end.
-fn entry(m: Semaphore, i: usize) -> u8
+fn line_entry(m: Semaphore, i: usize) -> u8
     requires { ⌜ i < 4 ⌝ }
     ensures { λ r. ⌜ r ≡ getD (semaphoreOf m .line) i 0 ⌝ }
 {
@@ -84,7 +84,12 @@ pub fn line_of(m: Semaphore) -> Line
     let semaphore = Semaphore {
         holder: m.holder,
         waiting: cores_in_line(m),
-        line: [entry(m, 0), entry(m, 1), entry(m, 2), entry(m, 3)],
+        line: [
+            line_entry(m, 0),
+            line_entry(m, 1),
+            line_entry(m, 2),
+            line_entry(m, 3),
+        ],
     };
     let standing = [
         in_line(m, 0, 0),

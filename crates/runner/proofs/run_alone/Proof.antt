@@ -53,15 +53,4 @@ returns c = (c .if1 .left, c .before .before .loop .inv)
 pub run-alone-spec : {M : Type 1} → statement M
 run-alone-spec =
     tie.close
-    (tie.spec
-    Inv-loop
-    μ-loop
-    cast-order
-    loop-holds
-    slice-aggregate-run-core
-    run-core-requires
-    (λ c κs. search needs)
-    loop-less
-    loop-again
-    same-length
-    returns)
+    (tie.spec Inv-loop μ-loop cast-order loop-holds slice-aggregate-run-core run-core-requires (λ c κs. search needs) loop-less loop-again same-length returns)

@@ -8,17 +8,17 @@ use Rattle.semaphore.proofs.line_of.Tie as tie
 cores-in-line-requires : tie.Need-cores-in-line-requires
 cores-in-line-requires c κs = search needs
 
-entry-requires : tie.Need-entry-requires
-entry-requires c κs = search needs
+line-entry-requires : tie.Need-line-entry-requires
+line-entry-requires c κs = search needs
 
-entry-requires-2 : tie.Need-entry-requires-2
-entry-requires-2 c κs = search needs
+line-entry-requires-2 : tie.Need-line-entry-requires-2
+line-entry-requires-2 c κs = search needs
 
-entry-requires-3 : tie.Need-entry-requires-3
-entry-requires-3 c κs = search needs
+line-entry-requires-3 : tie.Need-line-entry-requires-3
+line-entry-requires-3 c κs = search needs
 
-entry-requires-4 : tie.Need-entry-requires-4
-entry-requires-4 c κs = search needs
+line-entry-requires-4 : tie.Need-line-entry-requires-4
+line-entry-requires-4 c κs = search needs
 
 in-line-requires : tie.Need-in-line-requires
 in-line-requires c κs = search needs
@@ -36,17 +36,17 @@ returns : tie.Need-returns
 unfolding lineOf
 returns c =
     let after-in-line = c .before .before .before in
-    let after-entry4 = after-in-line .before in
-    let after-entry3 = after-entry4 .before in
-    let after-entry2 = after-entry3 .before in
-    let after-entry = after-entry2 .before in
-    let after-cores-in-line = after-entry .before in
+    let after-line-entry4 = after-in-line .before in
+    let after-line-entry3 = after-line-entry4 .before in
+    let after-line-entry2 = after-line-entry3 .before in
+    let after-line-entry = after-line-entry2 .before in
+    let after-cores-in-line = after-line-entry .before in
     rw (
       after-cores-in-line .cores-in-line .ensures,
-      after-entry .entry .ensures,
-      after-entry2 .entry2 .ensures,
-      after-entry3 .entry3 .ensures,
-      after-entry4 .entry4 .ensures,
+      after-line-entry .line-entry .ensures,
+      after-line-entry2 .line-entry2 .ensures,
+      after-line-entry3 .line-entry3 .ensures,
+      after-line-entry4 .line-entry4 .ensures,
       after-in-line .in-line .ensures,
       c .before .before .in-line2 .ensures,
       c .before .in-line3 .ensures,
@@ -58,10 +58,10 @@ line-of-spec =
     tie.close
     (tie.spec
     cores-in-line-requires
-    entry-requires
-    entry-requires-2
-    entry-requires-3
-    entry-requires-4
+    line-entry-requires
+    line-entry-requires-2
+    line-entry-requires-3
+    line-entry-requires-4
     in-line-requires
     in-line-requires-2
     in-line-requires-3

@@ -20,10 +20,4 @@ returns-2 c =
 pub steps-ahead-spec : {M : Type 1} → statement M
 steps-ahead-spec =
     tie.close
-    (tie.spec
-    (λ c. search needs)
-    (λ c κs. search needs)
-    returns
-    (λ c κs. search needs)
-    stretch-requires
-    returns-2)
+    (tie.spec (λ c. search needs) (λ c κs. search needs) returns (λ c κs. search needs) stretch-requires returns-2)

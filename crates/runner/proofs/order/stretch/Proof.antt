@@ -99,26 +99,5 @@ returns-2 c =
 pub stretch-spec : {M : Type 1} → statement M
 stretch-spec =
     tie.close
-    (tie.spec
-    Inv-loop
-    μ-loop
-    Inv-loop2
-    μ-loop2
-    (λ c. search needs)
-    (λ c κs. search needs)
-    loop-holds
-    add-eight-on
-    sub-eight-on
-    eight-on-requires
-    add-m
-    loop-less
-    loop-again
-    loop2-holds
-    add-if2
-    shared-slice-read-if2
-    cast-if2
-    returns
-    add-m-2
-    loop2-less
-    loop2-again
-    returns-2)
+    (tie.spec Inv-loop μ-loop Inv-loop2 μ-loop2 (λ c. search needs) (λ c κs. search needs) loop-holds add-eight-on sub-eight-on eight-on-requires add-m
+    loop-less loop-again loop2-holds add-if2 shared-slice-read-if2 cast-if2 returns add-m-2 loop2-less loop2-again returns-2)

@@ -1,11 +1,11 @@
--- `semaphore::entry` meets its contract. Assumes nothing.
+-- `semaphore::line_entry` meets its contract. Assumes nothing.
 use mathlib.Core.Path.{sym}
 use native.Mathlib.Omega.{arith}
 use lib.ListN.{take, length-take, List·getD-eq-default}
 use lib.Seq.{getD-take}
 use borrow.Author.Needs.{needs}
-use Rattle.semaphore.proofs.entry.Statement.{statement}
-use Rattle.semaphore.proofs.entry.Tie as tie
+use Rattle.semaphore.proofs.line_entry.Statement.{statement}
+use Rattle.semaphore.proofs.line_entry.Tie as tie
 
 cast-if1 : tie.Need-cast-if1
 cast-if1 c = search needs
@@ -19,5 +19,5 @@ element-copy-out-result c = search needs
 returns-2 : tie.Need-returns-2
 returns-2 c = sym (getD-take (c .before .before .args .t1 .waiting) (c .before .before .args .t1 .line) (c .before .before .args .i) 0 (omega (arith, c .before .if1 .left)))
 
-pub entry-spec : {M : Type 1} → statement M
-entry-spec = tie.close (tie.spec cast-if1 returns element-copy-out-result returns-2)
+pub line-entry-spec : {M : Type 1} → statement M
+line-entry-spec = tie.close (tie.spec cast-if1 returns element-copy-out-result returns-2)
