@@ -1,1 +1,2 @@
-// The bytes of a core's data that each instruction reads and writes: the table is in specs/, its theorem in proofs/. There is no code here.
+// The bytes of a core's data that each instruction reads and writes, and the order in which its faults are tried: tables in specs/, their theorems in proofs/.
+// There is no code here.
