@@ -1,5 +1,5 @@
 -- What specs/RealCores claims: crate races' theorems, with their hypotheses met by document 01's instructions and their operands, and calls as their steps.
--- In order: what a step touches; steps; fit states; calls; calls on a lent core table. Assumes nothing.
+-- In order: what a step touches; what a fault leaves; steps; fit states; calls; calls on a lent core table. Assumes nothing.
 use mathlib.Core.Path.{_≡_, refl, sym, _∙_, subst}
 use mathlib.Core.List.{List}
 use Prim.Native.Nat.{ℕ, _<_}
@@ -11,7 +11,9 @@ use Rattle.races.proofs.Footprint.{footprint-right}
 use Rattle.races.proofs.RaceFree.{race-free, race-free-held}
 use Rattle.races.proofs.Swaps.{steps-commute, swaps-alike}
 use Rattle.processor.proofs.Kept.{instruction-laws}
+use Rattle.operands.specs.Faults.{FaultsStop}
 use Rattle.operands.proofs.Operands.{data-footprints-right}
+use Rattle.operands.proofs.Faults.{faults-stop}
 use Rattle.taskset.specs.Judge.{codeOf}
 use Rattle.taskset.specs.Fresh.{freshOf}
 use Rattle.taskset.specs.Trace.{traceRefusal}
@@ -40,6 +42,12 @@ operands-right f t = data-footprints-right (taskOf f t) (codeOf f) refl
 
 pub footprint-right-machine : (f t : List ℕ) (k : ℕ) (s : State) → StepFootprint f t k s
 footprint-right-machine f t k s = footprint-right (taskOf f t) (laws f t) (operandsIn f) (operands-right f t) k s
+
+-- ---- what a fault leaves: of every file and trace, document 01's order of faults
+
+pub faults-stop-machine : (f t : List ℕ) → FaultsStop (taskOf f t) (codeOf f)
+unfolding taskOf
+faults-stop-machine f t = faults-stop (taskOf f t) (codeOf f) refl
 
 -- ---- steps
 
