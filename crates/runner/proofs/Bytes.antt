@@ -1,4 +1,4 @@
--- Steps of one core that copy bytes of its exchange, none of them the last. In order: bytes that leave one; the data; one step; a reading; a writing; both; eight steps as one number.
+-- Steps of one core that copy bytes of its exchange, none of them the last. In order: bytes that leave one; the data; one step; a reading; a writing; both.
 -- Assumes nothing.
 use mathlib.Core.Path.{_≡_, refl, sym, ap, ap₂, _∙_, subst, subst⁻¹}
 use mathlib.Core.Logic.{_≢_, inl, inr}
@@ -35,16 +35,12 @@ use Rattle.steps.specs.Bytes.{Ahead, BytesRead, BytesMoved}
 use Rattle.steps.specs.Effects.{Effect, ByteRead, ByteWritten, registersBy, stackBy, semaphoreBy, takenBy, Does}
 use Rattle.steps.specs.Moving.{StepGiven, CursorAimed}
 use Rattle.steps.proofs.Given.{reading-ahead, writing-ahead, read-more, write-more}
-use Rattle.runner.specs.Running.{AllOn, bytesOn, Running, RunningAt}
+use Rattle.order.specs.Order.{AllOn}
+use Rattle.runner.specs.Running.{bytesOn, Running, RunningAt}
 use Rattle.runner.proofs.Running.{core-in, running-on}
 use Rattle.runner.proofs.Loop.{aimed-on, holds}
 
 -- ---- bytes that leave one
-
--- fewer bytes leave one too
-pub ahead-less : (c : CoreTask) (r : Registers) (n m : ℕ) → m ≤ n → Ahead c r n → Ahead c r m
-ahead-less c r n m h (inl a) = inl (a .0, omega (arith, a .1))
-ahead-less c r n m h (inr a) = inr (a .0, omega (arith, a .1))
 
 -- such a number of bytes is one of an exchange number
 pub ahead-few : {f t : List ℕ} {k : ℕ} {c : CoreTask} {r : Registers} {d : List ℕ} → StepGiven f t k c r d → (m : ℕ) → Ahead c r m → r .exchange + m < 65536
@@ -248,38 +244,3 @@ module _ {f t : List ℕ} {order list₀ : List ℕ} {s₀ : State} {cs₀ : Lis
         running = writing-steps _ _ _ _ _ _ _ _ _ _ _ _ _ ok k ik m (w .running) _ refl e (subst (λ (u : CoreTask). getD cs k noRegisters .exchange + m < u .writes) task x) a b sh′ (q .1);
         aimed = aimed-at (holds w ik (inr e)) _ next record { reading = λ n. absurd (omega (arith, e, n)); writing = λ n. q .0 };
       })
-
--- ---- eight steps of one core, as one number
-
-ones : (k : ℕ) → k < 4 → bytesLE 8 (k * 72340172838076673) ≡ replicate 8 k
-unfolding bytesLE
-ones zero h = refl
-ones (suc zero) h = refl
-ones (suc (suc zero)) h = refl
-ones (suc (suc (suc zero))) h = refl
-ones (suc (suc (suc (suc k)))) h = absurd (let z : ⊥ = omega arith in z)
-
-take-past : (n : ℕ) (l : List ℕ) (j : ℕ) → n ≤ j → getD (take n l) j 0 ≡ 0
-take-past zero l j h = refl
-take-past (suc n) [] j h = refl
-take-past (suc n) (x ∷ l) zero h = absurd (let z : ⊥ = omega arith in z)
-take-past (suc n) (x ∷ l) (suc j) h = take-past n l j (omega arith)
-
-byte-small : (order : List ℕ) → ((j : ℕ) → getD order j 0 < 256) → (i n : ℕ) → (j : ℕ) → getD (take n (drop i order)) j 0 < 256
-byte-small order small i n j = go (decLe (suc j) n)
-  where
-    go : Dec (j < n) → getD (take n (drop i order)) j 0 < 256
-    go (yes a) = rw (getD-take, getD-drop) (small (i + j))
-    go (no a) = rw (take-past n (drop i order) j (omega (arith, a))) (omega arith)
-
-pub eight-equal : (order : List ℕ) (i k : ℕ) → i + 8 ≤ length order → k < 4 → ((j : ℕ) → getD order j 0 < 256) → readLE order i 8 ≡ k * 72340172838076673 → AllOn order k i 8
-unfolding readLE part
-eight-equal order i k l few small e j a b =
-    let n : j ≡ i + (j - i) = omega arith in
-    let u : j - i < 8 = omega arith in
-    let is : part order i 8 ≡ replicate 8 k =
-    sym (bytes-value (part order i 8) (byte-small order small i 8)) ∙ ap (λ (m : ℕ). bytesLE m (valueLE (part order i 8))) (length-part order i 8 l) ∙ ap (bytesLE 8) e ∙ ones k few in
-    ap (λ (m : ℕ). getD order m 0) n ∙ sym (eighth order i (j - i) u) ∙ ap (λ (x : List ℕ). getD x (j - i) 0) is ∙ getD-replicate 8 (j - i) k 0 u
-  where
-    eighth : (order : List ℕ) (i j : ℕ) → j < 8 → getD (take 8 (drop i order)) j 0 ≡ getD order (i + j) 0
-    eighth order i j h = rw (getD-take, getD-drop)

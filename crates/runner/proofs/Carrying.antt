@@ -38,10 +38,11 @@ use Rattle.steps.specs.Effects.{Idle, Fault, Next, Call, Return, CycleEnded, ba
 use Rattle.steps.specs.Moving.{StepGiven, InstructionGiven}
 use Rattle.steps.proofs.Given.{limit-low}
 use Rattle.steps.proofs.Does.{does-wait}
+use Rattle.order.specs.Order.{stepsOn, Stretches, Waits}
 use Rattle.runner.specs.Runs.{allBelow}
-use Rattle.runner.specs.Running.{Waits, stepsOn, Stretches, faultedBy, executingAt, reachedOf, reachedAt, RunningAt, RunStands, CarriesRun, Reaches}
+use Rattle.runner.specs.Running.{faultedBy, executingAt, reachedOf, reachedAt, RunningAt, RunStands, CarriesRun, Reaches}
 use Rattle.runner.specs.declared.Reached.{Reached}
-use Rattle.runner.proofs.Stretches.{step-in, on-stretch}
+use Rattle.order.proofs.Stretches.{step-in, on-stretch}
 use Rattle.runner.proofs.Running.{below-at}
 use Rattle.runner.proofs.Loop.{ready, stays, plain-arm, stack-arm, after-advanced, after-called, after-returned, after-faulted, after-ended, returned-by, in-line}
 

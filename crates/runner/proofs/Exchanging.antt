@@ -1,16 +1,15 @@
--- What a step of an exchange makes of the parts of a run, by its answer. In order: the order list; all parts together. Assumes nothing.
+-- What a step of an exchange makes of the parts of a run, by its answer, all together. Assumes nothing.
 use mathlib.Core.Path.{_≡_, refl, sym, ap, _∙_, subst}
 use mathlib.Core.Logic.{inl, inr}
 use mathlib.Core.Bool.{Bool, true, false}
-use mathlib.Core.List.{List, [], _∷_, map}
+use mathlib.Core.List.{List, map}
 use Prim.Native.Nat.{ℕ, suc, _+_, _<_, _≤_}
-use native.Mathlib.Nat.{add-zero}
 use native.Mathlib.Omega.{arith}
 use lib.ListN.{length, getD, set}
 use Rattle.memory.specs.Memory.{splice}
 use Rattle.protocol.specs.declared.Registers.{Registers}
 use Rattle.protocol.specs.State.{Core, Semaphore, State}
-use Rattle.protocol.specs.Step.{turn, reading, writing, encoded}
+use Rattle.protocol.specs.Step.{turn, encoded}
 use Rattle.semaphore.specs.declared.Line.{Line}
 use Rattle.semaphore.specs.Line.{semaphoreOf, waitsAt, lineOf, Lined}
 use Rattle.semaphore.proofs.Laws.{Becomes, becomes-acquired, becomes-released, becomes-joined}
@@ -21,23 +20,9 @@ use Rattle.states.specs.Machine.{noRegisters, coreIn, stackIn}
 use Rattle.steps.specs.declared.Exchange.{Exchange}
 use Rattle.steps.specs.declared.Exchange.the-variants.{Rests, Joins, ReadBegun, ReadOn, ReadEnded, WriteBegun, WriteOn, WriteEnded}
 use Rattle.steps.specs.Effects.{exchanged, registersBy, stackBy, semaphoreBy, takenBy, More, Steps}
-use Rattle.runner.specs.Running.{RunningAt, RegistersAfter, LineTakes, CursorAfter}
-use Rattle.runner.proofs.Loop.{After, kept-line, holds, stays, frees, after-read, after-write, after-byte-read, after-byte-written, joining, list-none, list-one, arm}
-
--- ---- the order list
-
-pub none-listed : (list : List ℕ) (taken : ℕ) → (taken ≡ taken + 0) × (list ≡ splice list taken [])
-none-listed list taken = (sym (add-zero taken), sym (list-none list taken))
-
-pub reading-listed : (list : List ℕ) (taken k : ℕ) → (taken + 1 ≡ taken + 1) × (set list taken k ≡ splice list taken (encoded (reading k) ∷ []))
-unfolding encoded
-reading-listed list taken k = (refl, sym (list-one list taken k))
-
-pub writing-listed : (list : List ℕ) (taken k : ℕ) → (taken + 1 ≡ taken + 1) × (set list taken (16 + k) ≡ splice list taken (encoded (writing k) ∷ []))
-unfolding encoded
-writing-listed list taken k = (refl, sym (list-one list taken (16 + k)))
-
--- ---- all parts together
+use Rattle.steps.specs.After.{RegistersAfter, LineTakes, CursorAfter}
+use Rattle.runner.specs.Running.{RunningAt}
+use Rattle.runner.proofs.Loop.{After, kept-line, holds, stays, frees, after-read, after-write, after-byte-read, after-byte-written, joining, arm}
 
 module _ {f t : List ℕ} {order list₀ : List ℕ} {s₀ : State} {cs₀ : List Registers} {places₀ offsets₀ : List ℕ}
     {i : ℕ} {cs : List Registers} {places offsets : List ℕ} {x : Line} {taken : ℕ} {d sh list : List ℕ} {cursor : Cursor}

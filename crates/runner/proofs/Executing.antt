@@ -23,7 +23,8 @@ use Rattle.states.specs.Task.{taskOf}
 use Rattle.states.specs.Machine.{noRegisters, stackIn, coreIn, stateIn}
 use Rattle.states.specs.Fit.{FitCore}
 use Rattle.states.specs.Set.{AcceptedSet}
-use Rattle.runner.specs.Running.{stepsOn, RunningAt, RunStands, CarriesRun}
+use Rattle.order.specs.Order.{stepsOn}
+use Rattle.runner.specs.Running.{RunningAt, RunStands, CarriesRun}
 use Rattle.runner.specs.Executing.{Standing, ExecutionGiven, Stretch, Executes}
 use Rattle.runner.proofs.Running.{core-in}
 use Rattle.runner.proofs.Carrying.{stands}

@@ -1,4 +1,3 @@
-pub mod Stretches
 pub mod Running
 pub mod Loop
 pub mod Exchanging

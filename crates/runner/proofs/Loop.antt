@@ -38,6 +38,7 @@ use Rattle.states.specs.Machine.{noRegisters, stackIn, coreIn, stateIn, stateOf
 use Rattle.states.specs.Fit.{FitCore, Fit}
 use Rattle.states.proofs.Executes.{executes}
 use Rattle.steps.specs.Effects.{Effect, registersBy, stackBy, semaphoreBy, takenBy, Steps}
+use Rattle.steps.proofs.Listed.{list-none}
 use Rattle.steps.specs.Moving.{CursorAimed, StepGiven, ExchangeGiven}
 use Rattle.runner.specs.Going.{RunGiven}
 use Rattle.runner.specs.Running.{RunningAt}
@@ -212,16 +213,6 @@ pub returned-by : (r : Registers) {r′ : Registers} (places offsets : List ℕ)
     → r′ ≡ returned (getD (part places (16 * k) 16) n 0) (getD (part offsets (16 * k) 16) n 0) r
 returned-by r places offsets k n e a b h =
     e ∙ ap₂ (λ (x y : ℕ). returned x y r) (a ∙ sym (part-entry places (16 * k) n h)) (b ∙ sym (part-entry offsets (16 * k) n h))
-
--- ---- the order list
-
-pub list-none : (list : List ℕ) (n : ℕ) → splice list n [] ≡ list
-unfolding splice
-list-none list n = refl
-
-pub list-one : (list : List ℕ) (n x : ℕ) → splice list n (x ∷ []) ≡ set list n x
-unfolding splice
-list-one list n x = refl
 
 -- ---- the call stacks
 

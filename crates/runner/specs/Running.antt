@@ -1,54 +1,26 @@
--- Where a run stands between two of its steps, and what its parts promise of it. In order: the order; a place of execution, and of an exchange; the invariant;
+-- Where a run stands between two of its steps, and what its parts promise of it. In order: a place of execution, and of an exchange; the invariant;
 -- steps that carry a run on.
 use mathlib.Core.Path.{_≡_}
-use mathlib.Core.Bool.{Bool, true, false}
+use mathlib.Core.Bool.{true}
 use mathlib.Core.List.{List}
 use mathlib.Core.Option.{Option, none, some}
 use Prim.Native.Nat.{ℕ, suc, _+_, _≤_, _<_}
-use lib.Dec.{ltb, eqb}
 use lib.ListN.{length, getD, set, take, drop}
-use Rattle.verdict.specs.Verdict.{both}
 use Rattle.memory.specs.Memory.{splice, total}
 use Rattle.protocol.specs.declared.Registers.{Registers}
 use Rattle.protocol.specs.Modes.{executing}
 use Rattle.protocol.specs.Registers.{faulted}
-use Rattle.protocol.specs.State.{Core, Semaphore, State}
-use Rattle.protocol.specs.Step.{inLine, turn, run, takings, orderList}
-use Rattle.semaphore.specs.Line.{waitsAt}
+use Rattle.protocol.specs.State.{Semaphore, State}
+use Rattle.protocol.specs.Step.{run, takings, orderList}
 use Rattle.runner.specs.declared.Reached.{Reached}
 use Rattle.exchange.specs.declared.Cursor.{Cursor}
-use Rattle.exchange.specs.Exchange.{At}
 use Rattle.records.specs.File.{cores}
 use Rattle.taskset.specs.Task.{sizesOf}
 use Rattle.states.specs.Task.{taskOf}
 use Rattle.states.specs.Machine.{noRegisters, stackIn, stateIn}
 use Rattle.states.specs.Fit.{Fit}
 use Rattle.states.specs.Set.{AcceptedSet}
-use Rattle.steps.specs.declared.Exchange.{Exchange}
-use Rattle.steps.specs.declared.Exchange.the-variants.{Rests, Joins, ReadBegun, ReadOn, ReadEnded, WriteBegun, WriteOn, WriteEnded}
-use Rattle.steps.specs.Effects.{exchanged, registersBy}
 use Rattle.steps.specs.Moving.{CursorAimed}
-
--- ---- the order
-
--- step i is one of core k
-abbrev pub stepsOn : List ℕ → ℕ → ℕ → Bool
-stepsOn order i k = both (ltb i (length order)) (eqb (getD order i 0) k)
-
--- the m steps from i on are of core k
-abbrev pub AllOn : List ℕ → ℕ → ℕ → ℕ → Type 0
-AllOn order k i m = (j : ℕ) → i ≤ j → j < i + m → getD order j 0 ≡ k
-
--- the m steps from i on are of core k, m being at most this many; where the first is, and one is allowed, there is one
-pub record Stretches (order : List ℕ) (i most k m : ℕ) : Type 0 where
-  pub few : m ≤ most
-  pub within : i + m ≤ length order
-  pub all : AllOn order k i m
-  pub some : stepsOn order i k ≡ true → 0 < most → 0 < m
-
--- the steps from i up to j are of cores that wait in line
-abbrev pub Waits : List ℕ → Semaphore → ℕ → ℕ → Type 0
-Waits order h i j = (m : ℕ) → i ≤ m → m < j → waitsAt h (getD order m 0) ≡ true
 
 -- ---- a place of execution, and of an exchange
 
@@ -101,34 +73,6 @@ bytesOn r count = record {
   flags = r .flags;
   time = r .time;
 }
-
--- ---- what a step of an exchange makes of the parts of a run, by its answer
-
--- the registers of a core that had the registers r
-abbrev pub RegistersAfter : Exchange → Registers → Registers → Type 0
-RegistersAfter z r r′ = (c : Core) → c .registers ≡ r → r′ ≡ registersBy (exchanged z) c
-
--- the line can take it: who joins is not in it and finds an entry, and the semaphore is taken in the core's turn
-abbrev pub LineTakes : Semaphore → ℕ → Exchange → Type 0
-LineTakes h k Rests = Unit {0}
-LineTakes h k Joins = (inLine k (h .line) ≡ false) × (length (h .line) < 4)
-LineTakes h k (ReadBegun time) = turn h k ≡ true
-LineTakes h k (ReadOn next) = Unit {0}
-LineTakes h k ReadEnded = Unit {0}
-LineTakes h k WriteBegun = turn h k ≡ true
-LineTakes h k (WriteOn next) = Unit {0}
-LineTakes h k WriteEnded = Unit {0}
-
--- the cursor: at the first byte of an exchange that begins, at the next one after a byte
-abbrev pub CursorAfter : List ℕ → ℕ → Cursor → Exchange → Cursor → Type 0
-CursorAfter f k cursor Rests x = x ≡ cursor
-CursorAfter f k cursor Joins x = x ≡ cursor
-CursorAfter f k cursor (ReadBegun time) x = At f (4 + k) 0 x
-CursorAfter f k cursor (ReadOn next) x = x ≡ next
-CursorAfter f k cursor ReadEnded x = x ≡ cursor
-CursorAfter f k cursor WriteBegun x = At f k 0 x
-CursorAfter f k cursor (WriteOn next) x = x ≡ next
-CursorAfter f k cursor WriteEnded x = x ≡ cursor
 
 -- ---- the invariant
 

@@ -1,12 +1,5 @@
 // The steps of an order, one after another.
-mod effects;
-mod order;
-
 use commands::Performed;
-use effects::cursor_after;
-use effects::line_after;
-use effects::list_taking;
-use effects::registers_after;
 use exchange::Cursor;
 use order::STRETCH;
 use order::core_at;
@@ -33,8 +26,9 @@ ghost use Rattle.commands.specs.Attempts.{flagBit};
 ghost use Rattle.records.specs.File.{cores};
 ghost use Rattle.runner.specs.Runs.{leftAs, ranAnswer, ranCall};
 ghost use Rattle.states.specs.Tasks.{coreTask};
+ghost use Rattle.order.specs.Order.{stepsOn};
 ghost use Rattle.runner.specs.Going.{RunGiven};
-ghost use Rattle.runner.specs.Running.{stepsOn, faultedBy, executingAt, reachedOf, reachedAt, bytesOn, RunStands, Reaches};
+ghost use Rattle.runner.specs.Running.{faultedBy, executingAt, reachedOf, reachedAt, bytesOn, RunStands, Reaches};
 ghost use Rattle.runner.specs.Executing.{ExecutionGiven, Executes};
 ghost use Rattle.protocol.specs.Modes.{executing};
 
@@ -347,10 +341,10 @@ pub fn run_order(
                 let turn = semaphore::turn(line.semaphore, k as u8);
                 let c = tasks[k];
                 let z = steps::exchange_of(r, k, c, file, trace, buffer, shared, end, cursor, turn);
-                cores[k] = registers_after(z, r);
-                line = line_after(z, line, k);
-                cursor = cursor_after(z, cursor, file, first, end, k);
-                taken = list_taking(z, list, taken, k);
+                cores[k] = steps::registers_after(z, r);
+                line = steps::line_after(z, line, k);
+                cursor = steps::cursor_after(z, cursor, file, first, end, k);
+                taken = steps::list_taking(z, list, taken, k);
                 i += 1;
             }
         }

@@ -1,2 +1,3 @@
 pub mod Does
 pub mod Given
+pub mod Listed

@@ -1,5 +1,11 @@
 // Document 01, "One step of a core": what a step of a core in each mode does to its data and to shared memory, and which change of its
 // registers goes with it.
+mod after;
+
+pub use after::cursor_after;
+pub use after::line_after;
+pub use after::list_taking;
+pub use after::registers_after;
 use commands::Performed;
 use exchange::Cursor;
 use protocol::Outcome;

@@ -14,7 +14,7 @@ use Rattle.processor.specs.Typed.{outcomeOf}
 use Rattle.steps.specs.Effects.{Takes, effectOf, InstructsIn}
 use Rattle.steps.proofs.Given.{at-instruction, counter-low, limit-in, limit-low}
 use Rattle.runner.specs.Running.{executingAt, CarriesRun}
-use Rattle.runner.proofs.Stretches.{step-in}
+use Rattle.order.proofs.Stretches.{step-in}
 use Rattle.runner.proofs.Carrying.{carry-none, carries-as, Instructed, Turn, turn-of, doing, given-at, stopped-by, ended-takes, returned-takes, advanced-at, called-at, returned-at}
 use Rattle.runner.proofs.Carrying.{ready-now, length-now, core-few, keeps-same, keeps-executing, reaches-on, reaches-fault, reaches-ended, takes-outcome, carry-next, carry-fault, carry-ended, carry-call, carry-return}
 use Rattle.runner.proofs.run_core.Statement.{statement}

@@ -5,13 +5,15 @@ use Prim.Native.Nat.{_+_, _-_, _≤_, _<_}
 use mathlib.Core.Path.{_≡_, refl, sym, ap, _∙_}
 use native.Mathlib.Omega.{arith}
 use lib.ListN.{length, getD}
+use Rattle.records.specs.File.{cores as coreCount}
 use Rattle.protocol.specs.declared.Registers.{Registers}
 use Rattle.states.specs.Machine.{noRegisters, stateOf}
 use Rattle.states.specs.Tasks.{noTask}
 use Rattle.steps.specs.Moving.{ExchangeGiven}
 use Rattle.semaphore.specs.Line.{semaphoreOf, waitsAt, Lined}
 use Rattle.runner.specs.Running.{RunningAt}
-use Rattle.runner.proofs.Stretches.{steps-on}
+use Rattle.order.proofs.Stretches.{steps-on}
+use Rattle.runner.proofs.Running.{below-at}
 use Rattle.runner.proofs.Loop.{looping-start, moving, shared-length, line-once}
 use Rattle.runner.proofs.Exchanging.{line-ready, exchange-arm}
 use Rattle.runner.proofs.Carrying.{stands, waited}
@@ -50,7 +52,9 @@ loop-holds : tie.Need-loop-holds Inv-loop μ-loop
 loop-holds c = looping-start (c .before .before .before .before .before .before .before .before .before .before .pre) (c .before .before .before .table-of .ensures) (c .before .before .places-of .ensures) (c .before .offsets-of .ensures) (c .line-of .ensures)
 
 core-at-requires : tie.Need-core-at-requires Inv-loop μ-loop
-core-at-requires c κs = (c .loop-test .taken, c .before .before .before .before .before .before .before .before .before .before .before .before .pre .below, c .before .before .before .before .before .before .before .before .before .before .before .before .pre .accepted .few)
+core-at-requires c κs =
+    let start = c .before .before .before .before .before .before .before .before .before .before .before .before in
+    (c .loop-test .taken, below-at (coreCount (start .args .file .now)) (start .args .order .now) (c .before .loop .i) (start .pre .below) (c .loop-test .taken), start .pre .accepted .few)
 
 run-core-requires : tie.Need-run-core-requires Inv-loop μ-loop
 run-core-requires c κs =
@@ -74,7 +78,10 @@ add-past-waiting : tie.Need-add-past-waiting Inv-loop μ-loop
 add-past-waiting c = let good = c .before .before .before .before .before .before .before .before .before .before .before .before .before .before .before .before .good in omega (arith, c .before .before .before .before .loop-test .taken)
 
 past-waiting-requires : tie.Need-past-waiting-requires Inv-loop μ-loop
-past-waiting-requires c κs = (omega (arith, c .before .before .before .before .loop-test .taken), c .before .before .before .before .before .before .before .before .before .before .before .before .before .before .before .before .pre .below, c .before .before .before .before .before .before .before .before .before .before .before .before .before .before .before .before .pre .accepted .few, c .before .before .before .before .before .loop .inv .1)
+past-waiting-requires c κs =
+    let start = c .before .before .before .before .before .before .before .before .before .before .before .before .before .before .before .before in
+    let here = c .before .before .before .before .before .loop .inv in
+    (omega (arith, c .before .before .before .before .loop-test .taken), (λ j. below-at (coreCount (start .args .file .now)) (start .args .order .now) j (start .pre .below)), start .pre .accepted .few, here .1)
 
 loop-less-2 : tie.Need-loop-less-2 Inv-loop μ-loop
 loop-less-2 c = omega (arith, c .before .before .before .before .before .loop-test .taken, c .past-waiting .ensures .0)
