@@ -1,4 +1,3 @@
 pub mod Arms
 pub mod Attempts
 pub mod Known
-pub mod Pairs

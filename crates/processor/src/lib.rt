@@ -311,7 +311,7 @@ pub fn execute_typed(op: u8, r: Registers, code: &[u8], d: &mut [u8]) -> Perform
     requires { ⌜ Executable (now code) r (now d) × (byte (now code) (r .counter) ≡ op) × (three op ≡ true) ⌝ }
     ensures { λ p. ⌜ answer (outcomeOf (r .counter + 8) p) (now (d .exit)) ≡ executed (now (code .entry)) r (now (d .entry)) ⌝ }
 {
-    commands::typed_at(d, op, operands(r, code))
+    dispatch::typed_at(d, op, operands(r, code))
 }
 
 // Any other command: what it answers, and the data after it in place.
@@ -334,7 +334,7 @@ pub fn execute_other(op: u8, r: Registers, code: &[u8], d: &mut [u8]) -> Outcome
         43 => convert(r, code, d),
         44 => pack(r, code, d),
         45 => unpack(r, code, d),
-        _ => outcome(commands::not_at(d, single(r, code)), r.counter + NOT),
+        _ => outcome(dispatch::not_at(d, single(r, code)), r.counter + NOT),
     }
 }
 

@@ -146,8 +146,8 @@ fn perform(code: u8, d: &mut [u8], o: Operands) -> Performed
     requires { ⌜ OperandsGiven code o ⌝ }
 {
     match code {
-        27 => commands::not_at(d, o),
-        _ => commands::typed_at(d, code, o),
+        27 => dispatch::not_at(d, o),
+        _ => dispatch::typed_at(d, code, o),
     }
 }
 

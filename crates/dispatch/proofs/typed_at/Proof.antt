@@ -1,16 +1,16 @@
--- `commands::dispatch::typed_at` meets its contract. The addresses are tried; then each arm is its command at its type (`arm-asks`, `arm-answers`), the last the one that
+-- `dispatch::typed_at` meets its contract. The addresses are tried; then each arm is its command at its type (`arm-asks`, `arm-answers`), the last the one that
 -- is left (`last-arm`). Assumes nothing.
 use Prim.Native.Nat.{ℕ, _/_, _%_}
 use mathlib.Core.Path.{_≡_}
 use Rattle.verdict.specs.Verdict.{pick}
 use Rattle.values.specs.Types.{takes}
 use Rattle.commands.specs.Attempts.{Attempt, attempted, OperandsGiven, Inside}
 use Rattle.commands.proofs.Attempts.{was-beyond}
 use Rattle.commands.proofs.Known.{not-beyond}
-use Rattle.commands.proofs.Pairs.{arm-asks, arm-answers, NoneOf, hasArm, last-arm}
+use Rattle.dispatch.proofs.Pairs.{arm-asks, arm-answers, NoneOf, hasArm, last-arm}
 use borrow.Author.Needs.{needs}
-use Rattle.commands.proofs.dispatch.typed_at.Statement.{statement}
-use Rattle.commands.proofs.dispatch.typed_at.Tie as tie
+use Rattle.dispatch.proofs.typed_at.Statement.{statement}
+use Rattle.dispatch.proofs.typed_at.Tie as tie
 
 -- where the `match` stands
 module _ (k : tie.After-command-and-type) where

@@ -4,8 +4,8 @@ ghost use Prim.Native.Nat.{_+_, _-_, _^_, _<_};
 ghost use Rattle.verdict.specs.Verdict.{either};
 ghost use Rattle.values.specs.Types.{widthOf};
 ghost use Rattle.values.specs.Commands.{beyond, anyBeyond, typedBeyond};
 ghost use Rattle.commands.specs.Attempts.{OperandsGiven, ThreeOperands};
-use crate::Operands;
+use commands::Operands;
 
 // Whether one of the operands is beyond the data: the result of n bytes, the sources of m and k bytes.
 fn beyond(size: usize, o: Operands, n: usize, m: usize, k: usize) -> bool

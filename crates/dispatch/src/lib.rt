@@ -1,30 +1,32 @@
 // A typed command of an instruction: its addresses are tried, then its type leads to code for that type alone.
+mod addresses;
+
 ghost use mathlib.Core.Path.{_≡_};
 ghost use Prim.Native.Nat.{_+_, _*_};
 ghost use Rattle.commands.specs.Attempts.{attempt, attempted, OperandsGiven, ThreeOperands};
-use crate::Operands;
-use crate::Performed;
-use crate::addresses::single_beyond;
-use crate::addresses::typed_beyond;
-use crate::arithmetic::add_typed;
-use crate::arithmetic::div_typed;
-use crate::arithmetic::modulo_typed;
-use crate::arithmetic::mul_typed;
-use crate::arithmetic::sub_typed;
-use crate::comparisons::eq_typed;
-use crate::comparisons::ge_typed;
-use crate::comparisons::gt_typed;
-use crate::comparisons::le_typed;
-use crate::comparisons::lt_typed;
-use crate::comparisons::ne_typed;
-use crate::logic::and_typed;
-use crate::logic::not_typed;
-use crate::logic::or_typed;
-use crate::logic::xor_typed;
-use crate::shifts::rol_typed;
-use crate::shifts::ror_typed;
-use crate::shifts::shl_typed;
-use crate::shifts::shr_typed;
+use addresses::single_beyond;
+use addresses::typed_beyond;
+use commands::Operands;
+use commands::Performed;
+use commands::add_typed;
+use commands::and_typed;
+use commands::div_typed;
+use commands::eq_typed;
+use commands::ge_typed;
+use commands::gt_typed;
+use commands::le_typed;
+use commands::lt_typed;
+use commands::modulo_typed;
+use commands::mul_typed;
+use commands::ne_typed;
+use commands::not_typed;
+use commands::or_typed;
+use commands::rol_typed;
+use commands::ror_typed;
+use commands::shl_typed;
+use commands::shr_typed;
+use commands::sub_typed;
+use commands::xor_typed;
 
 // A command and its type as one number: 16 for each code byte, and the type.
 fn command_and_type(op: u8, kind: u8) -> usize

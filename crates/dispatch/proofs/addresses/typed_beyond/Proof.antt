@@ -1,11 +1,11 @@
--- `commands::addresses::typed_beyond` meets its contract. Away from the end no operand is beyond (`none-beyond`); near it the widths decide. Assumes nothing.
+-- `dispatch::addresses::typed_beyond` meets its contract. Away from the end no operand is beyond (`none-beyond`); near it the widths decide. Assumes nothing.
 use Rattle.values.proofs.Commands.{width-room}
 use Rattle.commands.proofs.Attempts.{given-type, place-fits}
 use Rattle.commands.proofs.Known.{none-beyond}
-use Rattle.commands.proofs.Pairs.{result-room, second-room, alike-beyond, shifted-beyond, compared-beyond}
+use Rattle.dispatch.proofs.Pairs.{result-room, second-room, alike-beyond, shifted-beyond, compared-beyond}
 use borrow.Author.Needs.{needs}
-use Rattle.commands.proofs.addresses.typed_beyond.Statement.{statement}
-use Rattle.commands.proofs.addresses.typed_beyond.Tie as tie
+use Rattle.dispatch.proofs.addresses.typed_beyond.Statement.{statement}
+use Rattle.dispatch.proofs.addresses.typed_beyond.Tie as tie
 
 pub typed-beyond-spec : {M : Type 1} → statement M
 typed-beyond-spec =
