@@ -4,7 +4,7 @@
 ghost use mathlib.Core.Path.{_≡_};
 ghost use mathlib.Core.Bool.{Bool, true, false, cond};
 ghost use Prim.Native.Nat.{ℕ, _+_, _-_, _*_, _/_, _%_, _^_, _≤_, _<_};
-ghost use lib.IntN.{pos, negsuc, natAbs};
+ghost use lib.IntN.{pos, natAbs};
 ghost use lib.ListN.{length};
 ghost use lib.Ieee as Ieee;
 ghost use lib.Ieee.{binary32, binary64};
@@ -35,14 +35,6 @@ pub fn power(k: u64) -> u64
     ensures { λ r. ⌜ r ≡ 2 ^ k ⌝ }
 {
     1u64 << k
-}
-
-// -1 - k
-fn below_zero(k: u64) -> i64
-    requires { ⌜ k < 2 ^ 63 ⌝ }
-    ensures { λ r. ⌜ r ≡ negsuc k ⌝ }
-{
-    -1 - (k as i64)
 }
 
 // The magnitude of a signed number.
@@ -119,14 +111,6 @@ fn shift_of(p: u64) -> u64
     if e == 0 { 0 } else { e - 1 }
 }
 
-// The first magnitude that w bytes don't hold as a positive signed number.
-fn half_of(w: usize) -> u64
-    requires { ⌜ (0 < w) × (w ≤ 8) ⌝ }
-    ensures { λ r. ⌜ r ≡ 2 ^ (8 * w - 1) ⌝ }
-{
-    power((8 * w - 1) as u64)
-}
-
 // The whole number of a sign and a magnitude, where w bytes hold it: signed, unsigned, and either.
 fn signed_at(w: usize, negative: bool, n: u64) -> Converted
     requires { ⌜ (0 < w) × (w ≤ 8) ⌝ }
@@ -135,10 +119,10 @@ fn signed_at(w: usize, negative: bool, n: u64) -> Converted
     if n == 0 {
         return Converted::Gives(Value::Signed(0));
     }
-    let half = half_of(w);
+    let half = values::half_of(w);
     if negative {
         if n - 1 < half {
-            Converted::Gives(Value::Signed(below_zero(n - 1)))
+            Converted::Gives(Value::Signed(values::below_zero(n - 1)))
         } else {
             Converted::NotHeld
         }
@@ -161,7 +145,7 @@ fn unsigned_at(w: usize, negative: bool, number: u64) -> Converted
     if negative {
         return Converted::NotHeld;
     }
-    if number / 2 < half_of(w) {
+    if number / 2 < values::half_of(w) {
         Converted::Gives(Value::Unsigned(number))
     } else {
         Converted::NotHeld
@@ -326,7 +310,7 @@ pub fn convert(t: u8, v: Value) -> Converted
 }
 
 // From memory to memory. Whether one of two operands is beyond the data: n bytes at p, m bytes at q.
-pub fn beyond(size: usize, p: usize, n: usize, q: usize, m: usize) -> bool
+pub fn either_beyond(size: usize, p: usize, n: usize, q: usize, m: usize) -> bool
     requires { ⌜ (p + n < 2 ^ 64) × (q + m < 2 ^ 64) ⌝ }
     ensures { λ r. ⌜ r ≡ anyBeyond size p n q m ⌝ }
 {
@@ -356,7 +340,7 @@ pub fn convert_at(d: &mut [u8], from: u8, to: u8, destination: usize, source: us
     requires { ⌜ (from < 12) × (to < 12) × (destination < 98304) × (source < 98304) ⌝ }
     ensures { λ r. ⌜ ended r (now (d .exit)) ≡ converting from to (now (d .entry)) destination source ⌝ }
 {
-    if beyond(
+    if either_beyond(
         d.len(),
         destination,
         values::width_of(to),

@@ -100,7 +100,7 @@ pub fn pack_at(d: &mut [u8], t: u8, destination: usize, source: usize) -> Conver
     ensures { λ r. ⌜ ended r (now (d .exit)) ≡ packing t (now (d .entry)) destination source ⌝ }
 {
     let w = values::width_of(t);
-    if conversions::beyond(d.len(), destination, w, source, w) {
+    if conversions::either_beyond(d.len(), destination, w, source, w) {
         return Conversion::Beyond;
     }
     let n = memory::load(d, source, w);
@@ -113,7 +113,7 @@ pub fn unpack_at(d: &mut [u8], t: u8, destination: usize, source: usize) -> Conv
     ensures { λ r. ⌜ ended r (now (d .exit)) ≡ unpacking t (now (d .entry)) destination source ⌝ }
 {
     let w = values::width_of(t);
-    if conversions::beyond(d.len(), destination, w, source, w) {
+    if conversions::either_beyond(d.len(), destination, w, source, w) {
         return Conversion::Beyond;
     }
     let p = memory::load(d, source, w);

@@ -160,8 +160,8 @@ fn low_bytes(w: usize, p: u64) -> u64
     if w < 8 { p % (1u64 << (8 * w)) } else { p }
 }
 
-// The lowest pattern of w bytes that stands for a negative number.
-fn half_of(w: usize) -> u64
+// The lowest pattern of w bytes that stands for a negative number, and the first number that they do not hold as a positive one.
+pub fn half_of(w: usize) -> u64
     requires { ⌜ (0 < w) × (w ≤ 8) ⌝ }
     ensures { λ r. ⌜ r ≡ 2 ^ (8 * w - 1) ⌝ }
 {
@@ -169,7 +169,7 @@ fn half_of(w: usize) -> u64
 }
 
 // -1 - k
-fn below_zero(k: u64) -> i64
+pub fn below_zero(k: u64) -> i64
     requires { ⌜ k < 2 ^ 63 ⌝ }
     ensures { λ r. ⌜ r ≡ negsuc k ⌝ }
 {
@@ -332,7 +332,7 @@ pub fn shift_right(w: usize, x: u64, n: u8) -> u64
 }
 
 // The bits of w bytes turned round: the highest ones, as many as places, come in below.
-fn turn(w: usize, x: u64, places: usize) -> u64
+fn rotated(w: usize, x: u64, places: usize) -> u64
     requires { ⌜ (w ≤ 8) × (0 < places) × (places < 8 * w) ⌝ }
     ensures { λ r. ⌜ r ≡ turned (8 * w) x places ⌝ }
 {
@@ -350,7 +350,7 @@ pub fn rotate_left(w: usize, x: u64, n: u8) -> u64
     if places == 0 {
         return low_bytes(w, x);
     }
-    turn(w, x, places)
+    rotated(w, x, places)
 }
 
 pub fn rotate_right(w: usize, x: u64, n: u8) -> u64
@@ -361,7 +361,7 @@ pub fn rotate_right(w: usize, x: u64, n: u8) -> u64
     if places == 0 {
         return low_bytes(w, x);
     }
-    turn(w, x, 8 * w - places)
+    rotated(w, x, 8 * w - places)
 }
 
 // The value of type t at a place. Each arm has its width as a constant, so that a load is one instruction.

@@ -13,14 +13,14 @@ use borrow.Author.Needs.{needs}
 use Rattle.conversions.proofs.convert_at.Statement.{statement}
 use Rattle.conversions.proofs.convert_at.Tie as tie
 
-beyond-requires : tie.Need-beyond-requires
-beyond-requires c κs = let a = c .before .before .before .args in (place-fits (a .destination) _ (a .to) (c .before .before .before .pre .2) (c .before .width-of .ensures), place-fits (a .source) _ (a .from) (c .before .before .before .pre .3) (c .width-of2 .ensures))
+either-beyond-requires : tie.Need-either-beyond-requires
+either-beyond-requires c κs = let a = c .before .before .before .args in (place-fits (a .destination) _ (a .to) (c .before .before .before .pre .2) (c .before .width-of .ensures), place-fits (a .source) _ (a .from) (c .before .before .before .pre .3) (c .width-of2 .ensures))
 
 returns : tie.Need-returns
 unfolding converting
 returns c =
     let a = c .before .before .before .before .before .args in
-    was-beyond (a .d .now) (a .destination) _ (a .source) _ (a .to) (a .from) _ (c .before .beyond .ensures) (c .before .before .before .width-of .ensures) (c .before .before .width-of2 .ensures) (converted (a .from) (a .to) (readLE (a .d .now) (a .source) (widthOf (a .from)))) (c .if1 .taken)
+    was-beyond (a .d .now) (a .destination) _ (a .source) _ (a .to) (a .from) _ (c .before .either-beyond .ensures) (c .before .before .before .width-of .ensures) (c .before .before .width-of2 .ensures) (converted (a .from) (a .to) (readLE (a .d .now) (a .source) (widthOf (a .from)))) (c .if1 .taken)
 
 read-value-requires : tie.Need-read-value-requires
 read-value-requires c κs =
@@ -29,20 +29,20 @@ read-value-requires c κs =
     let start = after-width-of .before .before in
     let a = start .args in (
       start .pre .0,
-      source-in (length (a .d .now)) (a .destination) _ (a .source) _ (a .to) (a .from) _ (c .before .before .beyond .ensures)
+      source-in (length (a .d .now)) (a .destination) _ (a .source) _ (a .to) (a .from) _ (c .before .before .either-beyond .ensures)
           (after-width-of .width-of .ensures) (after-width-of2 .width-of2 .ensures) (c .before .if1 .left),
     )
 
 settle-requires : tie.Need-settle-requires
 settle-requires c κs =
     let else1 = c .before .before .before .before in
-    let after-beyond = else1 .before in
-    let after-width-of2 = after-beyond .before in
+    let after-either-beyond = else1 .before in
+    let after-width-of2 = after-either-beyond .before in
     let after-width-of = after-width-of2 .before in
     let start = after-width-of .before .before in
     let a = start .args in (
       start .pre .1,
-      to-in (length (a .d .now)) (a .destination) _ (a .source) _ (a .to) (a .from) _ (after-beyond .beyond .ensures) (after-width-of .width-of .ensures)
+      to-in (length (a .d .now)) (a .destination) _ (a .source) _ (a .to) (a .from) _ (after-either-beyond .either-beyond .ensures) (after-width-of .width-of .ensures)
           (after-width-of2 .width-of2 .ensures) (else1 .if1 .left),
     )
 
@@ -52,12 +52,12 @@ returns-2 c =
     let after-convert = c .before .before .before in
     let after-read-value = after-convert .before .before in
     let else1 = after-read-value .before .before in
-    let after-beyond = else1 .before in
-    let after-width-of2 = after-beyond .before in
+    let after-either-beyond = else1 .before in
+    let after-width-of2 = after-either-beyond .before in
     let after-width-of = after-width-of2 .before in
     let start = after-width-of .before .before in
     let a = start .args in
-    was-tried (a .d .now) (a .destination) _ (a .source) _ (a .to) (a .from) _ (after-beyond .beyond .ensures) (after-width-of .width-of .ensures)
+    was-tried (a .d .now) (a .destination) _ (a .source) _ (a .to) (a .from) _ (after-either-beyond .either-beyond .ensures) (after-width-of .width-of .ensures)
     (after-width-of2 .width-of2 .ensures) (converted (a .from) (a .to) (readLE (a .d .now) (a .source) (widthOf (a .from)))) (else1 .if1 .left) _ _
     (c .before .before .settle .ensures
     ∙ ap (λ (x : Converted). settled (a .to) (a .d .now) (a .destination) (resultAs (a .to) x))
@@ -69,7 +69,7 @@ convert-at-spec =
     (tie.spec
     (λ c κs. search needs)
     (λ c κs. search needs)
-    beyond-requires
+    either-beyond-requires
     returns
     read-value-requires
     (λ c κs. search needs)

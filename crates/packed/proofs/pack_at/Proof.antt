@@ -16,20 +16,20 @@ use borrow.Author.Needs.{needs}
 use Rattle.packed.proofs.pack_at.Statement.{statement}
 use Rattle.packed.proofs.pack_at.Tie as tie
 
-beyond-requires : tie.Need-beyond-requires
-beyond-requires c κs = let a = c .before .before .args in (place-fits (a .destination) _ (a .t) (c .before .before .pre .1) (c .width-of .ensures), place-fits (a .source) _ (a .t) (c .before .before .pre .2) (c .width-of .ensures))
+either-beyond-requires : tie.Need-either-beyond-requires
+either-beyond-requires c κs = let a = c .before .before .args in (place-fits (a .destination) _ (a .t) (c .before .before .pre .1) (c .width-of .ensures), place-fits (a .source) _ (a .t) (c .before .before .pre .2) (c .width-of .ensures))
 
 returns : tie.Need-returns
 unfolding packing
 returns c =
     let a = c .before .before .before .before .args in
-    was-beyond (a .d .now) (a .destination) _ (a .source) _ (a .t) (a .t) _ (c .before .beyond .ensures) (c .before .before .width-of .ensures) (c .before .before .width-of .ensures) (packed (a .t) (readLE (a .d .now) (a .source) (widthOf (a .t)))) (c .if1 .taken)
+    was-beyond (a .d .now) (a .destination) _ (a .source) _ (a .t) (a .t) _ (c .before .either-beyond .ensures) (c .before .before .width-of .ensures) (c .before .before .width-of .ensures) (packed (a .t) (readLE (a .d .now) (a .source) (widthOf (a .t)))) (c .if1 .taken)
 
 load-requires : tie.Need-load-requires
 load-requires c κs =
     let a = c .before .before .before .before .before .args in
     let e = c .before .before .before .width-of .ensures in (
-      subst (λ (n : ℕ). a .source + n ≤ length (a .d .now)) (sym e) (source-in (length (a .d .now)) (a .destination) _ (a .source) _ (a .t) (a .t) _ (c .before .before .beyond .ensures) e e (c .before .if1 .left)),
+      subst (λ (n : ℕ). a .source + n ≤ length (a .d .now)) (sym e) (source-in (length (a .d .now)) (a .destination) _ (a .source) _ (a .t) (a .t) _ (c .before .before .either-beyond .ensures) e e (c .before .if1 .left)),
       width-small (a .t) (c .before .before .before .before .before .pre .0) e,
     )
 
@@ -39,12 +39,12 @@ to-packed-requires c κs = width-small (c .before .before .before .before .befor
 settle-requires : tie.Need-settle-requires
 settle-requires c κs =
     let else1 = c .before .before .before .before in
-    let after-beyond = else1 .before in
-    let after-width-of = after-beyond .before in
+    let after-either-beyond = else1 .before in
+    let after-width-of = after-either-beyond .before in
     let start = after-width-of .before .before in
     let a = start .args in (
       start .pre .0,
-      to-in (length (a .d .now)) (a .destination) _ (a .source) _ (a .t) (a .t) _ (after-beyond .beyond .ensures) (after-width-of .width-of .ensures)
+      to-in (length (a .d .now)) (a .destination) _ (a .source) _ (a .t) (a .t) _ (after-either-beyond .either-beyond .ensures) (after-width-of .width-of .ensures)
           (after-width-of .width-of .ensures) (else1 .if1 .left),
     )
 
@@ -54,12 +54,12 @@ returns-2 c =
     let after-to-packed = c .before .before .before in
     let after-load = after-to-packed .before .before in
     let else1 = after-load .before .before in
-    let after-beyond = else1 .before in
-    let after-width-of = after-beyond .before in
+    let after-either-beyond = else1 .before in
+    let after-width-of = after-either-beyond .before in
     let start = after-width-of .before .before in
     let a = start .args in
     let w = after-width-of .width-of .ensures in
-    was-tried (a .d .now) (a .destination) _ (a .source) _ (a .t) (a .t) _ (after-beyond .beyond .ensures) w w
+    was-tried (a .d .now) (a .destination) _ (a .source) _ (a .t) (a .t) _ (after-either-beyond .either-beyond .ensures) w w
     (packed (a .t) (readLE (a .d .now) (a .source) (widthOf (a .t)))) (else1 .if1 .left) _ _
     (c .before .before .settle .ensures
     ∙ ap (λ (x : Converted). settled (a .t) (a .d .now) (a .destination) (resultAs (a .t) x))
@@ -70,7 +70,7 @@ pack-at-spec =
     tie.close
     (tie.spec
     (λ c κs. search needs)
-    beyond-requires
+    either-beyond-requires
     returns
     load-requires
     to-packed-requires

@@ -12,13 +12,13 @@ use Rattle.values.proofs.rotate_left.Tie as tie
 returns : tie.Need-returns
 returns c = c .low-bytes .ensures ∙ left-none _ _ _ (c .before .if1 .taken)
 
-turn-requires : tie.Need-turn-requires
-turn-requires c κs = let m : c .before .args .n % (8 * c .before .args .w) < 8 * c .before .args .w = mod-lt (c .before .args .n) (omega arith) in (omega arith, omega arith, omega arith)
+rotated-requires : tie.Need-rotated-requires
+rotated-requires c κs = let m : c .before .args .n % (8 * c .before .args .w) < 8 * c .before .args .w = mod-lt (c .before .args .n) (omega arith) in (omega arith, omega arith, omega arith)
 
 returns-2 : tie.Need-returns-2
 unfolding rotateLeft
-returns-2 c = c .turn .ensures
+returns-2 c = c .rotated .ensures
 
 pub rotate-left-spec : {M : Type 1} → statement M
 rotate-left-spec =
-    tie.close (tie.spec (λ c. search needs) (λ c. search needs) (λ c κs. search needs) returns turn-requires returns-2)
+    tie.close (tie.spec (λ c. search needs) (λ c. search needs) (λ c κs. search needs) returns rotated-requires returns-2)

@@ -12,15 +12,15 @@ use Rattle.values.proofs.rotate_right.Tie as tie
 returns : tie.Need-returns
 returns c = c .low-bytes .ensures ∙ right-none _ _ _ (c .before .if1 .taken)
 
-sub-turn : tie.Need-sub-turn
-sub-turn c = let m : c .before .args .n % (8 * c .before .args .w) < 8 * c .before .args .w = mod-lt (c .before .args .n) (omega arith) in omega arith
+sub-rotated : tie.Need-sub-rotated
+sub-rotated c = let m : c .before .args .n % (8 * c .before .args .w) < 8 * c .before .args .w = mod-lt (c .before .args .n) (omega arith) in omega arith
 
-turn-requires : tie.Need-turn-requires
-turn-requires c κs = let m : c .before .args .n % (8 * c .before .args .w) < 8 * c .before .args .w = mod-lt (c .before .args .n) (omega arith) in (omega arith, omega arith, omega arith)
+rotated-requires : tie.Need-rotated-requires
+rotated-requires c κs = let m : c .before .args .n % (8 * c .before .args .w) < 8 * c .before .args .w = mod-lt (c .before .args .n) (omega arith) in (omega arith, omega arith, omega arith)
 
 returns-2 : tie.Need-returns-2
 unfolding rotateRight
-returns-2 c = c .turn .ensures
+returns-2 c = c .rotated .ensures
 
 pub rotate-right-spec : {M : Type 1} → statement M
 rotate-right-spec =
@@ -31,6 +31,6 @@ rotate-right-spec =
     (λ c κs. search needs)
     returns
     (λ c. search needs)
-    sub-turn
-    turn-requires
+    sub-rotated
+    rotated-requires
     returns-2)

@@ -1,10 +1,10 @@
--- `values::turn` meets its contract. The two parts lie apart, so that their sum fits. Assumes nothing.
+-- `values::rotated` meets its contract. The two parts lie apart, so that their sum fits. Assumes nothing.
 use native.Mathlib.Omega.{arith}
 use Prim.Native.Nat.{_*_}
 use Rattle.values.proofs.Bits.{one-shifted, turn-is, turn-fits}
 use borrow.Author.Needs.{needs}
-use Rattle.values.proofs.turn.Statement.{statement}
-use Rattle.values.proofs.turn.Tie as tie
+use Rattle.values.proofs.rotated.Statement.{statement}
+use Rattle.values.proofs.rotated.Tie as tie
 
 rem-low : tie.Need-rem-low
 rem-low c = one-shifted _ (omega arith)
@@ -18,8 +18,8 @@ add-result c = record { fits = turn-fits (8 * c .args .w) (c .args .x) (c .args 
 returns : tie.Need-returns
 returns c = turn-is (8 * c .args .w) (c .args .x) (c .args .places) (omega arith) (omega arith) (omega arith)
 
-pub turn-spec : {M : Type 1} → statement M
-turn-spec =
+pub rotated-spec : {M : Type 1} → statement M
+rotated-spec =
     tie.close
     (tie.spec
     (λ c. search needs)
