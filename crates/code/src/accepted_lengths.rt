@@ -36,7 +36,7 @@ const MEMCP: usize = LENGTHS[7] as usize;
 
 const ELEMENT: usize = LENGTHS[8] as usize;
 
-const TYPED: usize = LENGTHS[16] as usize;
+const THREE_OPERANDS: usize = LENGTHS[16] as usize;
 
 const NOT: usize = LENGTHS[27] as usize;
 
@@ -173,24 +173,24 @@ pub fn accepted_length(code: &[u8], p: usize) -> usize
         43 => conversion_length(code, p),
         44 => packed_length(code, p),
         45 => packed_length(code, p),
-        16 => typed_length(code, p, TYPED),
-        17 => typed_length(code, p, TYPED),
-        18 => typed_length(code, p, TYPED),
-        19 => typed_length(code, p, TYPED),
-        20 => typed_length(code, p, TYPED),
-        24 => typed_length(code, p, TYPED),
-        25 => typed_length(code, p, TYPED),
-        26 => typed_length(code, p, TYPED),
-        28 => typed_length(code, p, TYPED),
-        29 => typed_length(code, p, TYPED),
-        30 => typed_length(code, p, TYPED),
-        31 => typed_length(code, p, TYPED),
-        32 => typed_length(code, p, TYPED),
-        33 => typed_length(code, p, TYPED),
-        34 => typed_length(code, p, TYPED),
-        35 => typed_length(code, p, TYPED),
-        36 => typed_length(code, p, TYPED),
-        37 => typed_length(code, p, TYPED),
-        _ => typed_length(code, p, TYPED),
+        16 => typed_length(code, p, THREE_OPERANDS),
+        17 => typed_length(code, p, THREE_OPERANDS),
+        18 => typed_length(code, p, THREE_OPERANDS),
+        19 => typed_length(code, p, THREE_OPERANDS),
+        20 => typed_length(code, p, THREE_OPERANDS),
+        24 => typed_length(code, p, THREE_OPERANDS),
+        25 => typed_length(code, p, THREE_OPERANDS),
+        26 => typed_length(code, p, THREE_OPERANDS),
+        28 => typed_length(code, p, THREE_OPERANDS),
+        29 => typed_length(code, p, THREE_OPERANDS),
+        30 => typed_length(code, p, THREE_OPERANDS),
+        31 => typed_length(code, p, THREE_OPERANDS),
+        32 => typed_length(code, p, THREE_OPERANDS),
+        33 => typed_length(code, p, THREE_OPERANDS),
+        34 => typed_length(code, p, THREE_OPERANDS),
+        35 => typed_length(code, p, THREE_OPERANDS),
+        36 => typed_length(code, p, THREE_OPERANDS),
+        37 => typed_length(code, p, THREE_OPERANDS),
+        _ => typed_length(code, p, THREE_OPERANDS),
     }
 }
