@@ -26,28 +26,28 @@ ghost use Rattle.processor.specs.Processor.{answer, executed};
 ghost use Rattle.processor.specs.Typed.{outcomeOf, conversionOutcome};
 ghost use Rattle.processor.specs.Executable.{Executable, InstructionStands, Reports};
 
-// The entries of the table of lengths that lead to the next instruction.
-const BRANCH: u16 = code::LENGTHS[2] as u16;
+// From an instruction to the next one: the entries of the table of lengths. Of MCD, to the bytes that it stores.
+const PAST_BRANCH: u16 = code::LENGTHS[2] as u16;
 
-const CALB: u16 = code::LENGTHS[4] as u16;
+const PAST_CALB: u16 = code::LENGTHS[4] as u16;
 
-const CALF: u16 = code::LENGTHS[5] as u16;
+const PAST_CALF: u16 = code::LENGTHS[5] as u16;
 
-const MCD: usize = code::LENGTHS[6] as usize;
+const MCD_HEAD: usize = code::LENGTHS[6] as usize;
 
-const MEMCP: u16 = code::LENGTHS[7] as u16;
+const PAST_MEMCP: u16 = code::LENGTHS[7] as u16;
 
-const ELEMENT: u16 = code::LENGTHS[8] as u16;
+const PAST_ELEMENT: u16 = code::LENGTHS[8] as u16;
 
 pub const TYPED: u16 = code::LENGTHS[16] as u16;
 
-const NOT: u16 = code::LENGTHS[27] as u16;
+const PAST_NOT: u16 = code::LENGTHS[27] as u16;
 
-const REPORT: u16 = code::LENGTHS[41] as u16;
+const PAST_REPORT: u16 = code::LENGTHS[41] as u16;
 
-const CONVERT: u16 = code::LENGTHS[43] as u16;
+const PAST_CONVERT: u16 = code::LENGTHS[43] as u16;
 
-const PACKED: u16 = code::LENGTHS[44] as u16;
+const PAST_PACKED: u16 = code::LENGTHS[44] as u16;
 
 // ---- control
 
@@ -66,7 +66,7 @@ fn branch(op: u8, r: Registers, code: &[u8], d: &[u8]) -> Outcome
     if zero == on_zero {
         return Outcome::Next(code::word(code, p + 3));
     }
-    Outcome::Next(r.counter + BRANCH)
+    Outcome::Next(r.counter + PAST_BRANCH)
 }
 
 // The open calls that a core can have.
@@ -85,7 +85,11 @@ fn call_instance(r: Registers, code: &[u8], d: &[u8]) -> Outcome
     if d.len() <= instance {
         return Outcome::Fault(protocol::ADDRESS);
     }
-    Outcome::Call(r.counter + CALB, code::word(code, p + 3), instance as u16)
+    Outcome::Call(
+        r.counter + PAST_CALB,
+        code::word(code, p + 3),
+        instance as u16,
+    )
 }
 
 // CALF
@@ -97,7 +101,7 @@ fn call_function(r: Registers, code: &[u8], d: &[u8]) -> Outcome
         return Outcome::Fault(protocol::CALL);
     }
     let p = r.counter as usize;
-    Outcome::Call(r.counter + CALF, code::word(code, p + 1), r.offset)
+    Outcome::Call(r.counter + PAST_CALF, code::word(code, p + 1), r.offset)
 }
 
 // ---- moves
@@ -113,8 +117,8 @@ fn move_constant(r: Registers, code: &[u8], d: &mut [u8]) -> Outcome
     if is_beyond(d.len(), to, n) {
         return Outcome::Fault(protocol::ADDRESS);
     }
-    memory::copy(d, to, code, p + MCD, n);
-    Outcome::Next((p + MCD + n) as u16)
+    memory::copy(d, to, code, p + MCD_HEAD, n);
+    Outcome::Next((p + MCD_HEAD + n) as u16)
 }
 
 // MEMCP
@@ -130,7 +134,7 @@ fn copy_memory(r: Registers, code: &[u8], d: &mut [u8]) -> Outcome
         return Outcome::Fault(protocol::ADDRESS);
     }
     memory::copy_within(d, to, from, n);
-    Outcome::Next(r.counter + MEMCP)
+    Outcome::Next(r.counter + PAST_MEMCP)
 }
 
 // ---- array elements
@@ -193,7 +197,7 @@ fn access_element(op: u8, r: Registers, code: &[u8], d: &mut [u8]) -> Outcome
         select(read, element, variable),
         size,
     );
-    Outcome::Next(r.counter + ELEMENT)
+    Outcome::Next(r.counter + PAST_ELEMENT)
 }
 
 // ---- typed commands
@@ -229,7 +233,7 @@ fn store_number(
         return Outcome::Fault(protocol::ADDRESS);
     }
     memory::store(d, to, width, value);
-    Outcome::Next(r.counter + REPORT)
+    Outcome::Next(r.counter + PAST_REPORT)
 }
 
 // ---- conversions
@@ -246,7 +250,7 @@ fn conversion_outcome(conversion: Conversion, next: u16) -> Outcome
 }
 
 // 43
-fn convert(r: Registers, code: &[u8], d: &mut [u8]) -> Outcome
+fn convert_value(r: Registers, code: &[u8], d: &mut [u8]) -> Outcome
     requires { ⌜ InstructionStands 43 7 (now code) r × (byte (now code) (r .counter + 1) < 12) × (byte (now code) (r .counter + 2) < 12) ⌝ }
     ensures { λ o. ⌜ answer o (now (d .exit)) ≡ executed (now (code .entry)) r (now (d .entry)) ⌝ }
 {
@@ -257,31 +261,31 @@ fn convert(r: Registers, code: &[u8], d: &mut [u8]) -> Outcome
     let source = operand(r.offset, code, p + 5);
     conversion_outcome(
         conversions::convert_at(d, from, to, destination, source),
-        r.counter + CONVERT,
+        r.counter + PAST_CONVERT,
     )
 }
 
 // 44
-fn pack(r: Registers, code: &[u8], d: &mut [u8]) -> Outcome
+fn pack_digits(r: Registers, code: &[u8], d: &mut [u8]) -> Outcome
     requires { ⌜ InstructionStands 44 6 (now code) r × (byte (now code) (r .counter + 1) < 12) ⌝ }
     ensures { λ o. ⌜ answer o (now (d .exit)) ≡ executed (now (code .entry)) r (now (d .entry)) ⌝ }
 {
     let o = single(r, code);
     conversion_outcome(
         packed::pack_at(d, o.kind, o.to, o.first),
-        r.counter + PACKED,
+        r.counter + PAST_PACKED,
     )
 }
 
 // 45
-fn unpack(r: Registers, code: &[u8], d: &mut [u8]) -> Outcome
+fn unpack_digits(r: Registers, code: &[u8], d: &mut [u8]) -> Outcome
     requires { ⌜ InstructionStands 45 6 (now code) r × (byte (now code) (r .counter + 1) < 12) ⌝ }
     ensures { λ o. ⌜ answer o (now (d .exit)) ≡ executed (now (code .entry)) r (now (d .entry)) ⌝ }
 {
     let o = single(r, code);
     conversion_outcome(
         packed::unpack_at(d, o.kind, o.to, o.first),
-        r.counter + PACKED,
+        r.counter + PAST_PACKED,
     )
 }
 
@@ -331,10 +335,10 @@ pub fn execute_other(op: u8, r: Registers, code: &[u8], d: &mut [u8]) -> Outcome
         8 | 9 => access_element(op, r, code, d),
         41 => store_number(41, r, code, d, 4, r.time as u64),
         42 => store_number(42, r, code, d, 1, r.flags as u64),
-        43 => convert(r, code, d),
-        44 => pack(r, code, d),
-        45 => unpack(r, code, d),
-        _ => outcome(dispatch::not_at(d, single(r, code)), r.counter + NOT),
+        43 => convert_value(r, code, d),
+        44 => pack_digits(r, code, d),
+        45 => unpack_digits(r, code, d),
+        _ => outcome(dispatch::not_at(d, single(r, code)), r.counter + PAST_NOT),
     }
 }
 

@@ -52,14 +52,14 @@ store-number-requires-2 : tie.Need-store-number-requires-2
 unfolding lengthOf rowOf pick
 store-number-requires-2 c κs = let given = c .before .before .before .before .before .pre in (inr (refl, refl, refl), stands _ _ _ (given .0) 42 (given .1 ∙ c .before .before .match .keys10))
 
-convert-requires : tie.Need-convert-requires
-convert-requires c κs = let given = c .before .before .before .before .pre in stands-conversion _ _ _ (given .0) (given .1 ∙ c .before .match .keys11)
+convert-value-requires : tie.Need-convert-value-requires
+convert-value-requires c κs = let given = c .before .before .before .before .pre in stands-conversion _ _ _ (given .0) (given .1 ∙ c .before .match .keys11)
 
-pack-requires : tie.Need-pack-requires
-pack-requires c κs = let given = c .before .before .before .before .pre in stands-packing _ _ _ (given .0) (given .1 ∙ c .before .match .keys12)
+pack-digits-requires : tie.Need-pack-digits-requires
+pack-digits-requires c κs = let given = c .before .before .before .before .pre in stands-packing _ _ _ (given .0) (given .1 ∙ c .before .match .keys12)
 
-unpack-requires : tie.Need-unpack-requires
-unpack-requires c κs = let given = c .before .before .before .before .pre in stands-unpacking _ _ _ (given .0) (given .1 ∙ c .before .match .keys13)
+unpack-digits-requires : tie.Need-unpack-digits-requires
+unpack-digits-requires c κs = let given = c .before .before .before .before .pre in stands-unpacking _ _ _ (given .0) (given .1 ∙ c .before .match .keys13)
 
 single-requires : tie.Need-single-requires
 single-requires c κs =
@@ -108,9 +108,9 @@ execute-other-spec =
     store-number-requires
     (λ c. search needs)
     store-number-requires-2
-    convert-requires
-    pack-requires
-    unpack-requires
+    convert-value-requires
+    pack-digits-requires
+    unpack-digits-requires
     access-element-requires
     single-requires
     not-at-requires

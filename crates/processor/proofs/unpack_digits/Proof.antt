@@ -1,8 +1,8 @@
 -- The type and the places are those that stand in the code; how the digits' conversion ended is how the instruction ends.
 use borrow.Author.Needs.{needs}
 use Rattle.processor.proofs.Commands.{unpacking-done}
-use Rattle.processor.proofs.unpack.Statement.{statement}
-use Rattle.processor.proofs.unpack.Tie as tie
+use Rattle.processor.proofs.unpack_digits.Statement.{statement}
+use Rattle.processor.proofs.unpack_digits.Tie as tie
 
 single-requires : tie.Need-single-requires
 single-requires c κs = (c .before .before .pre .0 .whole, c .before .before .pre .0 .short)
@@ -13,8 +13,8 @@ unpack-at-requires c κs = (rw (c .before .single .ensures .0) (c .before .befor
 returns : tie.Need-returns
 returns c = unpacking-done _ _ _ _ _ _ _ (c .before .before .before .before .before .before .before .before .before .pre .0 .here) (c .before .before .before .before .before .before .single .ensures .0) (c .before .before .before .before .unpack-at .ensures) (c .conversion-outcome .ensures)
 
-pub unpack-spec : {M : Type 1} → statement M
-unpack-spec =
+pub unpack-digits-spec : {M : Type 1} → statement M
+unpack-digits-spec =
     tie.close
     (tie.spec
     single-requires

@@ -1,8 +1,8 @@
 -- The type and the places are those that stand in the code; how the digits' conversion ended is how the instruction ends.
 use borrow.Author.Needs.{needs}
 use Rattle.processor.proofs.Commands.{packing-done}
-use Rattle.processor.proofs.pack.Statement.{statement}
-use Rattle.processor.proofs.pack.Tie as tie
+use Rattle.processor.proofs.pack_digits.Statement.{statement}
+use Rattle.processor.proofs.pack_digits.Tie as tie
 
 single-requires : tie.Need-single-requires
 single-requires c κs = (c .before .before .pre .0 .whole, c .before .before .pre .0 .short)
@@ -13,8 +13,8 @@ pack-at-requires c κs = (rw (c .before .single .ensures .0) (c .before .before 
 returns : tie.Need-returns
 returns c = packing-done _ _ _ _ _ _ _ (c .before .before .before .before .before .before .before .before .before .pre .0 .here) (c .before .before .before .before .before .before .single .ensures .0) (c .before .before .before .before .pack-at .ensures) (c .conversion-outcome .ensures)
 
-pub pack-spec : {M : Type 1} → statement M
-pack-spec =
+pub pack-digits-spec : {M : Type 1} → statement M
+pack-digits-spec =
     tie.close
     (tie.spec
     single-requires

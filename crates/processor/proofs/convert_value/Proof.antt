@@ -3,8 +3,8 @@ use mathlib.Core.Path.{refl}
 use native.Mathlib.Omega.{arith}
 use borrow.Author.Needs.{needs}
 use Rattle.processor.proofs.Commands.{conversion-done}
-use Rattle.processor.proofs.convert.Statement.{statement}
-use Rattle.processor.proofs.convert.Tie as tie
+use Rattle.processor.proofs.convert_value.Statement.{statement}
+use Rattle.processor.proofs.convert_value.Tie as tie
 
 convert-at-requires : tie.Need-convert-at-requires
 convert-at-requires c κs = (c .before .before .before .before .before .before .before .before .pre .1, c .before .before .before .before .before .before .before .before .pre .2, c .before .before .operand .ensures .1, c .before .operand2 .ensures .1)
@@ -18,8 +18,8 @@ returns c =
     conversion-done _ _ _ _ _ _ _ _ _ _ (start .pre .0 .here) refl refl (after-operand .operand .ensures .0) (after-operand2 .operand2 .ensures .0)
     (after-convert-at .convert-at .ensures) (c .conversion-outcome .ensures)
 
-pub convert-spec : {M : Type 1} → statement M
-convert-spec =
+pub convert-value-spec : {M : Type 1} → statement M
+convert-value-spec =
     tie.close
     (tie.spec
     (λ c. search needs)
