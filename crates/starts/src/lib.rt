@@ -78,7 +78,7 @@ fn base_of(f: &[u8], layout: Layout, k: usize) -> usize
 }
 
 // Writes for each variable the bytes that its writer has in the data buffer.
-fn publish(f: &[u8], layout: Layout, buffer: &[u8], shared: &mut [u8])
+fn write_shared(f: &[u8], layout: Layout, buffer: &[u8], shared: &mut [u8])
     requires { ⌜ (judge (now f) ≡ 0) × (layout ≡ layoutOf (now f)) × (now buffer ≡ startBuffer (now f)) × (length (now shared) ≡ 1024) ⌝ }
     ensures { λ _. ⌜ now (shared .exit) ≡ withWritten (startData (now (f .entry))) (variablesOf (now (f .entry))) (now (shared .entry)) ⌝ }
 {
@@ -106,6 +106,6 @@ pub fn fill(f: &[u8], layout: Layout, buffer: &mut [u8], shared: &mut [u8])
     memory::zero(shared);
     if taskset::is_new(f) {
         write_data(f, buffer);
-        publish(f, layout, buffer, shared);
+        write_shared(f, layout, buffer, shared);
     }
 }

@@ -13,7 +13,7 @@ use Rattle.starts.proofs.fill.Tie as tie
 use Rattle.starts.proofs.fill.Reads as reads
 use Rattle.starts.proofs.fill.Lts as lts
 use Rattle.memory.proofs.zero.Reads as zero-reads
-use Rattle.starts.proofs.publish.Reads as publish-reads
+use Rattle.starts.proofs.write_shared.Reads as write-shared-reads
 use Rattle.starts.proofs.write_data.Reads as write-data-reads
 use Rattle.taskset.proofs.is_new.Reads as is-new-reads
 
@@ -35,8 +35,8 @@ write-data-requires c κs =
     let start = after-zero .before .before .before .before .before in
     (start .pre .0, sym (c .before .before .is-new .ensures) ∙ c .before .if1 .taken, after-zero .zero .ensures ∙ ap zeros (start .pre .2))
 
-publish-requires : tie.Need-publish-requires
-publish-requires c κs = search needs
+write-shared-requires : tie.Need-write-shared-requires
+write-shared-requires c κs = search needs
 
 same-length : tie.Need-same-length
 same-length c = search needs
@@ -52,7 +52,7 @@ returns c =
     let start = after-zero2 .before .before .before .before .before .before .before .before .before in
     let f = start .args .f .now in (
       after-write-data .write-data .ensures,
-      c .before .before .publish .ensures ∙ ap (withWritten (startData f) (variablesOf f)) (after-zero2 .zero2 .ensures ∙ ap zeros (start .pre .3)),
+      c .before .before .write-shared .ensures ∙ ap (withWritten (startData f) (variablesOf f)) (after-zero2 .zero2 .ensures ∙ ap zeros (start .pre .3)),
     )
 
 same-length-3 : tie.Need-same-length-3
@@ -80,7 +80,7 @@ fill-spec =
     zero-requires-2
     is-new-requires
     write-data-requires
-    publish-requires
+    write-shared-requires
     same-length
     same-length-2
     returns

@@ -7,10 +7,10 @@ use borrow.Author.Needs.{needs}
 use Rattle.taskset.specs.declared.Layout.{Layout}
 use Rattle.taskset.proofs.Accepted.{length-buffer}
 use Rattle.starts.proofs.Laws.{Publishing, publishing-none, record-there, shared-fits, buffer-fits, publishing-more, copied-as, publishing-done}
-use Rattle.starts.proofs.publish.Statement.{statement}
-use Rattle.starts.proofs.publish.Tie as tie
-use Rattle.starts.proofs.publish.Reads as reads
-use Rattle.starts.proofs.publish.Lts as lts
+use Rattle.starts.proofs.write_shared.Statement.{statement}
+use Rattle.starts.proofs.write_shared.Tie as tie
+use Rattle.starts.proofs.write_shared.Reads as reads
+use Rattle.starts.proofs.write_shared.Lts as lts
 use Rattle.memory.proofs.copy.Reads as copy-reads
 use Rattle.records.proofs.local_place.Reads as local-place-reads
 use Rattle.records.proofs.shared_place.Reads as shared-place-reads
@@ -130,8 +130,8 @@ same-length c = c .before .loop .inv .size ∙ sym (c .before .before .before .b
 returns : tie.Need-returns Inv-loop μ-loop
 returns c = publishing-done _ _ _ _ _ _ (c .before .loop .inv) (c .loop-test .left)
 
-pub publish-spec : {M : Type 1} → statement M
-publish-spec =
+pub write-shared-spec : {M : Type 1} → statement M
+write-shared-spec =
     tie.close
     (tie.spec
     Inv-loop
