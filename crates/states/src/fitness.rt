@@ -17,9 +17,7 @@ use protocol::Registers;
 
 // ---- fitness: document 01, "A state is unfit if ..", one function a rule
 
-const UNFIT: u8 = 23;
-
-const ENTRIES: usize = 16; // of a call stack
+const STACK_ENTRIES: usize = 16; // of a call stack
 
 const CALLS: u8 = 16; // that may be open
 
@@ -30,7 +28,7 @@ const LINE: usize = 4; // entries of a line
 const CLEARED: usize = 2048; // bytes of code that a walk passes over while a map of starts is cleared
 
 // An instruction starts at a place of accepted code: by its map of starts, or by a walk where the map is empty. Place 0 is the start of the first.
-fn starts(code: &[u8], marks: &[u8], place: u16) -> bool
+fn starts_at(code: &[u8], marks: &[u8], place: u16) -> bool
     requires { ⌜ (isStart (now code) 0 ≡ true) × MapOrNone (now code) (now marks) ⌝ }
     ensures { λ r. ⌜ r ≡ isStart (now (code .entry)) place ⌝ }
 {
@@ -48,12 +46,12 @@ fn places_start(code: &[u8], marks: &[u8], r: Registers, places: &[u16; 64], k: 
     requires { ⌜ (isStart (now code) 0 ≡ true) × MapOrNone (now code) (now marks) × (k < 4) ⌝ }
     ensures { λ ok. ⌜ ok ≡ placesFit (now (code .entry)) r (entry (now (places .entry)) k) ⌝ }
 {
-    if !starts(code, marks, r.counter) {
+    if !starts_at(code, marks, r.counter) {
         return false;
     }
     let mut i: usize = 0;
-    while i < ENTRIES {
-        if !starts(code, marks, places[ENTRIES * k + i]) {
+    while i < STACK_ENTRIES {
+        if !starts_at(code, marks, places[STACK_ENTRIES * k + i]) {
             return false;
         }
         i += 1;
@@ -78,8 +76,8 @@ fn walked(r: Registers, places: &[u16; 64], k: usize) -> u32
         return sum;
     }
     let mut i: usize = 0;
-    while i < ENTRIES {
-        sum = sum + bytes_before(places[ENTRIES * k + i]);
+    while i < STACK_ENTRIES {
+        sum = sum + bytes_before(places[STACK_ENTRIES * k + i]);
         i += 1;
     }
     sum
@@ -115,8 +113,8 @@ fn offsets_fit(size: usize, r: Registers, offsets: &[u16; 64], k: usize) -> bool
         return false;
     }
     let mut i: usize = 0;
-    while i < ENTRIES {
-        if !below(offsets[ENTRIES * k + i], size) {
+    while i < STACK_ENTRIES {
+        if !below(offsets[STACK_ENTRIES * k + i], size) {
             return false;
         }
         i += 1;
@@ -196,8 +194,8 @@ fn freed_fit(r: Registers, places: &[u16; 64], offsets: &[u16; 64], k: usize) ->
     ensures { λ ok. ⌜ ok ≡ freedFit r (entry (now (places .entry)) k) (entry (now (offsets .entry)) k) ⌝ }
 {
     let mut i: usize = 0;
-    while i < ENTRIES {
-        let at = ENTRIES * k + i;
+    while i < STACK_ENTRIES {
+        let at = STACK_ENTRIES * k + i;
         if !entry_freed(r.depth, i, places[at], offsets[at]) {
             return false;
         }
@@ -317,20 +315,20 @@ pub fn state_refusal(file: &[u8], trace: &[u8], tasks: [CoreTask; 4], n: usize, 
     ensures { λ r. ⌜ r ≡ stateRefusal (now (file .entry)) (now (trace .entry)) s ⌝ }
 {
     if s.count as usize != n {
-        return UNFIT;
+        return verdict::UNFIT_STATE;
     }
     if n < s.semaphore.holder as usize {
-        return UNFIT;
+        return verdict::UNFIT_STATE;
     }
     let mut k: usize = 0;
     while k < n {
         if !core_fit(file, trace, tasks[k], s, k) {
-            return UNFIT;
+            return verdict::UNFIT_STATE;
         }
         k += 1;
     }
     if !line_fit(file, trace, tasks, n, s) {
-        return UNFIT;
+        return verdict::UNFIT_STATE;
     }
     0
 }

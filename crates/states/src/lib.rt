@@ -42,7 +42,8 @@ pub struct CoreTask {
     pub count: usize, // of its input records
 }
 
-fn no_task() -> CoreTask
+// All zeros.
+pub fn no_task() -> CoreTask
     ensures { λ r. ⌜ r ≡ noTask ⌝ }
 {
     CoreTask {

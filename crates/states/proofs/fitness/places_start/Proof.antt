@@ -16,36 +16,36 @@ Inv-loop code marks places k i₀ i = Passing (λ j. isStart code (entry places 
 abbrev μ-loop : tie.MeasureT-loop
 μ-loop code marks places k i₀ i = 16 - i
 
-starts-requires : tie.Need-starts-requires Inv-loop μ-loop
-starts-requires c κs = (c .before .before .pre .0, c .before .before .pre .1)
+starts-at-requires : tie.Need-starts-at-requires Inv-loop μ-loop
+starts-at-requires c κs = (c .before .before .pre .0, c .before .before .pre .1)
 
 returns : tie.Need-returns Inv-loop μ-loop
 unfolding placesFit
-returns c = rejects _ (c .before .starts .ensures) (c .if1 .taken)
+returns c = rejects _ (c .before .starts-at .ensures) (c .if1 .taken)
 
 loop-holds : tie.Need-loop-holds Inv-loop μ-loop
 loop-holds c = passing-none _ _
 
-mul-starts : tie.Need-mul-starts Inv-loop μ-loop
-mul-starts c = search needs
+mul-starts-at : tie.Need-mul-starts-at Inv-loop μ-loop
+mul-starts-at c = search needs
 
-add-starts : tie.Need-add-starts Inv-loop μ-loop
-add-starts c = search needs
+add-starts-at : tie.Need-add-starts-at Inv-loop μ-loop
+add-starts-at c = search needs
 
-mul-starts-2 : tie.Need-mul-starts-2 Inv-loop μ-loop
-mul-starts-2 c = search needs
+mul-starts-at-2 : tie.Need-mul-starts-at-2 Inv-loop μ-loop
+mul-starts-at-2 c = search needs
 
-element-copy-out-starts : tie.Need-element-copy-out-starts Inv-loop μ-loop
-element-copy-out-starts c = search needs
+element-copy-out-starts-at : tie.Need-element-copy-out-starts-at Inv-loop μ-loop
+element-copy-out-starts-at c = search needs
 
-starts-requires-2 : tie.Need-starts-requires-2 Inv-loop μ-loop
-starts-requires-2 c κs = (c .before .before .before .before .before .before .before .pre .0, c .before .before .before .before .before .before .before .pre .1)
+starts-at-requires-2 : tie.Need-starts-at-requires-2 Inv-loop μ-loop
+starts-at-requires-2 c κs = (c .before .before .before .before .before .before .before .pre .0, c .before .before .before .before .before .before .before .pre .1)
 
 returns-2 : tie.Need-returns-2 Inv-loop μ-loop
 unfolding placesFit
 returns-2 c =
-    admits (c .before .before .before .before .before .before .starts .ensures) (c .before .before .before .before .before .if1 .left)
-    (passing-stop _ 16 _ (c .before .before .before .before .loop .inv) (c .before .before .before .loop-test .taken) (sym (c .before .starts2 .ensures) ∙ not-true _ (c .if2 .taken)))
+    admits (c .before .before .before .before .before .before .starts-at .ensures) (c .before .before .before .before .before .if1 .left)
+    (passing-stop _ 16 _ (c .before .before .before .before .loop .inv) (c .before .before .before .loop-test .taken) (sym (c .before .starts-at2 .ensures) ∙ not-true _ (c .if2 .taken)))
 
 add-i : tie.Need-add-i Inv-loop μ-loop
 add-i c = omega arith
@@ -54,11 +54,11 @@ loop-less : tie.Need-loop-less Inv-loop μ-loop
 loop-less c = omega arith
 
 loop-again : tie.Need-loop-again Inv-loop μ-loop
-loop-again c = passing-more _ 16 _ (c .before .before .before .before .loop .inv) (c .before .before .before .loop-test .taken) (sym (c .before .starts2 .ensures) ∙ not-false _ (c .if2 .left))
+loop-again c = passing-more _ 16 _ (c .before .before .before .before .loop .inv) (c .before .before .before .loop-test .taken) (sym (c .before .starts-at2 .ensures) ∙ not-false _ (c .if2 .left))
 
 returns-3 : tie.Need-returns-3 Inv-loop μ-loop
 unfolding placesFit
-returns-3 c = admits (c .before .before .before .starts .ensures) (c .before .before .if1 .left) (passing-end _ 16 _ (c .before .loop .inv) (c .loop-test .left))
+returns-3 c = admits (c .before .before .before .starts-at .ensures) (c .before .before .if1 .left) (passing-end _ 16 _ (c .before .loop .inv) (c .loop-test .left))
 
 pub places-start-spec : {M : Type 1} → statement M
 places-start-spec =
@@ -66,14 +66,14 @@ places-start-spec =
     (tie.spec
     Inv-loop
     μ-loop
-    starts-requires
+    starts-at-requires
     returns
     loop-holds
-    mul-starts
-    add-starts
-    mul-starts-2
-    element-copy-out-starts
-    starts-requires-2
+    mul-starts-at
+    add-starts-at
+    mul-starts-at-2
+    element-copy-out-starts-at
+    starts-at-requires-2
     returns-2
     add-i
     loop-less
