@@ -7,13 +7,13 @@ ghost use Rattle.memory.specs.Memory.{splice, part, Disjoint};
 ghost use Rattle.copies.specs.Copies.{copyFits, copyAnswer, copied};
 
 // The largest data of a core.
-const LARGEST: usize = 4096;
+const LARGEST_DATA: usize = 4096;
 
 // Whether two stretches of n bytes lie within a core's data of this size.
 fn fits(size: usize, to: usize, from: usize, n: usize) -> bool
     ensures { λ r. ⌜ r ≡ copyFits size to from n ⌝ }
 {
-    if LARGEST < n {
+    if LARGEST_DATA < n {
         return false;
     }
     if size < n {
@@ -26,7 +26,7 @@ fn fits(size: usize, to: usize, from: usize, n: usize) -> bool
 }
 
 // Stretches that share no byte: single bytes.
-fn move_bytes(d: &mut [u8], to: usize, from: usize, n: usize)
+fn move_singly(d: &mut [u8], to: usize, from: usize, n: usize)
     requires { ⌜ (to + n ≤ length (now d)) × (from + n ≤ length (now d)) × Disjoint to from n ⌝ }
     ensures { λ _. ⌜ now (d .exit) ≡ splice (now (d .entry)) to (part (now (d .entry)) from n) ⌝ }
 {
@@ -58,7 +58,7 @@ pub extern "C" fn rikzord_copy_by_bytes(d: &mut [u8], to: usize, from: usize, n:
         return 1;
     }
     if n <= memory::distance(to, from) {
-        move_bytes(d, to, from, n);
+        move_singly(d, to, from, n);
     } else {
         memory::move_through(d, to, from, n);
     }

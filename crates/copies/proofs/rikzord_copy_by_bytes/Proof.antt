@@ -17,8 +17,8 @@ returns c = unfit _ _ _ _ (sym (c .before .fits2 .ensures) ∙ not-true _ (c .if
 distance-requires : tie.Need-distance-requires
 distance-requires c κs = search needs
 
-move-bytes-requires : tie.Need-move-bytes-requires
-move-bytes-requires c κs =
+move-singly-requires : tie.Need-move-singly-requires
+move-singly-requires c κs =
     let l = fitting _ _ _ _ (sym (c .before .before .before .before .fits2 .ensures) ∙ not-false _ (c .before .before .before .if1 .left)) in
     (l .0, l .1, disjoint-by _ _ _ (omega (arith, c .before .before .distance .ensures)))
 
@@ -29,7 +29,7 @@ same-length : tie.Need-same-length
 same-length c = search needs
 
 returns-2 : tie.Need-returns-2
-returns-2 c = fit _ _ _ _ _ (sym (c .before .before .before .before .before .before .before .fits2 .ensures) ∙ not-false _ (c .before .before .before .before .before .before .if1 .left)) (c .before .before .move-bytes .ensures)
+returns-2 c = fit _ _ _ _ _ (sym (c .before .before .before .before .before .before .before .fits2 .ensures) ∙ not-false _ (c .before .before .before .before .before .before .if1 .left)) (c .before .before .move-singly .ensures)
 
 same-length-2 : tie.Need-same-length-2
 same-length-2 c = search needs
@@ -39,4 +39,4 @@ returns-3 c = fit _ _ _ _ _ (sym (c .before .before .before .before .before .bef
 
 pub rikzord-copy-by-bytes-spec : {M : Type 1} → statement M
 rikzord-copy-by-bytes-spec =
-    tie.close (tie.spec fits-requires returns distance-requires move-bytes-requires move-through-requires same-length returns-2 same-length-2 returns-3)
+    tie.close (tie.spec fits-requires returns distance-requires move-singly-requires move-through-requires same-length returns-2 same-length-2 returns-3)

@@ -1,4 +1,4 @@
--- `copies::move_bytes` meets its contract. Assumes nothing.
+-- `copies::move_singly` meets its contract. Assumes nothing.
 use mathlib.Core.Path.{_≡_, refl, sym, _∙_}
 use Prim.Native.Nat.{_+_, _-_, _≤_}
 use native.Mathlib.Omega.{arith}
@@ -8,8 +8,8 @@ use borrow.Author.Needs.{needs}
 use Rattle.memory.specs.Memory.{splice, part}
 use Rattle.memory.proofs.Turns.{copy-done, byte-done}
 use Rattle.memory.proofs.Words.{moved-turn}
-use Rattle.copies.proofs.move_bytes.Statement.{statement}
-use Rattle.copies.proofs.move_bytes.Tie as tie
+use Rattle.copies.proofs.move_singly.Statement.{statement}
+use Rattle.copies.proofs.move_singly.Tie as tie
 
 abbrev Inv-loop : tie.InvT-loop
 Inv-loop d₀ to from n i₀ d i =
@@ -52,6 +52,6 @@ same-length c = c .before .loop .inv .1
 returns : tie.Need-returns Inv-loop μ-loop
 returns c = sym (copy-done _ _ _ _ _ _ (omega arith)) ∙ c .before .loop .inv .2 ∙ simp (add-zero, sub-zero)
 
-pub move-bytes-spec : {M : Type 1} → statement M
-move-bytes-spec =
+pub move-singly-spec : {M : Type 1} → statement M
+move-singly-spec =
     tie.close (tie.spec Inv-loop μ-loop loop-holds add-d slice-read-d add-d-2 slice-write-d add-i loop-less loop-again same-length returns)
