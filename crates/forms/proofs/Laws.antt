@@ -14,7 +14,7 @@ use Rattle.memory.proofs.Laws.{splice-append}
 use Rattle.protocol.specs.Fresh.{zeros}
 use Rattle.records.specs.File.{cores}
 use Rattle.taskset.specs.Judge.{oldMark, newMark, isOld, isNew, codePlace, startPlace, judge}
-use Rattle.forms.specs.declared.Converted.{Converted}
+use Rattle.forms.specs.declared.FormAnswer.{FormAnswer}
 use Rattle.forms.specs.Forms.{bodyOf, toNew, toOld, noStarts, toNewRefusal, toOldRefusal, ConversionLeft, convertCall, convertedLent, lentBy}
 use Rattle.forms.proofs.BothWays.{length-body, body-begins, length-old, length-new, old-ends, none-short, short-none, none-tested, tested-none}
 
@@ -25,11 +25,11 @@ pub whole-mark : (s : List ℕ) → length s ≤ 4 → part s 0 4 ≡ s
 unfolding part
 whole-mark s h = take-all 4 s h
 
-pub convert-refused : (x : Converted) (out g : List ℕ) (r n : ℕ) → x ≡ record { refusal = r; length = 0 } → r ≡ n → r ≢ 0
+pub convert-refused : (x : FormAnswer) (out g : List ℕ) (r n : ℕ) → x ≡ record { refusal = r; length = 0 } → r ≡ n → r ≢ 0
     → _≡_ {A = ConversionLeft} (record { answer = x; output = out }) (convertCall n g out)
 unfolding convertCall
 convert-refused x out g r n e q z =
-    ap (λ (y : Converted). record { answer = y; output = out }) (e ∙ ap (λ (m : ℕ). record { refusal = m; length = 0 }) q)
+    ap (λ (y : FormAnswer). record { answer = y; output = out }) (e ∙ ap (λ (m : ℕ). record { refusal = m; length = 0 }) q)
     ∙ sym (pick-false _ _ _ (ne-eqb n 0 (λ w. z (q ∙ w))))
 
 pub convert-granted : (out out′ g : List ℕ) (l n : ℕ) → n ≡ 0 → l ≡ length g → out′ ≡ splice out 0 g
@@ -39,11 +39,11 @@ convert-granted out out′ g l n z e q =
     ap₂ (λ (m : ℕ) (o : List ℕ). record { answer = record { refusal = 0; length = m }; output = o }) e q ∙ sym (pick-true _ _ _ (eq-eqb n 0 z))
 
 -- over C
-pub lent-refused : (x : Converted) (out : List ℕ) (y : ConversionLeft) (place : ℕ) → _≡_ {A = ConversionLeft} (record { answer = x; output = out }) y → x .refusal ≢ 0 → convertedLent (x .refusal) place out ≡ lentBy y place
+pub lent-refused : (x : FormAnswer) (out : List ℕ) (y : ConversionLeft) (place : ℕ) → _≡_ {A = ConversionLeft} (record { answer = x; output = out }) y → x .refusal ≢ 0 → convertedLent (x .refusal) place out ≡ lentBy y place
 unfolding lentBy
 lent-refused x out y place e n = subst (λ (z : ConversionLeft). convertedLent (x .refusal) place out ≡ lentBy z place) e (ap (λ (m : ℕ). convertedLent (x .refusal) m out) (sym (pick-false _ _ _ (ne-eqb (x .refusal) 0 n))))
 
-pub lent-granted : (x : Converted) (out : List ℕ) (y : ConversionLeft) (place : ℕ) → _≡_ {A = ConversionLeft} (record { answer = x; output = out }) y → x .refusal ≡ 0 → convertedLent 0 (x .length) out ≡ lentBy y place
+pub lent-granted : (x : FormAnswer) (out : List ℕ) (y : ConversionLeft) (place : ℕ) → _≡_ {A = ConversionLeft} (record { answer = x; output = out }) y → x .refusal ≡ 0 → convertedLent 0 (x .length) out ≡ lentBy y place
 unfolding lentBy
 lent-granted x out y place e z =
     subst (λ (w : ConversionLeft). convertedLent 0 (x .length) out ≡ lentBy w place) e

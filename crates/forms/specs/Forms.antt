@@ -15,7 +15,7 @@ use Rattle.records.specs.File.{cores}
 use Rattle.records.specs.Records.{present}
 use Rattle.taskset.specs.Judge.{oldMark, newMark, isOld, isNew, startPlace, judge}
 use Rattle.taskset.specs.Starts.{startCount}
-use Rattle.forms.specs.declared.Converted.{Converted}
+use Rattle.forms.specs.declared.FormAnswer.{FormAnswer}
 
 -- ---- the two forms
 
@@ -48,7 +48,7 @@ toOldRefusal f room =
 
 -- what a call answers, and what its output holds afterwards
 pub record ConversionLeft : Type 0 where
-  pub answer : Converted
+  pub answer : FormAnswer
   pub output : List ℕ
 
 abbrev pub conversionLeft : ℕ → ℕ → List ℕ → ConversionLeft

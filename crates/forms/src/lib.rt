@@ -6,24 +6,16 @@ ghost use lib.ListN.{length};
 ghost use Rattle.memory.specs.Memory.{splice, part};
 ghost use Rattle.forms.specs.Forms.{ConversionLeft, toNewCall, toOldCall};
 
-// The number of a mark that is wrong, or that the converter would make.
-const MARK: u8 = 2;
-
-// An output that is too short; a file with start values sent back.
-const LENT: u8 = 21;
-
-const STARTS: u8 = 32;
-
 // The refusal number, 0 for none, and how many bytes were written.
-pub struct Converted {
+pub struct FormAnswer {
     pub refusal: u8,
     pub length: usize,
 }
 
-fn refused(number: u8) -> Converted
+fn nothing_written(number: u8) -> FormAnswer
     ensures { λ r. ⌜ r ≡ record { refusal = number; length = 0 } ⌝ }
 {
-    Converted {
+    FormAnswer {
         refusal: number,
         length: 0,
     }
@@ -39,58 +31,58 @@ fn write_form(mark: &[u8; 4], f: &[u8], end: usize, out: &mut [u8])
 }
 
 // The file in the new form, with a count of 0 for each core.
-pub fn to_new(f: &[u8], out: &mut [u8]) -> Converted
+pub fn to_new(f: &[u8], out: &mut [u8]) -> FormAnswer
     ensures { λ r. ⌜ _≡_ {A = ConversionLeft} (record { answer = r; output = now (out .exit) }) (toNewCall (now (f .entry)) (now (out .entry))) ⌝ }
 {
     if f.len() < 4 {
-        return refused(verdict::CUT_FILE);
+        return nothing_written(verdict::CUT_FILE);
     }
     if !taskset::is_old(f) {
-        return refused(MARK);
+        return nothing_written(verdict::NO_MARK);
     }
     let number = taskset::judge_file(f);
     if number != 0 {
-        return refused(number);
+        return nothing_written(number);
     }
     let end = f.len();
     let counts = 2 * memory::byte_at(f, 4) as usize;
     if out.len() < end + counts {
-        return refused(LENT);
+        return nothing_written(verdict::BAD_LENGTHS);
     }
     let mark = taskset::NEW_MARK;
     write_form(&mark, f, end, out);
     memory::store(out, end, counts, 0);
-    Converted {
+    FormAnswer {
         refusal: 0,
         length: end + counts,
     }
 }
 
 // The file in the old form. A file has no start values exactly if nothing but a count for each core follows its code.
-pub fn to_old(f: &[u8], out: &mut [u8]) -> Converted
+pub fn to_old(f: &[u8], out: &mut [u8]) -> FormAnswer
     ensures { λ r. ⌜ _≡_ {A = ConversionLeft} (record { answer = r; output = now (out .exit) }) (toOldCall (now (f .entry)) (now (out .entry))) ⌝ }
 {
     if f.len() < 4 {
-        return refused(verdict::CUT_FILE);
+        return nothing_written(verdict::CUT_FILE);
     }
     if !taskset::is_new(f) {
-        return refused(MARK);
+        return nothing_written(verdict::NO_MARK);
     }
     let number = taskset::judge_file(f);
     if number != 0 {
-        return refused(number);
+        return nothing_written(number);
     }
     let n = memory::byte_at(f, 4) as usize;
     let end = taskset::code_place(f, n);
     if f.len() != end + 2 * n {
-        return refused(STARTS);
+        return nothing_written(verdict::HAS_STARTS);
     }
     if out.len() < end {
-        return refused(LENT);
+        return nothing_written(verdict::BAD_LENGTHS);
     }
     let mark = taskset::OLD_MARK;
     write_form(&mark, f, end, out);
-    Converted {
+    FormAnswer {
         refusal: 0,
         length: end,
     }

@@ -1,7 +1,7 @@
 // Document 02, 2.12, with stored results. The plant has two cores: core 0 with six bytes of data, the first an input byte; core 1 with eight. Core 0 writes a word
 // from its place 2 to shared place 10, core 1 reads it to its place 4. Both codes are RETURN. In a file of the new form the start values follow them.
 // In order: numbers of files; the fresh state; what a reader sees before the first writing; the converters.
-use forms::Converted;
+use forms::FormAnswer;
 use runner::RunAnswer;
 
 fn text(s: &[u8]) {
@@ -184,7 +184,7 @@ fn readings() {
 
 // ---- the converters, with an output of 40 bytes that hold 1
 
-fn shown(label: &[u8], converted: Converted, out: &[u8]) {
+fn shown(label: &[u8], converted: FormAnswer, out: &[u8]) {
     text(label);
     text(b":");
     number(converted.refusal as usize);

@@ -11,7 +11,7 @@ use Rattle.forms.proofs.to_new.Statement.{statement}
 use Rattle.forms.proofs.to_new.Tie as tie
 use Rattle.forms.proofs.to_new.Reads as reads
 use Rattle.forms.proofs.to_new.Lts as lts
-use Rattle.forms.proofs.refused.Reads as refused-reads
+use Rattle.forms.proofs.nothing_written.Reads as nothing-written-reads
 use Rattle.forms.proofs.write_form.Reads as write-form-reads
 use Rattle.memory.proofs.byte_at.Reads as byte-at-reads
 use Rattle.memory.proofs.store.Reads as store-reads
@@ -25,31 +25,31 @@ has-mark c = sym (c .before .is-old .ensures) ∙ not-false _ (c .if2 .left)
 accepted : (c : tie.Else3) → judge (c .before .before .before .before .before .before .before .args .f .now) ≡ 0
 accepted c = sym (c .before .judge-file .ensures) ∙ c .if3 .left
 
-refused-requires : tie.Need-refused-requires
-refused-requires c κs = search needs
+nothing-written-requires : tie.Need-nothing-written-requires
+nothing-written-requires c κs = search needs
 
 returns : tie.Need-returns
-returns c = convert-refused _ (c .before .before .before .before .args .out .now) _ 1 _ (c .refused .ensures) (new-short (c .before .before .before .before .args .f .now) _ (c .before .if1 .taken)) (λ e. absurd (let y : ⊥ = omega arith in y))
+returns c = convert-refused _ (c .before .before .before .before .args .out .now) _ 1 _ (c .nothing-written .ensures) (new-short (c .before .before .before .before .args .f .now) _ (c .before .if1 .taken)) (λ e. absurd (let y : ⊥ = omega arith in y))
 
 is-old-requires : tie.Need-is-old-requires
 is-old-requires c κs = search needs
 
-refused-requires-2 : tie.Need-refused-requires-2
-refused-requires-2 c κs = search needs
+nothing-written-requires-2 : tie.Need-nothing-written-requires-2
+nothing-written-requires-2 c κs = search needs
 
 returns-2 : tie.Need-returns-2
 returns-2 c =
     let else1 = c .before .before .before in
     let start = else1 .before .before .before in
-    convert-refused _ (start .args .out .now) _ 2 _ (c .refused2 .ensures)
+    convert-refused _ (start .args .out .now) _ 2 _ (c .nothing-written2 .ensures)
     (new-mark (start .args .f .now) _ (else1 .if1 .left) (sym (c .before .before .is-old .ensures) ∙ not-true _ (c .before .if2 .taken)))
     (λ e. absurd (let y : ⊥ = omega arith in y))
 
 judge-file-requires : tie.Need-judge-file-requires
 judge-file-requires c κs = search needs
 
-refused-requires-3 : tie.Need-refused-requires-3
-refused-requires-3 c κs = search needs
+nothing-written-requires-3 : tie.Need-nothing-written-requires-3
+nothing-written-requires-3 c κs = search needs
 
 returns-3 : tie.Need-returns-3
 returns-3 c =
@@ -57,7 +57,7 @@ returns-3 c =
     let else2 = then3 .before .before in
     let else1 = else2 .before .before in
     let start = else1 .before .before .before in
-    convert-refused _ (start .args .out .now) _ _ _ (c .refused3 .ensures)
+    convert-refused _ (start .args .out .now) _ _ _ (c .nothing-written3 .ensures)
     (new-file (start .args .f .now) _ (else1 .if1 .left) (has-mark else2) _ (c .before .before .judge-file .ensures) (then3 .if3 .taken))
     (then3 .if3 .taken)
 
@@ -73,8 +73,8 @@ mul-counts c = search needs
 add-if4 : tie.Need-add-if4
 add-if4 c = search needs
 
-refused-requires-4 : tie.Need-refused-requires-4
-refused-requires-4 c κs = search needs
+nothing-written-requires-4 : tie.Need-nothing-written-requires-4
+nothing-written-requires-4 c κs = search needs
 
 returns-4 : tie.Need-returns-4
 returns-4 c =
@@ -82,7 +82,7 @@ returns-4 c =
     let else2 = else3 .before .before in
     let else1 = else2 .before .before in
     let start = else1 .before .before .before in
-    convert-refused _ (start .args .out .now) _ 21 _ (c .refused4 .ensures)
+    convert-refused _ (start .args .out .now) _ 21 _ (c .nothing-written4 .ensures)
     (new-room (start .args .f .now) _ (else1 .if1 .left) (has-mark else2) (accepted else3) _ (c .before .before .byte-at .ensures)
     (c .before .if4 .taken)) (λ e. absurd (let y : ⊥ = omega arith in y))
 
@@ -118,19 +118,19 @@ pub to-new-spec : {M : Type 1} → statement M
 to-new-spec =
     tie.close
     (tie.spec
-    refused-requires
+    nothing-written-requires
     returns
     is-old-requires
-    refused-requires-2
+    nothing-written-requires-2
     returns-2
     judge-file-requires
-    refused-requires-3
+    nothing-written-requires-3
     returns-3
     byte-at-requires
     cast-counts
     mul-counts
     add-if4
-    refused-requires-4
+    nothing-written-requires-4
     returns-4
     write-form-requires
     store-requires

@@ -13,7 +13,7 @@ use Rattle.forms.proofs.to_old.Statement.{statement}
 use Rattle.forms.proofs.to_old.Tie as tie
 use Rattle.forms.proofs.to_old.Reads as reads
 use Rattle.forms.proofs.to_old.Lts as lts
-use Rattle.forms.proofs.refused.Reads as refused-reads
+use Rattle.forms.proofs.nothing_written.Reads as nothing-written-reads
 use Rattle.forms.proofs.write_form.Reads as write-form-reads
 use Rattle.memory.proofs.byte_at.Reads as byte-at-reads
 use Rattle.taskset.proofs.code_place.Reads as code-place-reads
@@ -30,31 +30,31 @@ accepted c = sym (c .before .judge-file .ensures) ∙ c .if3 .left
 code-end : (c : tie.After-code-place) → c .code-place .result ≡ startPlace (c .before .before .before .before .before .before .before .before .before .args .f .now) 0
 code-end c = end-is (c .before .before .before .before .before .before .before .before .before .args .f .now) _ _ (c .code-place .ensures .0) (c .before .byte-at .ensures)
 
-refused-requires : tie.Need-refused-requires
-refused-requires c κs = search needs
+nothing-written-requires : tie.Need-nothing-written-requires
+nothing-written-requires c κs = search needs
 
 returns : tie.Need-returns
-returns c = convert-refused _ (c .before .before .before .before .args .out .now) _ 1 _ (c .refused .ensures) (old-short (c .before .before .before .before .args .f .now) _ (c .before .if1 .taken)) (λ e. absurd (let y : ⊥ = omega arith in y))
+returns c = convert-refused _ (c .before .before .before .before .args .out .now) _ 1 _ (c .nothing-written .ensures) (old-short (c .before .before .before .before .args .f .now) _ (c .before .if1 .taken)) (λ e. absurd (let y : ⊥ = omega arith in y))
 
 is-new-requires : tie.Need-is-new-requires
 is-new-requires c κs = search needs
 
-refused-requires-2 : tie.Need-refused-requires-2
-refused-requires-2 c κs = search needs
+nothing-written-requires-2 : tie.Need-nothing-written-requires-2
+nothing-written-requires-2 c κs = search needs
 
 returns-2 : tie.Need-returns-2
 returns-2 c =
     let else1 = c .before .before .before in
     let start = else1 .before .before .before in
-    convert-refused _ (start .args .out .now) _ 2 _ (c .refused2 .ensures)
+    convert-refused _ (start .args .out .now) _ 2 _ (c .nothing-written2 .ensures)
     (old-mark (start .args .f .now) _ (else1 .if1 .left) (sym (c .before .before .is-new .ensures) ∙ not-true _ (c .before .if2 .taken)))
     (λ e. absurd (let y : ⊥ = omega arith in y))
 
 judge-file-requires : tie.Need-judge-file-requires
 judge-file-requires c κs = search needs
 
-refused-requires-3 : tie.Need-refused-requires-3
-refused-requires-3 c κs = search needs
+nothing-written-requires-3 : tie.Need-nothing-written-requires-3
+nothing-written-requires-3 c κs = search needs
 
 returns-3 : tie.Need-returns-3
 returns-3 c =
@@ -62,7 +62,7 @@ returns-3 c =
     let else2 = then3 .before .before in
     let else1 = else2 .before .before in
     let start = else1 .before .before .before in
-    convert-refused _ (start .args .out .now) _ _ _ (c .refused3 .ensures)
+    convert-refused _ (start .args .out .now) _ _ _ (c .nothing-written3 .ensures)
     (old-file (start .args .f .now) _ (else1 .if1 .left) (has-mark else2) _ (c .before .before .judge-file .ensures) (then3 .if3 .taken))
     (then3 .if3 .taken)
 
@@ -81,8 +81,8 @@ mul-if4 c = search needs
 add-if4 : tie.Need-add-if4
 add-if4 c = search needs
 
-refused-requires-4 : tie.Need-refused-requires-4
-refused-requires-4 c κs = search needs
+nothing-written-requires-4 : tie.Need-nothing-written-requires-4
+nothing-written-requires-4 c κs = search needs
 
 returns-4 : tie.Need-returns-4
 returns-4 c =
@@ -92,12 +92,12 @@ returns-4 c =
     let else1 = else2 .before .before in
     let start = else1 .before .before .before in
     let f = start .args .f .now in
-    convert-refused _ (start .args .out .now) _ 32 _ (c .refused4 .ensures)
+    convert-refused _ (start .args .out .now) _ 32 _ (c .nothing-written4 .ensures)
     (old-starts f _ (else1 .if1 .left) (has-mark else2) (accepted else3) _ _ (after-byte-at .byte-at .ensures) (code-end (c .before .before))
     (c .before .if4 .taken)) (λ e. absurd (let y : ⊥ = omega arith in y))
 
-refused-requires-5 : tie.Need-refused-requires-5
-refused-requires-5 c κs = search needs
+nothing-written-requires-5 : tie.Need-nothing-written-requires-5
+nothing-written-requires-5 c κs = search needs
 
 returns-5 : tie.Need-returns-5
 returns-5 c =
@@ -108,7 +108,7 @@ returns-5 c =
     let else1 = else2 .before .before in
     let start = else1 .before .before .before in
     let f = start .args .f .now in
-    convert-refused _ (start .args .out .now) _ 21 _ (c .refused5 .ensures)
+    convert-refused _ (start .args .out .now) _ 21 _ (c .nothing-written5 .ensures)
     (old-room f _ (else1 .if1 .left) (has-mark else2) (accepted else3) _ _ (after-byte-at .byte-at .ensures) (code-end after-code-place)
     (c .before .before .if4 .left) (c .before .if5 .taken)) (λ e. absurd (let y : ⊥ = omega arith in y))
 
@@ -147,22 +147,22 @@ pub to-old-spec : {M : Type 1} → statement M
 to-old-spec =
     tie.close
     (tie.spec
-    refused-requires
+    nothing-written-requires
     returns
     is-new-requires
-    refused-requires-2
+    nothing-written-requires-2
     returns-2
     judge-file-requires
-    refused-requires-3
+    nothing-written-requires-3
     returns-3
     byte-at-requires
     cast-n
     code-place-requires
     mul-if4
     add-if4
-    refused-requires-4
+    nothing-written-requires-4
     returns-4
-    refused-requires-5
+    nothing-written-requires-5
     returns-5
     write-form-requires
     same-length
