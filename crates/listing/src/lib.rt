@@ -16,15 +16,13 @@ const LINE_FEED: u8 = b'\n';
 
 const SPACE: u8 = b' ';
 
-const WRITING: u8 = 16; // the order list's bytes of writings, from here on
+const FIRST_WRITING: u8 = 16; // the order list's bytes of writings, from here on
 
 const CORES: usize = 4; // of a state
 
-const TOO_SHORT: u8 = 21; // the refusal of a lent output
-
 // ---- bytes and numbers
 
-fn put(out: &mut [u8], at: usize, byte: u8) -> usize
+fn put_byte(out: &mut [u8], at: usize, byte: u8) -> usize
     requires { ⌜ at < 18446744073709551615 ⌝ }
     ensures { λ r. ⌜ (now (out .exit) ≡ splice (now (out .entry)) at (byte ∷ [])) × (r ≡ at + 1) ⌝ }
 {
@@ -41,7 +39,7 @@ fn write_text(out: &mut [u8], at: usize, text: &[u8]) -> usize
     let mut next = at;
     let mut i = 0;
     while i < text.len() {
-        next = put(out, next, text[i]);
+        next = put_byte(out, next, text[i]);
         i += 1;
     }
     next
@@ -53,10 +51,10 @@ fn write_decimal(out: &mut [u8], at: usize, value: u16) -> usize
     ensures { λ r. ⌜ (now (out .exit) ≡ splice (now (out .entry)) at (decimal value)) × (r ≡ at + length (decimal value)) × (r ≤ at + 5) ⌝ }
 {
     if value < 10 {
-        return put(out, at, b'0' + value as u8);
+        return put_byte(out, at, b'0' + value as u8);
     }
     let last = write_decimal(out, at, value / 10);
-    put(out, last, b'0' + (value % 10) as u8)
+    put_byte(out, last, b'0' + (value % 10) as u8)
 }
 
 // A number and the byte that ends it.
@@ -65,7 +63,7 @@ fn write_column(out: &mut [u8], at: usize, value: u16, end: u8) -> usize
     ensures { λ r. ⌜ (now (out .exit) ≡ splice (now (out .entry)) at (column value end)) × (r ≡ at + length (column value end)) × (r ≤ at + 6) ⌝ }
 {
     let next = write_decimal(out, at, value);
-    put(out, next, end)
+    put_byte(out, next, end)
 }
 
 // ---- the core table
@@ -85,7 +83,7 @@ fn write_line(out: &mut [u8], at: usize, k: usize, r: Registers) -> usize
     write_column(out, fifth, r.count, LINE_FEED)
 }
 
-fn least(a: usize, b: usize) -> usize
+fn lesser(a: usize, b: usize) -> usize
     ensures { λ r. ⌜ r ≡ min a b ⌝ }
 {
     if a < b {
@@ -95,7 +93,7 @@ fn least(a: usize, b: usize) -> usize
 }
 
 // That the table has four records is known of a result.
-fn table_of(s: Held) -> [Registers; 4]
+fn cores_of(s: Held) -> [Registers; 4]
     ensures { λ r. ⌜ (r ≡ s .cores) × (length r ≡ 4) ⌝ }
 {
     s.cores
@@ -106,8 +104,8 @@ fn write_lines(out: &mut [u8], at: usize, s: Held, n: usize) -> usize
     requires { ⌜ at + 120 < 18446744073709551615 ⌝ }
     ensures { λ r. ⌜ (now (out .exit) ≡ splice (now (out .entry)) at (coreLines 0 (take n (s .cores)))) × (r ≡ at + length (coreLines 0 (take n (s .cores)))) × (r ≤ at + 120) ⌝ }
 {
-    let cores = table_of(s);
-    let lines = least(n, CORES);
+    let cores = cores_of(s);
+    let lines = lesser(n, CORES);
     let mut next = at;
     let mut k = 0;
     while k < lines {
@@ -122,7 +120,7 @@ fn write_lines(out: &mut [u8], at: usize, s: Held, n: usize) -> usize
 fn kind_of(byte: u8) -> u8
     ensures { λ r. ⌜ r ≡ kindLetter byte ⌝ }
 {
-    if byte < WRITING {
+    if byte < FIRST_WRITING {
         return b'r';
     }
     b'w'
@@ -132,9 +130,9 @@ fn write_taking(out: &mut [u8], at: usize, byte: u8) -> usize
     requires { ⌜ at + 3 < 18446744073709551615 ⌝ }
     ensures { λ r. ⌜ (now (out .exit) ≡ splice (now (out .entry)) at (takingText byte)) × (r ≡ at + 3) ⌝ }
 {
-    let core = put(out, at, SPACE);
-    let kind = put(out, core, b'0' + byte % WRITING);
-    put(out, kind, kind_of(byte))
+    let core = put_byte(out, at, SPACE);
+    let kind = put_byte(out, core, b'0' + byte % FIRST_WRITING);
+    put_byte(out, kind, kind_of(byte))
 }
 
 // The first `taken` bytes of the order list.
@@ -142,7 +140,7 @@ fn write_takings(out: &mut [u8], at: usize, list: &[u8], taken: usize) -> usize
     requires { ⌜ at + 3 * min taken (length (now list)) < 18446744073709551615 ⌝ }
     ensures { λ r. ⌜ (now (out .exit) ≡ splice (now (out .entry)) at (flat (map takingText (take taken (now (list .entry)))))) × (r ≡ at + length (flat (map takingText (take taken (now (list .entry)))))) × (r ≡ at + 3 * min taken (length (now (list .entry)))) ⌝ }
 {
-    let takings = least(taken, list.len());
+    let takings = lesser(taken, list.len());
     let mut next = at;
     let mut i = 0;
     while i < takings {
@@ -176,15 +174,15 @@ pub fn write_listing(s: Held, n: usize, list: &[u8], taken: usize, out: &mut [u8
     let mut nothing = [0u8; 0];
     let before = write_head(&mut nothing, s, n);
     if out.len() <= before {
-        return Written::Refused(TOO_SHORT);
+        return Written::Refused(verdict::BAD_LENGTHS);
     }
-    let takings = least(taken, list.len());
+    let takings = lesser(taken, list.len());
     if (out.len() - before - 1) / 3 < takings {
-        return Written::Refused(TOO_SHORT);
+        return Written::Refused(verdict::BAD_LENGTHS);
     }
     let from = write_head(out, s, n);
     let end = write_takings(out, from, list, taken);
-    Written::Text(put(out, end, LINE_FEED))
+    Written::Text(put_byte(out, end, LINE_FEED))
 }
 
 fn write_number(out: &mut [u8], number: u8) -> usize
@@ -200,7 +198,7 @@ pub fn write_refused(number: u8, out: &mut [u8]) -> Written
 {
     let mut nothing = [0u8; 0];
     if out.len() < write_number(&mut nothing, number) {
-        return Written::Refused(TOO_SHORT);
+        return Written::Refused(verdict::BAD_LENGTHS);
     }
     Written::Text(write_number(out, number))
 }
@@ -210,7 +208,7 @@ pub fn write_long(out: &mut [u8]) -> Written
     ensures { λ r. ⌜ textLeft r (now (out .exit)) ≡ textCall longText (now (out .entry)) ⌝ }
 {
     if out.len() < 5 {
-        return Written::Refused(TOO_SHORT);
+        return Written::Refused(verdict::BAD_LENGTHS);
     }
     Written::Text(write_text(out, 0, b"long\n"))
 }

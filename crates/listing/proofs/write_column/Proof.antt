@@ -11,8 +11,8 @@ use Rattle.listing.proofs.write_column.Tie as tie
 write-decimal-requires : tie.Need-write-decimal-requires
 write-decimal-requires c κs = search needs
 
-put-requires : tie.Need-put-requires
-put-requires c κs = search needs
+put-byte-requires : tie.Need-put-byte-requires
+put-byte-requires c κs = search needs
 
 same-length : tie.Need-same-length
 same-length c = search needs
@@ -26,8 +26,8 @@ returns c =
     let w = writing-last
     (writing-more (decimal (start .args .value)) (start .args .end ∷ []) (writing-start _ _ (column (start .args .value) (start .args .end)))
     refl (after-write-decimal .write-decimal .ensures .0) (after-write-decimal .write-decimal .ensures .1))
-    (after-put .put .ensures .0) (after-put .put .ensures .1) in
+    (after-put .put-byte .ensures .0) (after-put .put-byte .ensures .1) in
     (w .0, w .1, omega arith)
 
 pub write-column-spec : {M : Type 1} → statement M
-write-column-spec = tie.close (tie.spec write-decimal-requires put-requires same-length returns)
+write-column-spec = tie.close (tie.spec write-decimal-requires put-byte-requires same-length returns)

@@ -20,11 +20,11 @@ Inv-loop out₀ at n cores lines next₀ k₀ out next k =
 abbrev μ-loop : tie.MeasureT-loop
 μ-loop out₀ at n cores lines next₀ k₀ out next k = lines - k
 
-table-of-requires : tie.Need-table-of-requires Inv-loop μ-loop
-table-of-requires c κs = search needs
+cores-of-requires : tie.Need-cores-of-requires Inv-loop μ-loop
+cores-of-requires c κs = search needs
 
-least-requires : tie.Need-least-requires Inv-loop μ-loop
-least-requires c κs = search needs
+lesser-requires : tie.Need-lesser-requires Inv-loop μ-loop
+lesser-requires c κs = search needs
 
 loop-holds : tie.Need-loop-holds Inv-loop μ-loop
 loop-holds c = (omega arith, search needs, omega arith, writing-start _ _ _)
@@ -53,10 +53,10 @@ loop-again c = (
       let turn = after-write-line .before .before .before .before in
       let after-table-of = turn .before .before in
       let start = after-table-of .before .before in
-      let h : turn .loop .k < min (start .args .n) (length (after-table-of .table-of .result)) = omega (arith, after-table-of .table-of .ensures .1) in
-      writing-more (coreLine (turn .loop .k) (getD (after-table-of .table-of .result) (turn .loop .k) noRegisters))
-      (coreLines (turn .loop .k + 1) (drop (turn .loop .k + 1) (take (start .args .n) (after-table-of .table-of .result))))
-      (turn .loop .inv .3) (first-line (after-table-of .table-of .result) (start .args .n) (turn .loop .k) noRegisters h)
+      let h : turn .loop .k < min (start .args .n) (length (after-table-of .cores-of .result)) = omega (arith, after-table-of .cores-of .ensures .1) in
+      writing-more (coreLine (turn .loop .k) (getD (after-table-of .cores-of .result) (turn .loop .k) noRegisters))
+      (coreLines (turn .loop .k + 1) (drop (turn .loop .k + 1) (take (start .args .n) (after-table-of .cores-of .result))))
+      (turn .loop .inv .3) (first-line (after-table-of .cores-of .result) (start .args .n) (turn .loop .k) noRegisters h)
       (after-write-line .write-line .ensures .0) (after-write-line .write-line .ensures .1),
 )
 
@@ -65,8 +65,8 @@ same-length c = search needs
 
 returns : tie.Need-returns Inv-loop μ-loop
 returns c =
-    let w = writing-end (c .before .loop .inv .3) (last-line (c .before .before .before .table-of .result) (c .before .before .before .before .before .args .n) (c .before .loop .k) (omega (arith, c .before .before .before .table-of .ensures .1))) in
-    rw (sym (c .before .before .before .table-of .ensures .0)) (w .0, w .1, omega arith)
+    let w = writing-end (c .before .loop .inv .3) (last-line (c .before .before .before .cores-of .result) (c .before .before .before .before .before .args .n) (c .before .loop .k) (omega (arith, c .before .before .before .cores-of .ensures .1))) in
+    rw (sym (c .before .before .before .cores-of .ensures .0)) (w .0, w .1, omega arith)
 
 pub write-lines-spec : {M : Type 1} → statement M
 write-lines-spec =
@@ -74,8 +74,8 @@ write-lines-spec =
     (tie.spec
     Inv-loop
     μ-loop
-    table-of-requires
-    least-requires
+    cores-of-requires
+    lesser-requires
     loop-holds
     mul-write-line
     array-copy-out-write-line

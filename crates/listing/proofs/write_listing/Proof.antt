@@ -24,8 +24,8 @@ returns c =
     text-short (listing (a .n) (a .s) (take (a .taken) (a .list .now))) (a .out .now)
     (omega (arith, length-listing (a .n) (a .s) (a .list .now) (a .taken), measured .write-head .ensures .1, c .if1 .taken))
 
-least-requires : tie.Need-least-requires
-least-requires c κs = search needs
+lesser-requires : tie.Need-lesser-requires
+lesser-requires c κs = search needs
 
 sub-if2 : tie.Need-sub-if2
 sub-if2 c = search needs
@@ -40,7 +40,7 @@ returns-2 c =
     let measured = room .before .before in
     let a = measured .before .before .before .before .args in
     text-short (listing (a .n) (a .s) (take (a .taken) (a .list .now))) (a .out .now)
-    (omega (arith, length-listing (a .n) (a .s) (a .list .now) (a .taken), measured .write-head .ensures .1, room .if1 .left, counted .least .ensures, c .if2 .taken))
+    (omega (arith, length-listing (a .n) (a .s) (a .list .now) (a .taken), measured .write-head .ensures .1, room .if1 .left, counted .lesser .ensures, c .if2 .taken))
 
 write-head-requires-2 : tie.Need-write-head-requires-2
 write-head-requires-2 c κs = search needs
@@ -52,17 +52,17 @@ write-takings-requires c κs =
     let counted = fits .before in
     let room = counted .before in
     let measured = room .before .before in
-    omega (arith, measured .before .before .before .before .good, measured .write-head .ensures .1, wrote .write-head2 .ensures .1, room .if1 .left, counted .least .ensures, fits .if2 .left)
+    omega (arith, measured .before .before .before .before .good, measured .write-head .ensures .1, wrote .write-head2 .ensures .1, room .if1 .left, counted .lesser .ensures, fits .if2 .left)
 
-put-requires : tie.Need-put-requires
-put-requires c κs =
+put-byte-requires : tie.Need-put-byte-requires
+put-byte-requires c κs =
     let listed = c .before .before .before in
     let wrote = listed .before .before .before .before in
     let fits = wrote .before .before in
     let counted = fits .before in
     let room = counted .before in
     let measured = room .before .before in
-    omega (arith, measured .before .before .before .before .good, listed .write-takings .ensures .2, measured .write-head .ensures .1, wrote .write-head2 .ensures .1, room .if1 .left, counted .least .ensures, fits .if2 .left)
+    omega (arith, measured .before .before .before .before .good, listed .write-takings .ensures .2, measured .write-head .ensures .1, wrote .write-head2 .ensures .1, room .if1 .left, counted .lesser .ensures, fits .if2 .left)
 
 same-length : tie.Need-same-length
 same-length c = search needs
@@ -83,9 +83,9 @@ returns-3 c =
     (writing-start _ 0 (listing (a .n) (a .s) l))
     (listing-head (a .n) (a .s) l) (wrote .write-head2 .ensures .0) (wrote .write-head2 .ensures .1 ∙ sym (zero-add _)))
     refl (listed .write-takings .ensures .0) (listed .write-takings .ensures .1))
-    (ended .put .ensures .0) (ended .put .ensures .1) in
+    (ended .put-byte .ensures .0) (ended .put-byte .ensures .1) in
     text-written (listing (a .n) (a .s) l) (a .out .now)
-    (omega (arith, length-listing (a .n) (a .s) (a .list .now) (a .taken), measured .write-head .ensures .1, room .if1 .left, counted .least .ensures, fits .if2 .left))
+    (omega (arith, length-listing (a .n) (a .s) (a .list .now) (a .taken), measured .write-head .ensures .1, room .if1 .left, counted .lesser .ensures, fits .if2 .left))
     (w .1 ∙ zero-add _) (w .0)
 
 pub write-listing-spec : {M : Type 1} → statement M
@@ -95,12 +95,12 @@ write-listing-spec =
     slice-aggregate-write-head
     write-head-requires
     returns
-    least-requires
+    lesser-requires
     sub-if2
     sub-if2-2
     returns-2
     write-head-requires-2
     write-takings-requires
-    put-requires
+    put-byte-requires
     same-length
     returns-3)

@@ -10,20 +10,20 @@ use borrow.Author.Needs.{needs}
 use Rattle.listing.proofs.write_taking.Statement.{statement}
 use Rattle.listing.proofs.write_taking.Tie as tie
 
-put-requires : tie.Need-put-requires
-put-requires c κs = search needs
+put-byte-requires : tie.Need-put-byte-requires
+put-byte-requires c κs = search needs
 
-add-put : tie.Need-add-put
-add-put c = search needs
+add-put-byte : tie.Need-add-put-byte
+add-put-byte c = search needs
 
-put-requires-2 : tie.Need-put-requires-2
-put-requires-2 c κs = search needs
+put-byte-requires-2 : tie.Need-put-byte-requires-2
+put-byte-requires-2 c κs = search needs
 
 kind-of-requires : tie.Need-kind-of-requires
 kind-of-requires c κs = search needs
 
-put-requires-3 : tie.Need-put-requires-3
-put-requires-3 c κs = search needs
+put-byte-requires-3 : tie.Need-put-byte-requires-3
+put-byte-requires-3 c κs = search needs
 
 same-length : tie.Need-same-length
 same-length c = search needs
@@ -39,20 +39,20 @@ returns c =
     let w = writing-last
     (writing-more (digit (start .args .byte % 16) ∷ []) (kindLetter (start .args .byte) ∷ [])
     (writing-more (space ∷ []) (digit (start .args .byte % 16) ∷ kindLetter (start .args .byte) ∷ [])
-    (writing-start _ _ (takingText (start .args .byte))) refl (after-put .put .ensures .0) (after-put .put .ensures .1))
-    refl (after-put2 .put2 .ensures .0) (after-put2 .put2 .ensures .1))
-    (after-put3 .put3 .ensures .0 ∙ ap (λ (x : ℕ). splice (after-put2 .put2 .last .0) (after-put2 .put2 .result) (x ∷ [])) (after-kind-of .kind-of .ensures))
-    (after-put3 .put3 .ensures .1) in
+    (writing-start _ _ (takingText (start .args .byte))) refl (after-put .put-byte .ensures .0) (after-put .put-byte .ensures .1))
+    refl (after-put2 .put-byte2 .ensures .0) (after-put2 .put-byte2 .ensures .1))
+    (after-put3 .put-byte3 .ensures .0 ∙ ap (λ (x : ℕ). splice (after-put2 .put-byte2 .last .0) (after-put2 .put-byte2 .result) (x ∷ [])) (after-kind-of .kind-of .ensures))
+    (after-put3 .put-byte3 .ensures .1) in
     (w .0, omega arith)
 
 pub write-taking-spec : {M : Type 1} → statement M
 write-taking-spec =
     tie.close
     (tie.spec
-    put-requires
-    add-put
-    put-requires-2
+    put-byte-requires
+    add-put-byte
+    put-byte-requires-2
     kind-of-requires
-    put-requires-3
+    put-byte-requires-3
     same-length
     returns)

@@ -21,8 +21,8 @@ Inv-loop out₀ at list taken takings next₀ i₀ out next i =
 abbrev μ-loop : tie.MeasureT-loop
 μ-loop out₀ at list taken takings next₀ i₀ out next i = takings - i
 
-least-requires : tie.Need-least-requires Inv-loop μ-loop
-least-requires c κs = search needs
+lesser-requires : tie.Need-lesser-requires Inv-loop μ-loop
+lesser-requires c κs = search needs
 
 loop-holds : tie.Need-loop-holds Inv-loop μ-loop
 loop-holds c = (omega arith, search needs, omega arith, writing-start _ _ _)
@@ -68,7 +68,7 @@ write-takings-spec =
     (tie.spec
     Inv-loop
     μ-loop
-    least-requires
+    lesser-requires
     loop-holds
     shared-slice-read-write-taking
     write-taking-requires

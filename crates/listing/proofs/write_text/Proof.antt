@@ -20,11 +20,11 @@ abbrev μ-loop : tie.MeasureT-loop
 loop-holds : tie.Need-loop-holds Inv-loop μ-loop
 loop-holds c = (omega arith, refl, omega arith, writing-start _ _ _)
 
-shared-slice-read-put : tie.Need-shared-slice-read-put Inv-loop μ-loop
-shared-slice-read-put c = omega arith
+shared-slice-read-put-byte : tie.Need-shared-slice-read-put-byte Inv-loop μ-loop
+shared-slice-read-put-byte c = omega arith
 
-put-requires : tie.Need-put-requires Inv-loop μ-loop
-put-requires c κs = search needs
+put-byte-requires : tie.Need-put-byte-requires Inv-loop μ-loop
+put-byte-requires c κs = search needs
 
 add-i : tie.Need-add-i Inv-loop μ-loop
 add-i c = search needs
@@ -43,7 +43,7 @@ loop-again c = (
       let text = start .args .text .now in
       let h : turn .loop .i < length text = omega arith in
       writing-more (getD text (turn .loop .i) 0 ∷ []) (drop (turn .loop .i + 1) text)
-      (turn .loop .inv .3) (one-of text (turn .loop .i) 0 h) (after-put .put .ensures .0) (after-put .put .ensures .1),
+      (turn .loop .inv .3) (one-of text (turn .loop .i) 0 h) (after-put .put-byte .ensures .0) (after-put .put-byte .ensures .1),
 )
 
 same-length : tie.Need-same-length Inv-loop μ-loop
@@ -55,4 +55,4 @@ returns c = writing-end (c .before .loop .inv .3) (drop-of-length-le (c .before 
 pub write-text-spec : {M : Type 1} → statement M
 write-text-spec =
     tie.close
-    (tie.spec Inv-loop μ-loop loop-holds shared-slice-read-put put-requires add-i loop-less loop-again same-length returns)
+    (tie.spec Inv-loop μ-loop loop-holds shared-slice-read-put-byte put-byte-requires add-i loop-less loop-again same-length returns)

@@ -1,12 +1,12 @@
--- `listing::put` meets its contract. Past the end a write is dropped on both sides.
+-- `listing::put_byte` meets its contract. Past the end a write is dropped on both sides.
 -- Assumes nothing.
 use borrow.Author.Needs.{needs}
 use mathlib.Core.Path.{refl, ap, _∙_}
 use mathlib.Core.Logic.{⊎-elim}
 use lib.ListN.{length, length-set}
 use Rattle.listing.proofs.Writing.{one-byte, one-byte-set}
-use Rattle.listing.proofs.put.Statement.{statement}
-use Rattle.listing.proofs.put.Tie as tie
+use Rattle.listing.proofs.put_byte.Statement.{statement}
+use Rattle.listing.proofs.put_byte.Tie as tie
 
 slice-write-out : tie.Need-slice-write-out
 slice-write-out c = search needs
@@ -20,5 +20,5 @@ same-length c = ⊎-elim (λ w. ap length (w .1) ∙ simp length-set) (λ w. ap 
 returns : tie.Need-returns
 returns c = (⊎-elim (λ w. w .1 ∙ one-byte-set _ _ _) (λ w. w .1 ∙ one-byte _ _ _ (w .0 .left)) (c .if1 .came), refl)
 
-pub put-spec : {M : Type 1} → statement M
-put-spec = tie.close (tie.spec slice-write-out add-result same-length returns)
+pub put-byte-spec : {M : Type 1} → statement M
+put-byte-spec = tie.close (tie.spec slice-write-out add-result same-length returns)
