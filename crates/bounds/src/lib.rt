@@ -1,4 +1,5 @@
 // Document 02, 2.7: what a task will take, before loading it. One pass over each core's code, from its last instruction back.
+use machine::SHARED;
 use taskset::Layout;
 ghost use mathlib.Core.Path.{_≡_};
 ghost use mathlib.Core.Bool.{true};
@@ -14,9 +15,6 @@ ghost use Rattle.taskset.specs.Judge.{codeOf, judge};
 ghost use Rattle.taskset.specs.Layout.{layoutOf};
 ghost use Rattle.bounds.specs.Bounds.{countBy, depthBy, rises, noTakes, takesOf, Measured as MeasuredOf, Found};
 ghost use Rattle.bounds.specs.Outputs.{outputRefusal, outputs, takesLent};
-
-// Bytes of shared memory.
-const SHARED: usize = 1024;
 
 // The lengths of the data buffer, shared memory and core table, and each core's greatest count and depth; all 0 where the file is refused.
 pub struct Taken {
@@ -260,7 +258,7 @@ fn takes_in(file: &[u8], layout: Layout) -> Taken
 pub fn takes(file: &[u8]) -> Taken
     ensures { λ r. ⌜ r ≡ takesOf (now (file .entry)) ⌝ }
 {
-    let loaded = taskset::load(file);
+    let loaded = taskset::load_file(file);
     if loaded.refusal != 0 {
         return none(loaded.refusal);
     }

@@ -65,7 +65,7 @@ pub fn output(file: &[u8], trace: &[u8], order: &[u8], out: &mut [u8]) -> Writte
     if too_long(file.len(), trace.len(), order.len()) {
         return listing::write_long(out);
     }
-    let loaded = taskset::load(file);
+    let loaded = taskset::load_file(file);
     if loaded.refusal != 0 {
         return listing::write_refused(loaded.refusal, out);
     }

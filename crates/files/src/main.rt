@@ -286,7 +286,7 @@ fn core(c: taskset::CoreLayout) {
 }
 
 fn layout(f: &[u8]) {
-    let a = taskset::load(f);
+    let a = taskset::load_file(f);
     let l = a.layout;
     show(b"cores", l.cores);
     show(b"variables", l.variables);

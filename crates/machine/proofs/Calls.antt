@@ -34,8 +34,8 @@ use Rattle.states.specs.Tasks.{tasksOf}
 use Rattle.states.specs.Preparing.{heldRefusal, prepared}
 use Rattle.runner.specs.declared.RunAnswer.{RunAnswer}
 use Rattle.runner.specs.Runs.{allBelow, Left, leftAs, ranCall}
-use Rattle.machine.specs.declared.Judgement.{Judgement}
-use Rattle.machine.specs.Judging.{loadedLent, LentTo, judgedNumber, JudgedAs, firstRun}
+use Rattle.machine.specs.declared.judging.Judgement.{Judgement}
+use Rattle.machine.specs.Judging.{loadedLent, LentTo, withoutTasks, judgedNumber, JudgedAs, firstRun}
 use Rattle.machine.specs.Calls.{lentFits, setRefusal, callRefusal, answerOf, tableOf, freshRefusalFor, freshRefusal, freshCallFor, freshCall, runRefusal, runCall, freshLeft, nextRefusal}
 
 -- ---- trace and state
@@ -165,8 +165,8 @@ module _ (f t : List ℕ) (loaded : ℕ) (h : Held) (order : List ℕ) where
   number = judgedNumber f t loaded h order
 
   -- what is refused has neither layout nor tasks to say
-  pub judge-refused : (x : Judgement) {r : ℕ} → x .refusal ≡ r → r ≡ number → r ≢ 0 → JudgedAs f t loaded h order x
-  judge-refused x e q n = record { number = e ∙ q; laid = λ z. absurd (n (sym e ∙ z)); tasked = λ z. absurd (n (sym e ∙ z)) }
+  pub judge-refused : {l : Layout} (x : Judgement) {r : ℕ} → x ≡ withoutTasks r l → r ≡ number → r ≢ 0 → JudgedAs f t loaded h order x
+  judge-refused x w q n = let e = ap (λ (y : Judgement). y .refusal) w in record { number = e ∙ q; laid = λ z. absurd (n (sym e ∙ z)); tasked = λ z. absurd (n (sym e ∙ z)) }
 
   pub judge-file : {r : ℕ} → r ≡ loaded → r ≢ 0 → r ≡ number
   unfolding judgedNumber

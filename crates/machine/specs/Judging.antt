@@ -3,7 +3,7 @@
 -- Not here: the refusal number of each public call (`Calls`).
 use mathlib.Core.Path.{_≡_}
 use mathlib.Core.Bool.{Bool, true}
-use mathlib.Core.List.{List}
+use mathlib.Core.List.{List, [], _∷_}
 use Prim.Native.Nat.{ℕ, suc, _<_}
 use lib.ListN.{length, getD}
 use Rattle.verdict.specs.Numbers.{noSuchCore, badLengths}
@@ -21,10 +21,10 @@ use Rattle.states.specs.Machine.{noRegisters, stateOf}
 use Rattle.states.specs.Set.{AcceptedSet}
 use Rattle.states.specs.Fit.{Fit}
 use Rattle.states.specs.Preparing.{heldRefusal}
-use Rattle.states.specs.Tasks.{tasksOf}
+use Rattle.states.specs.Tasks.{noTask, tasksOf}
 use Rattle.steps.specs.Moving.{CursorAimed}
 use Rattle.runner.specs.Runs.{allBelow, Left}
-use Rattle.machine.specs.declared.Judgement.{Judgement}
+use Rattle.machine.specs.declared.judging.Judgement.{Judgement}
 use Rattle.machine.specs.Calls.{lentFits, tableOf, runCall}
 
 -- ---- file and lent memory
@@ -46,6 +46,10 @@ abbrev pub LaidOut : List ℕ → Loaded → Type 0
 LaidOut f x = x .refusal ≡ 0 → (judge f ≡ 0) × (x .layout ≡ layoutOf f)
 
 -- ---- the call, after what loading refused
+
+-- what is refused has no tasks
+abbrev pub withoutTasks : ℕ → Layout → Judgement
+withoutTasks number l = record { refusal = number; layout = l; tasks = noTask ∷ noTask ∷ noTask ∷ noTask ∷ [] }
 
 unfoldable pub judgedNumber : List ℕ → List ℕ → ℕ → Held → List ℕ → ℕ
 judgedNumber f t loaded h order = next loaded (next (heldRefusal f t h) (unless (allBelow (cores f) order) noSuchCore))

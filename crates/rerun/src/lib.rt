@@ -2,6 +2,7 @@
 // list is known at its end alone, so the rerun works in memories of its own and copies them out where nothing is refused.
 // In order: a byte of the list; a reading; a writing; a taking; the list; the call.
 use code::Profile;
+use machine::SHARED;
 use protocol::Registers;
 use runner::RunAnswer;
 use states::CoreTask;
@@ -22,15 +23,11 @@ ghost use Rattle.machine.specs.Calls.{answerOf, tableOf};
 ghost use Rattle.rerun.specs.Calls.{rerunCall};
 ghost use Rattle.rerun.specs.Rerunning.{namedCore, dueBy, dataIn, Exchanging, BroughtTo, BroughtIn, Reading, ReadsWhole, Due, Took, reranAnswer, RerunGiven, Reran};
 
-const LARGEST: usize = 16384;
-
-const SHARED: usize = 1024;
+// Bytes of the largest data buffer.
+const LARGEST_BUFFER: usize = 16384;
 
 // A byte of the list from here on is a writing.
 const WRITINGS: usize = 16;
-
-// A list that no order of steps produces.
-const UNPRODUCED: u8 = 33;
 
 // ---- a byte of the list
 
@@ -186,11 +183,11 @@ fn take(
 
 // ---- the list
 
-// What a refused call answers.
-fn refused(number: u8) -> RunAnswer
+// What a refused call answers: a table of no cores.
+fn without_table(number: u8) -> RunAnswer
     ensures { λ r. ⌜ r ≡ answerOf number (tableOf 0 0) ⌝ }
 {
-    machine::answer(number, machine::table_of(0, 0))
+    machine::answer(number, machine::idle_table(0, 0))
 }
 
 // What a call answers that took the whole list: the table now, with the semaphore of the fresh state.
@@ -244,10 +241,10 @@ fn rerun_in(
         let b = list[i] as usize;
         let k = named_core(b);
         if n <= k {
-            return refused(UNPRODUCED);
+            return without_table(verdict::NOT_PRODUCED);
         }
         if !is_due(b, cores[k], tasks[k].count) {
-            return refused(UNPRODUCED);
+            return without_table(verdict::NOT_PRODUCED);
         }
         cores[k] = take(
             b,
@@ -307,7 +304,7 @@ fn rerun_judged(
     requires { ⌜ RerunGiven (now file) (now trace) layout tasks (now buffer) (now shared) ⌝ }
     ensures { λ r. ⌜ leftAs r (now (buffer .exit)) (now (shared .exit)) [] ≡ rerunCall (now (file .entry)) (now (trace .entry)) (now (list .entry)) (now (buffer .entry)) (now (shared .entry)) ⌝ }
 {
-    let mut data: [u8; LARGEST] = [0; LARGEST];
+    let mut data: [u8; LARGEST_BUFFER] = [0; LARGEST_BUFFER];
     let mut common: [u8; SHARED] = [0; SHARED];
     let size = taskset::sum_of_sizes(file, layout);
     rerun_through(
@@ -335,12 +332,12 @@ pub fn rerun(
 {
     let loaded = machine::load_lent(Profile::Full, file, buffer.len(), shared.len(), true);
     if loaded.refusal != 0 {
-        return refused(loaded.refusal);
+        return without_table(loaded.refusal);
     }
     let layout = loaded.layout;
     let traces = taskset::load_trace(file, trace);
     if traces.refusal != 0 {
-        return refused(traces.refusal);
+        return without_table(traces.refusal);
     }
     let tasks = states::core_tasks(file, trace, layout, traces);
     rerun_judged(file, trace, layout, tasks, list, buffer, shared)

@@ -1,6 +1,6 @@
--- What the walks of functions that read a lent table share: the contracts of `get_or` and `no_core`, and one call of each.
+-- What the walks of functions that read a lent table share: the contracts of `get_or` and `no_record`, and one call of each.
 --     asks     one call of `get_or`, over any context and any code after it: a copy of the slice reference goes, and the token comes back
---     begins   one call of `no_core`
+--     begins   one call of `no_record`
 -- Assumes nothing.
 use mathlib.Core.Path.{_≡_, refl, ap, _∙_}
 use Prim.Native.Nat.{ℕ, _<_, _^_}
@@ -40,8 +40,8 @@ use Rattle.snapshot.proofs.CoreRecord as T
 use Rattle.snapshot.proofs.CoreRecord.Laws as T′
 use Rattle.rikzord.proofs.get_or as get-or
 use Rattle.rikzord.proofs.get_or.Symbol.{name as #rikzord·get-or}
-use Rattle.snapshot.proofs.no_core as no-core
-use Rattle.snapshot.proofs.no_core.Symbol.{name as #snapshot·no-core}
+use Rattle.snapshot.proofs.no_record as no-record
+use Rattle.snapshot.proofs.no_record.Symbol.{name as #snapshot·no-record}
 
 abbrev pub R : RattleType
 R = T.the-row
@@ -54,33 +54,33 @@ module _ {M : Type 1} (𝓤 : URA M) (H : Heap 𝓤) (A : Atoms 𝓤) (at-mem : 
   abbrev pub GetOr : Contract 𝓤
   GetOr = tripleOf 𝓤 H A get-or.signature (get-or.spec 𝓤 H A at-mem run)
 
-  abbrev pub NoCore : Contract 𝓤
-  NoCore = tripleOf 𝓤 H A no-core.signature (no-core.spec 𝓤 H A at-mem run)
+  abbrev pub NoRecord : Contract 𝓤
+  NoRecord = tripleOf 𝓤 H A no-record.signature (no-record.spec 𝓤 H A at-mem run)
 
   -- of what each ensures, the clause alone: neither has a last value
-  none-of : (r : CoreRecord) → ent 𝓤 (ensured 𝓤 H A no-core.ended (no-core.clauses 𝓤 H A at-mem run) tt tt tt r) (fact 𝓤 (r ≡ noRecord))
-  none-of r = exE 𝓤 _ (λ ws. snd∗ 𝓤 (sem 𝓤 H A (lasts no-core.ended tt tt ws)) (fact 𝓤 (r ≡ noRecord)))
+  none-of : (r : CoreRecord) → ent 𝓤 (ensured 𝓤 H A no-record.ended (no-record.clauses 𝓤 H A at-mem run) tt tt tt r) (fact 𝓤 (r ≡ noRecord))
+  none-of r = exE 𝓤 _ (λ ws. snd∗ 𝓤 (sem 𝓤 H A (lasts no-record.ended tt tt ws)) (fact 𝓤 (r ≡ noRecord)))
 
   got-of : (κ : Lft) (x : RefT (List CoreRecord)) (i : ℕ) (n r : CoreRecord) → ent 𝓤 (ensured 𝓤 H A get-or.ended (get-or.clauses 𝓤 H A at-mem run) (κ, tt) (x, (i, (n, tt))) tt r) (fact 𝓤 (r ≡ getD (x .now) i n))
   got-of κ x i n r = exE 𝓤 _ (λ ws. snd∗ 𝓤 (sem 𝓤 H A (lasts get-or.ended (κ, tt) (x, (i, (n, tt))) ws)) (fact 𝓤 (r ≡ getD (x .now) i n)))
 
 module _ {M : Type 1} (𝓤 : URA M) (H : Heap 𝓤) (A : Atoms 𝓤) (W : Given 𝓤 H A) (at-mem : Memory → SProp 𝓤) (run : Routine → Fun 𝓤) where
-  abbrev to-none : NoCore 𝓤 H A at-mem run .Ghost
+  abbrev to-none : NoRecord 𝓤 H A at-mem run .Ghost
   to-none = ((tt, tt, tt, tt, tt), tt)
 
-  goes-none : ent 𝓤 (emp 𝓤) (NoCore 𝓤 H A at-mem run .pre to-none)
+  goes-none : ent 𝓤 (emp 𝓤) (NoRecord 𝓤 H A at-mem run .pre to-none)
   goes-none = qed W [] ∵ nothing ! $ nothing ! $ join ! $ frame ! $ done !
 
   pub typed : (c : CoreRecord) (v : Val) → Is R c (v ∷ []) → Holds (hasTy T′.mir v) × WT v
   typed c v is = LL.lawful T.the-type T′.the-laws 𝓤 H A W .typed c (v ∷ []) is .0
 
-  module _ (C : Calls 𝓤 H) (Λ : Loops 𝓤 H) (fm : FmC 𝓤 H (W .laws) C) (known : Triple 𝓤 (C #snapshot·no-core) (NoCore 𝓤 H A at-mem run)) where
+  module _ (C : Calls 𝓤 H) (Λ : Loops 𝓤 H) (fm : FmC 𝓤 H (W .laws) C) (known : Triple 𝓤 (C #snapshot·no-record) (NoRecord 𝓤 H A at-mem run)) where
     pub begins : {Γ : List (Item 𝓤)} {E : Env 𝓤 H} {d : Place} {rest : Body} {p : Kit.Post 𝓤 H}
-        → ((n : CoreRecord) (u : Val) → n ≡ noRecord → Is R n (u ∷ []) → Sq W Γ (lands C Λ E d u rest p)) → Sq W Γ (runs C Λ E (seq (call #snapshot·no-core [] d) rest) p)
+        → ((n : CoreRecord) (u : Val) → n ≡ noRecord → Is R n (u ∷ []) → Sq W Γ (lands C Λ E d u rest p)) → Sq W Γ (runs C Λ E (seq (call #snapshot·no-record [] d) rest) p)
     begins k =
-        use0 W (raw (NoCore 𝓤 H A at-mem run .pre to-none)) goes-none $
-        calls-at ! fm (NoCore 𝓤 H A at-mem run) known to-none (no-more !) (λ u.
-        use1 W (later (some (λ (r : CoreRecord). (‵ ftrue ⊛ ‵ (R .own r (u ∷ []))) ⊛ raw (ensured 𝓤 H A no-core.ended (no-core.clauses 𝓤 H A at-mem run) tt tt tt r)))) (id⊢ 𝓤 _) $ await ! tt $ pick ! (λ n.
+        use0 W (raw (NoRecord 𝓤 H A at-mem run .pre to-none)) goes-none $
+        calls-at ! fm (NoRecord 𝓤 H A at-mem run) known to-none (no-more !) (λ u.
+        use1 W (later (some (λ (r : CoreRecord). (‵ ftrue ⊛ ‵ (R .own r (u ∷ []))) ⊛ raw (ensured 𝓤 H A no-record.ended (no-record.clauses 𝓤 H A at-mem run) tt tt tt r)))) (id⊢ 𝓤 _) $ await ! tt $ pick ! (λ n.
         split ! $ move ! (1 ∷ []) $ use1 W (raw (fact 𝓤 (n ≡ noRecord))) (none-of 𝓤 H A at-mem run n) $ heard ! (n ≡ noRecord) (λ en.
         split ! $ drop ! $ peeks ! R (Is R) (shows 𝓤 H A R) n (u ∷ []) (λ n-is. drop ! $ k n u en n-is))))
 

@@ -1,4 +1,4 @@
--- What the walks of the calls on a lent table share: the contracts of `load` and `save`, what whoever holds an answer knows of its fields, and their
+-- What the walks of the calls on a lent table share: the contracts of `load_table` and `save`, what whoever holds an answer knows of its fields, and their
 -- last step, the call of `save`. Assumes nothing.
 use mathlib.Core.Path.{_≡_, subst}
 use Prim.Native.Nat.{ℕ}
@@ -40,7 +40,7 @@ use Rattle.snapshot.proofs.CoreRecord as T
 use Rattle.snapshot.proofs.After as N
 use Rattle.snapshot.proofs.After.Laws as N′
 use Rattle.rikzord.proofs.Laws.{WrittenBack}
-use Rattle.rikzord.proofs.load as load′
+use Rattle.rikzord.proofs.load_table as load′
 use Rattle.rikzord.proofs.save as save
 use Rattle.rikzord.proofs.save.Symbol.{name as #rikzord·save}
 
@@ -61,7 +61,7 @@ module _ {M : Type 1} (𝓤 : URA M) (H : Heap 𝓤) (A : Atoms 𝓤) (at-mem : 
   abbrev pub Save : Contract 𝓤
   Save = tripleOf 𝓤 H A save.signature (save.spec 𝓤 H A at-mem run)
 
-  -- of what `load` ensures, the clause alone: it has no last value
+  -- of what `load_table` ensures, the clause alone: it has no last value
   pub load-of : (κ : Lft) (x : RefT (List CoreRecord)) (r : Table) → ent 𝓤 (ensured 𝓤 H A load′.ended (load′.clauses 𝓤 H A at-mem run) (κ, tt) (x, tt) tt r) (fact 𝓤 (r ≡ loaded (x .now)))
   load-of κ x r = exE 𝓤 _ (λ ws. snd∗ 𝓤 (sem 𝓤 H A (lasts load′.ended (κ, tt) (x, tt) ws)) (fact 𝓤 (r ≡ loaded (x .now))))
 

@@ -50,15 +50,15 @@ fn put_or(t: &mut [CoreRecord], i: usize, c: CoreRecord)
 }
 
 // The table copied out.
-fn load(t: &[CoreRecord]) -> Table
+fn load_table(t: &[CoreRecord]) -> Table
     ensures { λ r. ⌜ r ≡ loaded (now (t .entry)) ⌝ }
 {
-    let none = snapshot::no_core();
+    let none = snapshot::no_record();
     let a = get_or(t, 0, none);
     let b = get_or(t, 1, none);
     let c = get_or(t, 2, none);
     let d = get_or(t, 3, none);
-    snapshot::table_of(a, b, c, d, t.len())
+    snapshot::table_from(a, b, c, d, t.len())
 }
 
 // The scan round the ring: of the lent table's records, from the one after the given core to that core's own, the first whose core can move;
@@ -66,7 +66,7 @@ fn load(t: &[CoreRecord]) -> Table
 fn scan(t: &[CoreRecord], r: Ring) -> u8
     ensures { λ x. ⌜ x ≡ scanned (now (t .entry)) r ⌝ }
 {
-    let none = snapshot::no_core();
+    let none = snapshot::no_record();
     let mut i: u8 = 0;
     while i < r.cores {
         let k = snapshot::place_after(r, i);
@@ -110,7 +110,7 @@ pub extern "C" fn rikzord_step(
 ) -> u8
     ensures { λ r. ⌜ lent r (now (table .exit)) (now (semaphore .exit)) (now (buffer .exit)) (now (shared .exit)) [] ≡ stepLent (now (file .entry)) (now (trace .entry)) (now (table .entry)) (now (semaphore .entry)) (now (buffer .entry)) (now (shared .entry)) core ⌝ }
 {
-    let t = load(table);
+    let t = load_table(table);
     let x = snapshot::step_table(file, trace, t, *semaphore, buffer, shared, core);
     save(table, semaphore, x)
 }
@@ -130,7 +130,7 @@ pub extern "C" fn rikzord_run(
 ) -> u8
     ensures { λ r. ⌜ (lent r (now (table .exit)) (now (semaphore .exit)) (now (buffer .exit)) (now (shared .exit)) (now (list .exit)) ≡ runLent (now (file .entry)) (now (trace .entry)) (now (table .entry)) (now (semaphore .entry)) (now (buffer .entry)) (now (shared .entry)) (now (order .entry)) (now (list .entry))) × (now (taken .exit) ≡ takenLent (now (file .entry)) (now (trace .entry)) (now (table .entry)) (now (semaphore .entry)) (now (buffer .entry)) (now (shared .entry)) (now (order .entry)) (now (list .entry)) (now (taken .entry))) ⌝ }
 {
-    let t = load(table);
+    let t = load_table(table);
     let x = snapshot::run_table(
         file,
         trace,
@@ -156,7 +156,7 @@ pub extern "C" fn rikzord_fresh(
 ) -> u8
     ensures { λ r. ⌜ lent r (now (table .exit)) (now (semaphore .exit)) (now (buffer .exit)) (now (shared .exit)) [] ≡ freshLent (now (file .entry)) (now (table .entry)) (now (semaphore .entry)) (now (buffer .entry)) (now (shared .entry)) ⌝ }
 {
-    let t = load(table);
+    let t = load_table(table);
     let x = snapshot::fresh_table(file, t, *semaphore, buffer, shared);
     save(table, semaphore, x)
 }
@@ -172,7 +172,7 @@ pub extern "C" fn rikzord_fresh_small(
 ) -> u8
     ensures { λ r. ⌜ lent r (now (table .exit)) (now (semaphore .exit)) (now (buffer .exit)) (now (shared .exit)) [] ≡ freshLentFor Small (now (file .entry)) (now (table .entry)) (now (semaphore .entry)) (now (buffer .entry)) (now (shared .entry)) ⌝ }
 {
-    let t = load(table);
+    let t = load_table(table);
     let x = snapshot::fresh_small_table(file, t, *semaphore, buffer, shared);
     save(table, semaphore, x)
 }
@@ -190,7 +190,7 @@ pub extern "C" fn rikzord_rerun(
 ) -> u8
     ensures { λ r. ⌜ lent r (now (table .exit)) (now (semaphore .exit)) (now (buffer .exit)) (now (shared .exit)) [] ≡ rerunLent (now (file .entry)) (now (trace .entry)) (now (list .entry)) (now (table .entry)) (now (semaphore .entry)) (now (buffer .entry)) (now (shared .entry)) ⌝ }
 {
-    let t = load(table);
+    let t = load_table(table);
     let x = snapshot::rerun_table(file, trace, list, t, *semaphore, buffer, shared);
     save(table, semaphore, x)
 }
@@ -207,7 +207,7 @@ pub extern "C" fn rikzord_next_core(
 ) -> u8
     ensures { λ r. ⌜ answered r (now (found .exit)) ≡ nextLent (now (file .entry)) (now (trace .entry)) (now (table .entry)) (now (semaphore .entry)) given (now (found .entry)) ⌝ }
 {
-    let t = load(table);
+    let t = load_table(table);
     let ring = snapshot::ring_of(file, trace, t, *semaphore, given);
     let k = scan(table, ring);
     snapshot::found_in(ring, k, found)

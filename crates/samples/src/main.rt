@@ -220,7 +220,7 @@ fn fresh_says(setting: &[u8], line: &[u8], file: &[u8]) -> u8 {
     let r = machine::fresh(file, &mut data[..d], &mut shared[..s]);
     let unchanged = kept(&data) && kept(&shared);
     let fresh = state_in_words(setting, line, USUAL);
-    says(r, unchanged, machine::table_of(0, 0), fresh)
+    says(r, unchanged, machine::idle_table(0, 0), fresh)
 }
 
 fn run_says(setting: &[u8], line: &[u8], file: &[u8], trace: &[u8], order: &[u8]) -> u8 {

@@ -18,9 +18,9 @@ use semaphore::Semaphore;
 use states::Held;
 use table_state::accepted;
 use table_state::record_of;
-use table_state::refused;
 use table_state::registers_in;
 use table_state::state_of;
+use table_state::unchanged;
 
 // A record of the core table: a core's registers and call stack, in 84 bytes of which each belongs to a field, so that what a call says of the
 // fields it says of every byte. Spare bytes are never judged, and a record that a call writes has zeros there.
@@ -74,7 +74,7 @@ pub fn step_table(
     let s = state_of(t, semaphore);
     let stepped = machine::step(file, trace, s, buffer, shared, core);
     if stepped.refusal != 0 {
-        return refused(t, semaphore, stepped.refusal);
+        return unchanged(t, semaphore, stepped.refusal);
     }
     accepted(t, stepped.state)
 }
@@ -95,7 +95,7 @@ pub fn run_table(
     let s = state_of(t, semaphore);
     let ran = machine::run(file, trace, s, buffer, shared, order, list);
     if ran.refusal != 0 {
-        return refused(t, semaphore, ran.refusal);
+        return unchanged(t, semaphore, ran.refusal);
     }
     *taken = ran.taken;
     accepted(t, ran.state)
@@ -113,11 +113,11 @@ fn fresh_table_for(
     ensures { λ r. ⌜ tableLeft r (now (buffer .exit)) (now (shared .exit)) [] ≡ freshTableFor profile (now (file .entry)) t semaphore (now (buffer .entry)) (now (shared .entry)) ⌝ }
 {
     if t.count < memory::byte_at(file, 4) {
-        return refused(t, semaphore, short_refusal(profile, file));
+        return unchanged(t, semaphore, short_refusal(profile, file));
     }
     let made = machine::fresh_for(profile, file, buffer, shared);
     if made.refusal != 0 {
-        return refused(t, semaphore, made.refusal);
+        return unchanged(t, semaphore, made.refusal);
     }
     accepted(t, made.state)
 }
@@ -161,11 +161,11 @@ pub fn rerun_table(
     ensures { λ r. ⌜ tableLeft r (now (buffer .exit)) (now (shared .exit)) [] ≡ rerunTable (now (file .entry)) (now (trace .entry)) (now (list .entry)) t semaphore (now (buffer .entry)) (now (shared .entry)) ⌝ }
 {
     if t.count < memory::byte_at(file, 4) {
-        return refused(t, semaphore, short_refusal(Profile::Full, file));
+        return unchanged(t, semaphore, short_refusal(Profile::Full, file));
     }
     let reran = rerun::rerun(file, trace, list, buffer, shared);
     if reran.refusal != 0 {
-        return refused(t, semaphore, reran.refusal);
+        return unchanged(t, semaphore, reran.refusal);
     }
     accepted(t, reran.state)
 }
@@ -197,7 +197,7 @@ pub fn ring_of(file: &[u8], trace: &[u8], t: Table, semaphore: Semaphore, given:
     ensures { λ r. ⌜ r ≡ ringOf (now (file .entry)) (now (trace .entry)) t semaphore given ⌝ }
 {
     let s = state_of(t, semaphore);
-    let loaded = taskset::load(file);
+    let loaded = taskset::load_file(file);
     if loaded.refusal != 0 {
         return no_ring(loaded.refusal, given, semaphore);
     }
@@ -347,7 +347,7 @@ pub fn step_with(
 // ---- a table from its records
 
 // A record of zeros.
-pub fn no_core() -> CoreRecord
+pub fn no_record() -> CoreRecord
     ensures { λ r. ⌜ r ≡ noRecord ⌝ }
 {
     let registers = Registers {
@@ -367,7 +367,7 @@ pub fn no_core() -> CoreRecord
 }
 
 // How many records a table has, in one byte.
-fn count_of(n: usize) -> u8
+fn table_count(n: usize) -> u8
     ensures { λ r. ⌜ r ≡ counted n ⌝ }
 {
     if n < 255 {
@@ -376,10 +376,10 @@ fn count_of(n: usize) -> u8
     255
 }
 
-pub fn table_of(a: CoreRecord, b: CoreRecord, c: CoreRecord, d: CoreRecord, n: usize) -> Table
+pub fn table_from(a: CoreRecord, b: CoreRecord, c: CoreRecord, d: CoreRecord, n: usize) -> Table
     ensures { λ r. ⌜ r ≡ tableFrom a b c d n ⌝ }
 {
-    let count = count_of(n);
+    let count = table_count(n);
     let cores = [a, b, c, d];
     Table { count, cores }
 }

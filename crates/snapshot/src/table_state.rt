@@ -53,7 +53,7 @@ pub fn record_of(r: Registers, places: [u16; 16], offsets: [u16; 16]) -> CoreRec
 }
 
 // Copies n entries from src[from..] to dst[to..].
-fn copy(dst: &mut [u16], to: usize, src: &[u16], from: usize, n: usize)
+fn copy_entries(dst: &mut [u16], to: usize, src: &[u16], from: usize, n: usize)
     requires { ⌜ (to + n ≤ length (now dst)) × (from + n ≤ length (now src)) ⌝ }
     ensures { λ _. ⌜ now (dst .exit) ≡ splice (now (dst .entry)) to (part (now (src .entry)) from n) ⌝ }
 {
@@ -69,10 +69,10 @@ fn join(a: [u16; 16], b: [u16; 16], c: [u16; 16], d: [u16; 16]) -> [u16; 64]
     ensures { λ r. ⌜ r ≡ entries a b c d ⌝ }
 {
     let mut all = [0u16; 64];
-    copy(&mut all, 0, &a, 0, 16);
-    copy(&mut all, 16, &b, 0, 16);
-    copy(&mut all, 32, &c, 0, 16);
-    copy(&mut all, 48, &d, 0, 16);
+    copy_entries(&mut all, 0, &a, 0, 16);
+    copy_entries(&mut all, 16, &b, 0, 16);
+    copy_entries(&mut all, 32, &c, 0, 16);
+    copy_entries(&mut all, 48, &d, 0, 16);
     all
 }
 
@@ -82,12 +82,12 @@ fn stack_of(all: [u16; 64], k: usize) -> [u16; 16]
     ensures { λ r. ⌜ r ≡ part all (16 * k) 16 ⌝ }
 {
     let mut stack = [0u16; 16];
-    copy(&mut stack, 0, &all, 16 * k, 16);
+    copy_entries(&mut stack, 0, &all, 16 * k, 16);
     stack
 }
 
 // The return places of a table's four cores.
-fn places_of(t: Table) -> [u16; 64]
+fn table_places(t: Table) -> [u16; 64]
     ensures { λ r. ⌜ r ≡ heldPlaces t ⌝ }
 {
     let a = t.cores[0];
@@ -102,7 +102,7 @@ fn places_of(t: Table) -> [u16; 64]
 }
 
 // The data offsets that go with them.
-fn offsets_of(t: Table) -> [u16; 64]
+fn table_offsets(t: Table) -> [u16; 64]
     ensures { λ r. ⌜ r ≡ heldOffsets t ⌝ }
 {
     let a = t.cores[0];
@@ -129,8 +129,8 @@ pub fn state_of(t: Table, semaphore: Semaphore) -> Held
     let rc = registers_in(c);
     let rd = registers_in(d);
     let cores = [ra, rb, rc, rd];
-    let places = places_of(t);
-    let offsets = offsets_of(t);
+    let places = table_places(t);
+    let offsets = table_offsets(t);
     Held {
         count: t.count,
         semaphore,
@@ -182,7 +182,7 @@ pub fn accepted(t: Table, s: Held) -> After
     }
 }
 
-pub fn refused(t: Table, semaphore: Semaphore, number: u8) -> After
+pub fn unchanged(t: Table, semaphore: Semaphore, number: u8) -> After
     ensures { λ x. ⌜ x ≡ refusedOf t semaphore number ⌝ }
 {
     let a = t.cores[0];

@@ -14,7 +14,7 @@ ghost use Rattle.taskset.specs.Trace.{blank, tracePlace, traceRefusal, c
 use code::Profile;
 use refusals::codes_refusal;
 use refusals::head_refusal;
-use refusals::variables_refusal;
+use refusals::variable_section_refusal;
 
 // ---- the refusal of a task set file
 
@@ -64,7 +64,7 @@ pub fn judge_file_for(profile: Profile, f: &[u8]) -> u8
     if h != 0 {
         return h;
     }
-    let v = variables_refusal(f);
+    let v = variable_section_refusal(f);
     if v != 0 {
         return v;
     }
@@ -196,7 +196,7 @@ fn no_layout() -> Layout
 }
 
 // The refusal number and an empty layout, or 0 and the layout.
-pub fn load_for(profile: Profile, f: &[u8]) -> Loaded
+pub fn load_file_for(profile: Profile, f: &[u8]) -> Loaded
     ensures { λ r. ⌜ r ≡ loadFor profile (now (f .entry)) ⌝ }
 {
     let r = judge_file_for(profile, f);
@@ -215,10 +215,10 @@ pub fn load_for(profile: Profile, f: &[u8]) -> Loaded
 }
 
 // Under the full profile.
-pub fn load(f: &[u8]) -> Loaded
+pub fn load_file(f: &[u8]) -> Loaded
     ensures { λ r. ⌜ r ≡ loadOf (now (f .entry)) ⌝ }
 {
-    load_for(Profile::Full, f)
+    load_file_for(Profile::Full, f)
 }
 
 // The sum of the data sizes, at most 4 times 4,096.

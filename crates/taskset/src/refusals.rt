@@ -44,7 +44,7 @@ pub fn head_refusal(profile: Profile, f: &[u8]) -> u8
 }
 
 // The number of variables, their records and their overlap.
-pub fn variables_refusal(f: &[u8]) -> u8
+pub fn variable_section_refusal(f: &[u8]) -> u8
     ensures { λ r. ⌜ r ≡ variablesRefusal (now (f .entry)) ⌝ }
 {
     let at = 5 + 6 * memory::byte_at(f, 4) as usize;

@@ -28,11 +28,6 @@ pub struct Found {
     pub to: usize,
 }
 
-// A data buffer of another size; no such core, or a stretch that leaves the core's memory.
-const LENT: u8 = 21;
-
-const OUTSIDE: u8 = 34;
-
 fn place_of(shown: Shown, file: &[u8], layout: Layout, k: usize) -> Place
     requires { ⌜ (layout ≡ layoutOf (now file)) × (k < 4) ⌝ }
     ensures { λ r. ⌜ r ≡ shownPlace shown (coreLayout (now (file .entry)) k) ⌝ }
@@ -50,7 +45,8 @@ fn place_of(shown: Shown, file: &[u8], layout: Layout, k: usize) -> Place
     }
 }
 
-fn refused(number: u8) -> Found
+// No stretch, and why.
+fn no_stretch(number: u8) -> Found
     ensures { λ r. ⌜ r ≡ record { refusal = number; from = 0; to = 0 } ⌝ }
 {
     Found {
@@ -71,24 +67,24 @@ pub fn find_window(
 ) -> Found
     ensures { λ r. ⌜ r ≡ windowFound (now (file .entry)) buffer shown core start count ⌝ }
 {
-    let loaded = taskset::load(file);
+    let loaded = taskset::load_file(file);
     if loaded.refusal != 0 {
-        return refused(loaded.refusal);
+        return no_stretch(loaded.refusal);
     }
     let layout = loaded.layout;
     if buffer != taskset::sum_of_sizes(file, layout) {
-        return refused(LENT);
+        return no_stretch(verdict::BAD_LENGTHS);
     }
     let k = core as usize;
     if layout.cores <= k {
-        return refused(OUTSIDE);
+        return no_stretch(verdict::OUTSIDE_WINDOW);
     }
     let place = place_of(shown, file, layout, k);
     if place.size < start {
-        return refused(OUTSIDE);
+        return no_stretch(verdict::OUTSIDE_WINDOW);
     }
     if place.size - start < count {
-        return refused(OUTSIDE);
+        return no_stretch(verdict::OUTSIDE_WINDOW);
     }
     let from = place.base + start;
     Found {

@@ -6,8 +6,8 @@ use Rattle.bounds.proofs.Answer.{refused-file}
 use Rattle.bounds.proofs.takes.Statement.{statement}
 use Rattle.bounds.proofs.takes.Tie as tie
 
-load-requires : tie.Need-load-requires
-load-requires c κs = search needs
+load-file-requires : tie.Need-load-file-requires
+load-file-requires c κs = search needs
 
 none-requires : tie.Need-none-requires
 none-requires c κs = search needs
@@ -16,16 +16,16 @@ returns : tie.Need-returns
 returns c =
     let load = c .before .before .before in
     let file = load .before .before .args .file .now in
-    c .none .ensures ∙ refused-file file _ (file-judged file _ (load .load .ensures)) (c .before .if1 .taken)
+    c .none .ensures ∙ refused-file file _ (file-judged file _ (load .load-file .ensures)) (c .before .if1 .taken)
 
 takes-in-requires : tie.Need-takes-in-requires
 takes-in-requires c κs =
     let load = c .before .before in
     let file = load .before .before .args .file .now in
-    (file-accepted file _ (load .load .ensures) (c .if1 .left), file-laid file _ (load .load .ensures) (c .if1 .left))
+    (file-accepted file _ (load .load-file .ensures) (c .if1 .left), file-laid file _ (load .load-file .ensures) (c .if1 .left))
 
 returns-2 : tie.Need-returns-2
 returns-2 c = c .takes-in .ensures
 
 pub takes-spec : {M : Type 1} → statement M
-takes-spec = tie.close (tie.spec load-requires none-requires returns takes-in-requires returns-2)
+takes-spec = tie.close (tie.spec load-file-requires none-requires returns takes-in-requires returns-2)

@@ -21,8 +21,8 @@ returns c =
     let a = c .before .before .before .before .before .before .before .before .before .before .args in
     written (a .out .now) (long-text (a .file .now) (a .trace .now) (a .order .now) (sym (c .before .before .before .before .before .too-long .ensures) ∙ c .before .before .before .before .if1 .taken)) (c .before .before .write-long .ensures)
 
-load-requires : tie.Need-load-requires
-load-requires c κs = search needs
+load-file-requires : tie.Need-load-file-requires
+load-file-requires c κs = search needs
 
 write-refused-requires : tie.Need-write-refused-requires
 write-refused-requires c κs = search needs
@@ -39,12 +39,12 @@ returns-2 c =
     let too-long = if1 .before in
     let start = too-long .before .before .before .before .before in
     let a = start .args in
-    let refused = file-refused (a .file .now) (a .trace .now) (a .order .now) _ (file-judged (a .file .now) _ (load .load .ensures)) (if2 .if2 .taken) in
+    let refused = file-refused (a .file .now) (a .trace .now) (a .order .now) _ (file-judged (a .file .now) _ (load .load-file .ensures)) (if2 .if2 .taken) in
     written (a .out .now) (refused ∙ short-text (a .file .now) (a .trace .now) (a .order .now) (sym (too-long .too-long .ensures) ∙ if1 .if1 .left))
     (write-refused .write-refused .ensures)
 
 sum-of-sizes-requires : tie.Need-sum-of-sizes-requires
-sum-of-sizes-requires c κs = (file-accepted _ _ (c .before .before .before .load .ensures) (c .before .if2 .left), file-laid _ _ (c .before .before .before .load .ensures) (c .before .if2 .left))
+sum-of-sizes-requires c κs = (file-accepted _ _ (c .before .before .before .load-file .ensures) (c .before .if2 .left), file-laid _ _ (c .before .before .before .load-file .ensures) (c .before .if2 .left))
 
 array-borrow-prefix-buffer : tie.Need-array-borrow-prefix-buffer
 array-borrow-prefix-buffer c = search needs
@@ -66,8 +66,8 @@ write-run-requires c κs =
     let if1 = load .before in
     let file = if1 .before .before .before .before .before .before .args .file .now in (
       record {
-        accepted = file-accepted file _ (load .load .ensures) (if2 .if2 .left);
-        laid = file-laid file _ (load .load .ensures) (if2 .if2 .left);
+        accepted = file-accepted file _ (load .load-file .ensures) (if2 .if2 .left);
+        laid = file-laid file _ (load .load-file .ensures) (if2 .if2 .left);
         fits = zeros-fit file _ (size .sum-of-sizes .ensures .0) (size .sum-of-sizes .ensures .1);
       },
       short-order _ _ _ (sym (if1 .before .too-long .ensures) ∙ if1 .if1 .left),
@@ -94,7 +94,7 @@ output-spec =
     write-long-requires
     same-length
     returns
-    load-requires
+    load-file-requires
     write-refused-requires
     same-length-2
     returns-2

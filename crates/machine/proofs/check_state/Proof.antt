@@ -6,20 +6,20 @@ use borrow.Author.Needs.{needs}
 use Rattle.machine.proofs.check_state.Statement.{statement}
 use Rattle.machine.proofs.check_state.Tie as tie
 
-load-requires : tie.Need-load-requires
-load-requires c κs = search needs
+load-file-requires : tie.Need-load-file-requires
+load-file-requires c κs = search needs
 
 slice-aggregate-judge-call : tie.Need-slice-aggregate-judge-call
 slice-aggregate-judge-call c = search needs
 
 judge-call-requires : tie.Need-judge-call-requires
-judge-call-requires c κs = λ z. (file-accepted _ _ (c .before .load .ensures) z, file-laid _ _ (c .before .load .ensures) z)
+judge-call-requires c κs = λ z. (file-accepted _ _ (c .before .load-file .ensures) z, file-laid _ _ (c .before .load-file .ensures) z)
 
 returns : tie.Need-returns
 returns c =
     let a = c .before .before .before .before .before .args in
-    c .judge-call .ensures .number ∙ set-number (a .file .now) (a .trace .now) (a .s) _ (c .before .before .load .ensures)
+    c .judge-call .ensures .number ∙ set-number (a .file .now) (a .trace .now) (a .s) _ (c .before .before .load-file .ensures)
 
 pub check-state-spec : {M : Type 1} → statement M
 check-state-spec =
-    tie.close (tie.spec load-requires slice-aggregate-judge-call judge-call-requires returns)
+    tie.close (tie.spec load-file-requires slice-aggregate-judge-call judge-call-requires returns)

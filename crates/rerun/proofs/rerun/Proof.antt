@@ -12,21 +12,21 @@ use Rattle.rerun.proofs.rerun.Tie as tie
 load-lent-requires : tie.Need-load-lent-requires
 load-lent-requires c κs = search needs
 
-refused-requires : tie.Need-refused-requires
-refused-requires c κs = search needs
+without-table-requires : tie.Need-without-table-requires
+without-table-requires c κs = search needs
 
 returns : tie.Need-returns
 returns c =
     let a = c .before .before .before .before .before .before .before .before .before .args in
     rerun-refused (a .file .now) (a .trace .now) (a .list .now) (a .buffer .now) (a .shared .now) _
     (refused-loaded (a .file .now) (a .trace .now) (a .list .now) (a .buffer .now) (a .shared .now) (fresh-number Full (a .file .now) (a .buffer .now) (a .shared .now) _ (c .before .before .before .load-lent .ensures)) (c .before .if1 .taken))
-    (c .before .if1 .taken) (c .refused .ensures)
+    (c .before .if1 .taken) (c .without-table .ensures)
 
 load-trace-requires : tie.Need-load-trace-requires
 load-trace-requires c κs = search needs
 
-refused-requires-2 : tie.Need-refused-requires-2
-refused-requires-2 c κs = search needs
+without-table-requires-2 : tie.Need-without-table-requires-2
+without-table-requires-2 c κs = search needs
 
 returns-2 : tie.Need-returns-2
 returns-2 c =
@@ -34,7 +34,7 @@ returns-2 c =
     let lent = lent-to Full (a .file .now) (a .buffer .now) (a .shared .now) _ _ (c .before .before .before .before .before .before .before .load-lent .ensures) (c .before .before .before .before .before .if1 .left) in
     rerun-refused (a .file .now) (a .trace .now) (a .list .now) (a .buffer .now) (a .shared .now) _
     (refused-trace (a .file .now) (a .trace .now) (a .list .now) (a .buffer .now) (a .shared .now) (lent .accepted) (lent .fits) (trace-judged (a .file .now) (a .trace .now) _ (c .before .before .before .load-trace .ensures)) (c .before .if2 .taken))
-    (c .before .if2 .taken) (c .refused2 .ensures)
+    (c .before .if2 .taken) (c .without-table2 .ensures)
 
 core-tasks-requires : tie.Need-core-tasks-requires
 core-tasks-requires c κs =
@@ -89,10 +89,10 @@ rerun-spec =
     tie.close
     (tie.spec
     load-lent-requires
-    refused-requires
+    without-table-requires
     returns
     load-trace-requires
-    refused-requires-2
+    without-table-requires-2
     returns-2
     core-tasks-requires
     rerun-judged-requires

@@ -64,8 +64,8 @@ cast-b c = omega (arith, c .before .before .before .before .before .before .befo
 named-core-requires : tie.Need-named-core-requires Inv-loop μ-loop
 named-core-requires c κs = search needs
 
-refused-requires : tie.Need-refused-requires Inv-loop μ-loop
-refused-requires c κs = search needs
+without-table-requires : tie.Need-without-table-requires Inv-loop μ-loop
+without-table-requires c κs = search needs
 
 same-length : tie.Need-same-length Inv-loop μ-loop
 same-length c =
@@ -88,7 +88,7 @@ returns c =
     let loop-test = named-core .before .before in
     let loop = loop-test .before in
     let start = loop .before .before .before .before .before .before .before .before .before .before .before .before .before .before .before .before .before .before in
-    reran-none _ _ _ _ _ _ (c .refused .ensures)
+    reran-none _ _ _ _ _ _ (c .without-table .ensures)
     (no-core (start .pre .accepted) (loop .loop .inv) (loop-test .loop-test .taken) _ refl (named-core .named-core .result)
     (named-core .named-core .ensures) (omega (arith, if1 .if1 .taken, cores-are (start .pre .accepted) (start .pre .laid))))
 
@@ -117,8 +117,8 @@ element-copy-out-is-due c =
 is-due-requires : tie.Need-is-due-requires Inv-loop μ-loop
 is-due-requires c κs = search needs
 
-refused-requires-2 : tie.Need-refused-requires-2 Inv-loop μ-loop
-refused-requires-2 c κs = search needs
+without-table-requires-2 : tie.Need-without-table-requires-2 Inv-loop μ-loop
+without-table-requires-2 c κs = search needs
 
 same-length-3 : tie.Need-same-length-3 Inv-loop μ-loop
 same-length-3 c =
@@ -143,7 +143,7 @@ returns-2 c =
     let loop-test = named-core .before .before in
     let loop = loop-test .before in
     let start = loop .before .before .before .before .before .before .before .before .before .before .before .before .before .before .before .before .before .before in
-    reran-none _ _ _ _ _ _ (c .refused2 .ensures)
+    reran-none _ _ _ _ _ _ (c .without-table2 .ensures)
     (not-due (start .pre .accepted) (loop .loop .inv) (loop-test .loop-test .taken) _ refl (named-core .named-core .result)
     (named-core .named-core .ensures) (omega (arith, if1 .if1 .left, cores-are (start .pre .accepted) (start .pre .laid))) _
     (tasks-at _ _ (start .pre .accepted) _ (start .pre .tasked) _ (omega (arith, if1 .if1 .left, cores-are (start .pre .accepted) (start .pre .laid))))
@@ -272,7 +272,7 @@ rerun-in-spec =
     shared-slice-read-b
     cast-b
     named-core-requires
-    refused-requires
+    without-table-requires
     same-length
     same-length-2
     returns
@@ -281,7 +281,7 @@ rerun-in-spec =
     mul-is-due-2
     element-copy-out-is-due
     is-due-requires
-    refused-requires-2
+    without-table-requires-2
     same-length-3
     same-length-4
     returns-2

@@ -1,4 +1,4 @@
--- `rikzord::rikzord_next_core` meets its contract: a walk of its MIR, by hand. The table is copied out by `load` for the judging, which `ring_of` does on
+-- `rikzord::rikzord_next_core` meets its contract: a walk of its MIR, by hand. The table is copied out by `load_table` for the judging, which `ring_of` does on
 -- the copy; then `scan` goes round the ring over the lent table itself, and `found_in` stores the answer. No branch, no element: those are theirs.
 -- The semaphore's borrow is looked into for the copy that `ring_of` is given, and shut again.
 -- Assumes nothing.
@@ -50,10 +50,10 @@ use Rattle.rikzord.proofs.Lending.{R, mach-semaphore, Load, load-of}
 use Rattle.rikzord.proofs.Scanning.{next-lent}
 use Rattle.snapshot.proofs.Table as F
 use Rattle.snapshot.proofs.Table.Laws as F′
-use Rattle.rikzord.proofs.load as load′
-use Rattle.rikzord.proofs.load.Symbol as load-def
-use Rattle.rikzord.proofs.load.Symbol.{name as #rikzord·load}
-use Rattle.rikzord.proofs.load.Met as load-thm
+use Rattle.rikzord.proofs.load_table as load′
+use Rattle.rikzord.proofs.load_table.Symbol as load-def
+use Rattle.rikzord.proofs.load_table.Symbol.{name as #rikzord·load-table}
+use Rattle.rikzord.proofs.load_table.Met as load-thm
 use Rattle.snapshot.specs.declared.Ring.{Ring}
 use Rattle.snapshot.proofs.Ring as Q
 use Rattle.snapshot.proofs.Ring.Laws as Q′
@@ -78,7 +78,7 @@ abbrev stayed : Stays (f.ended .signature .params) (f.ended .kept)
 stayed = (stay-none-slice (0 ∷ []) tt (plain (λ _. u8)) yes, (stay-none-slice (1 ∷ []) tt (plain (λ _. u8)) yes, (stay-none-slice (2 ∷ []) tt (plain (λ _. R)) yes, (stay-none-ref (3 ∷ []) tt (plain (λ _. P.the-row)) yes, (stay-none (λ _. u8) yes, (gave-ref (4 ∷ []) tt (plain (λ _. u8)), tt))))))
 
 module _ {M : Type 1} (𝓤 : URA M) (H : Heap 𝓤) (A : Atoms 𝓤) (at-mem : Memory → SProp 𝓤) (run : Routine → Fun 𝓤) where
-  -- the contracts that the proof cites beside that of `load`
+  -- the contracts that the proof cites beside that of `load_table`
   abbrev RingOf : Contract 𝓤
   RingOf = tripleOf 𝓤 H A ring-of.signature (ring-of.spec 𝓤 H A at-mem run)
 
@@ -218,7 +218,7 @@ module _ {M : Type 1} (𝓤 : URA M) (H : Heap 𝓤) (A : Atoms 𝓤) (W : Given
   abbrev Says : Ring → ℕ → ℕ → ℕ → Type 0
   Says r k n found′ = answered n found′ ≡ ringAnswer r k found
 
-  module _ (C : Calls 𝓤 H) (Λ : Loops 𝓤 H) (fm : FmC 𝓤 H (W .laws) C) (known-load : Triple 𝓤 (C #rikzord·load) (Load 𝓤 H A at-mem run))
+  module _ (C : Calls 𝓤 H) (Λ : Loops 𝓤 H) (fm : FmC 𝓤 H (W .laws) C) (known-load : Triple 𝓤 (C #rikzord·load-table) (Load 𝓤 H A at-mem run))
       (known-ring : Triple 𝓤 (C #snapshot·ring-of) (RingOf 𝓤 H A at-mem run)) (known-scan : Triple 𝓤 (C #rikzord·scan) (Scan 𝓤 H A at-mem run))
       (known-found : Triple 𝓤 (C #snapshot·found-in) (FoundIn 𝓤 H A at-mem run)) where
     walk : ent 𝓤 (onEntry 𝓤 H A f.signature (κ₀, (κ₁, (κ₂, (κ₃, (κ₄, tt))))) (q₀, (q₁, (q₂, (q₃, (q₄, tt))))) a at) (WpFn 𝓤 H C Λ code.function (file-val ∷ trace-val ∷ table-val ∷ semaphore-val ∷ vint w8 given ∷ found-val ∷ []) Post)
@@ -236,9 +236,9 @@ module _ {M : Type 1} (𝓤 : URA M) (H : Heap 𝓤) (A : Atoms 𝓤) (W : Given
         move ! (10 ∷ []) $ use1 W (‵ trace-own ⊛ ‵ trace-own) (shr-slice-copy 𝓤 H A W (named 1) κ₁ u8 .twice trace-ref (trace-val ∷ [])) $ split ! $
         move ! (11 ∷ []) $ use1 W (‵ table-own ⊛ ‵ table-own) (shr-slice-copy 𝓤 H A W (named 2) κ₂ R .twice table-ref (table-val ∷ [])) $ split ! $
         use1 W (‵ table-own ⊛ ‵ table-own) (shr-slice-copy 𝓤 H A W (named 2) κ₂ R .twice table-ref (table-val ∷ [])) $ split ! $
-        -- `load`
+        -- `load_table`
         nothing ! $ move ! (10 ∷ 0 ∷ []) $ join ! $ use2 W (raw (Load 𝓤 H A at-mem run .pre to-load)) goes-load $
-        -- [what `load` asks; what table owns, twice; what trace owns, twice; what file owns, twice; found's token; semaphore's token; trace's token; file's token; what found owns; what semaphore owns; _11; …; down to _0]
+        -- [what `load_table` asks; what table owns, twice; what trace owns, twice; what file owns, twice; found's token; semaphore's token; trace's token; file's token; what found owns; what semaphore owns; _11; …; down to _0]
         calls-at ! fm (Load 𝓤 H A at-mem run) known-load to-load (and-then ! (load ! (from ! (stop !)) (look ! 29 refl)) (no-more !)) (λ v.
         use1 W (later (some (λ (t : Table). ((‵ (flft κ₂ q₂) ⊛ ‵ ftrue) ⊛ ‵ (F.the-row .own t (v ∷ []))) ⊛ raw (ensured 𝓤 H A load′.ended (load′.clauses 𝓤 H A at-mem run) (κ₂, tt) (table-ref, tt) tt t)))) (id⊢ 𝓤 _) $ await ! tt $ pick ! (λ t.
         split ! $ move ! (1 ∷ []) $ use1 W (raw (fact 𝓤 (t ≡ loaded table))) (load-of 𝓤 H A at-mem run κ₂ table-ref t) $ heard ! (t ≡ loaded table) (λ e₁.
@@ -297,7 +297,7 @@ module _ {M : Type 1} (𝓤 : URA M) (H : Heap 𝓤) (A : Atoms 𝓤) (W : Given
         keep ! (0 ∷ 5 ∷ 4 ∷ 3 ∷ 7 ∷ 6 ∷ 2 ∷ 1 ∷ []) $ by ! (exits n w (zs .1 .1 .0) (next-lent file trace table semaphore given found t r k n (zs .1 .1 .0) e₁ e₂ e₃ e₄)))))))))))))))))))))))))))))))))
 
 module _ {M : Type 1} (𝓤 : URA M) (H : Heap 𝓤) (A : Atoms 𝓤) (W : Given 𝓤 H A) (at-mem : Memory → SProp 𝓤) (run : Routine → Fun 𝓤) where
-  walks : (C : Calls 𝓤 H) (Λ : Loops 𝓤 H) → FmC 𝓤 H (W .laws) C → Triple 𝓤 (C #rikzord·load) (Load 𝓤 H A at-mem run)
+  walks : (C : Calls 𝓤 H) (Λ : Loops 𝓤 H) → FmC 𝓤 H (W .laws) C → Triple 𝓤 (C #rikzord·load-table) (Load 𝓤 H A at-mem run)
       → Triple 𝓤 (C #snapshot·ring-of) (RingOf 𝓤 H A at-mem run) → Triple 𝓤 (C #rikzord·scan) (Scan 𝓤 H A at-mem run)
       → Triple 𝓤 (C #snapshot·found-in) (FoundIn 𝓤 H A at-mem run) → Walks 𝓤 H A f.ended stayed (WpFn 𝓤 H C Λ code.function) (f.clauses 𝓤 H A at-mem run)
   walks C Λ fm k₁ k₂ k₃ k₄ = walked 𝓤 H A f.ended stayed (f.clauses 𝓤 H A at-mem run) (WpFn 𝓤 H C Λ code.function) (λ κs. (slice-vals, (slice-vals, (slice-vals, (ptr-vals, (uint-vals w8, (ptr-vals, tt)))))))
@@ -322,7 +322,7 @@ module _ {M : Type 1} (𝓤 : URA M) (H : Heap 𝓤) (A : Atoms 𝓤) (W : Given
   )
 
 meets : {M : Type 1} (𝓤 : URA M) (H : Heap 𝓤) (A : Atoms 𝓤) → Given 𝓤 H A → (at-mem : Memory → SProp 𝓤) (run : Routine → Fun 𝓤) (𝓣 : Tables 𝓤 H)
-    → Triple 𝓤 (𝓣 .C #rikzord·load) (Load 𝓤 H A at-mem run) → Triple 𝓤 (𝓣 .C #snapshot·ring-of) (RingOf 𝓤 H A at-mem run)
+    → Triple 𝓤 (𝓣 .C #rikzord·load-table) (Load 𝓤 H A at-mem run) → Triple 𝓤 (𝓣 .C #snapshot·ring-of) (RingOf 𝓤 H A at-mem run)
     → Triple 𝓤 (𝓣 .C #rikzord·scan) (Scan 𝓤 H A at-mem run) → Triple 𝓤 (𝓣 .C #snapshot·found-in) (FoundIn 𝓤 H A at-mem run)
     → Meets 𝓤 H A f.signature (WpFn 𝓤 H (𝓣 .C) (𝓣 .Λ) code.function) (f.spec 𝓤 H A at-mem run)
 meets 𝓤 H A W at-mem run 𝓣 k₁ k₂ k₃ k₄ = walk-meets 𝓤 H A f.ended stayed W (goes 𝓤 H A W at-mem run) (f.clauses 𝓤 H A at-mem run)
@@ -334,7 +334,7 @@ rikzord-next-core-spec 𝓤 H 𝓜 𝓖 𝓡 =
     entered 𝓤 H (tripleOf 𝓤 H (𝓖 .A) f.signature (f.spec 𝓤 H (𝓖 .A) (𝓜 .mem) (𝓡 .run)))
     (tables 𝓤 H 𝓜 𝓡 code.env .C) (tables 𝓤 H 𝓜 𝓡 code.env .Λ) #rikzord·rikzord-next-core code.function (code.unfolded 𝓤 H 𝓜 𝓡)
     (meets 𝓤 H (𝓖 .A) (givenOf 𝓤 H 𝓜 𝓖) (𝓜 .mem) (𝓡 .run) (tablesOf 𝓤 H 𝓜 (tables 𝓤 H 𝓜 𝓡 code.env))
-    (cited 𝓤 H (Load 𝓤 H (𝓖 .A) (𝓜 .mem) (𝓡 .run)) 𝓜 𝓡 code.env #rikzord·load load-def.routine code.calls-rikzord·load (load-thm.met 𝓤 H 𝓜 𝓖 𝓡))
+    (cited 𝓤 H (Load 𝓤 H (𝓖 .A) (𝓜 .mem) (𝓡 .run)) 𝓜 𝓡 code.env #rikzord·load-table load-def.routine code.calls-rikzord·load-table (load-thm.met 𝓤 H 𝓜 𝓖 𝓡))
     (cited 𝓤 H (RingOf 𝓤 H (𝓖 .A) (𝓜 .mem) (𝓡 .run)) 𝓜 𝓡 code.env #snapshot·ring-of ring-of-def.routine code.calls-snapshot·ring-of (ring-of-thm.met 𝓤 H 𝓜 𝓖 𝓡))
     (cited 𝓤 H (Scan 𝓤 H (𝓖 .A) (𝓜 .mem) (𝓡 .run)) 𝓜 𝓡 code.env #rikzord·scan scan-def.routine code.calls-rikzord·scan (scan-thm.met 𝓤 H 𝓜 𝓖 𝓡))
     (cited 𝓤 H (FoundIn 𝓤 H (𝓖 .A) (𝓜 .mem) (𝓡 .run)) 𝓜 𝓡 code.env #snapshot·found-in found-in-def.routine code.calls-snapshot·found-in (found-in-thm.met 𝓤 H 𝓜 𝓖 𝓡)))

@@ -54,14 +54,14 @@ use Rattle.snapshot.proofs.CoreRecord.Laws as T′
 use Rattle.snapshot.proofs.Ring as Q
 use Rattle.snapshot.proofs.Ring.Laws as Q′
 use Rattle.rikzord.proofs.Outcomes.{holds, fails}
-use Rattle.rikzord.proofs.Asking.{R, GetOr, NoCore, typed, from-none, begins, asks}
+use Rattle.rikzord.proofs.Asking.{R, GetOr, NoRecord, typed, from-none, begins, asks}
 use Rattle.rikzord.proofs.Scanning.{Turn, toGo, turn-first, turn-found, turn-next, turn-less, turn-last}
 use Rattle.rikzord.proofs.get_or.Symbol as get-or-def
 use Rattle.rikzord.proofs.get_or.Symbol.{name as #rikzord·get-or}
 use Rattle.rikzord.proofs.get_or.Met as get-or-thm
-use Rattle.snapshot.proofs.no_core.Symbol as no-core-def
-use Rattle.snapshot.proofs.no_core.Symbol.{name as #snapshot·no-core}
-use Rattle.snapshot.proofs.no_core.Met as no-core-thm
+use Rattle.snapshot.proofs.no_record.Symbol as no-record-def
+use Rattle.snapshot.proofs.no_record.Symbol.{name as #snapshot·no-record}
+use Rattle.snapshot.proofs.no_record.Met as no-record-thm
 use Rattle.snapshot.proofs.place_after as place-after
 use Rattle.snapshot.proofs.place_after.Symbol as place-after-def
 use Rattle.snapshot.proofs.place_after.Symbol.{name as #snapshot·place-after}
@@ -161,7 +161,7 @@ module _ {M : Type 1} (𝓤 : URA M) (H : Heap 𝓤) (A : Atoms 𝓤) (W : Given
   sooner-ends = record { apply = λ t. InvImage·accessible (λ (x : Turn ys r). toGo x) (Nat·lt-wfRel .wf .apply (toGo t)) }
 
   module _ (𝓣 : Tables 𝓤 H) (fm : FmC 𝓤 H (W .laws) (𝓣 .C)) (known-get : Triple 𝓤 (𝓣 .C #rikzord·get-or) (GetOr 𝓤 H A at-mem run))
-      (known-none : Triple 𝓤 (𝓣 .C #snapshot·no-core) (NoCore 𝓤 H A at-mem run)) (known-place : Triple 𝓤 (𝓣 .C #snapshot·place-after) (PlaceAfter 𝓤 H A at-mem run))
+      (known-none : Triple 𝓤 (𝓣 .C #snapshot·no-record) (NoRecord 𝓤 H A at-mem run)) (known-place : Triple 𝓤 (𝓣 .C #snapshot·place-after) (PlaceAfter 𝓤 H A at-mem run))
       (known-moves : Triple 𝓤 (𝓣 .C #snapshot·moves) (Moves 𝓤 H A at-mem run)) where
     -- the locals
     abbrev E : ℕ → ℕ → ℕ → ℕ → ℕ → ℕ → ℕ → ℕ → ℕ → ℕ → Env 𝓤 H
@@ -283,14 +283,14 @@ module _ {M : Type 1} (𝓤 : URA M) (H : Heap 𝓤) (A : Atoms 𝓤) (W : Given
 
 module _ {M : Type 1} (𝓤 : URA M) (H : Heap 𝓤) (A : Atoms 𝓤) (W : Given 𝓤 H A) (at-mem : Memory → SProp 𝓤) (run : Routine → Fun 𝓤) where
   walks : (𝓣 : Tables 𝓤 H) → FmC 𝓤 H (W .laws) (𝓣 .C) → Triple 𝓤 (𝓣 .C #rikzord·get-or) (GetOr 𝓤 H A at-mem run)
-      → Triple 𝓤 (𝓣 .C #snapshot·no-core) (NoCore 𝓤 H A at-mem run) → Triple 𝓤 (𝓣 .C #snapshot·place-after) (PlaceAfter 𝓤 H A at-mem run)
+      → Triple 𝓤 (𝓣 .C #snapshot·no-record) (NoRecord 𝓤 H A at-mem run) → Triple 𝓤 (𝓣 .C #snapshot·place-after) (PlaceAfter 𝓤 H A at-mem run)
       → Triple 𝓤 (𝓣 .C #snapshot·moves) (Moves 𝓤 H A at-mem run)
       → Walks 𝓤 H A f.ended stayed (WpFn 𝓤 H (𝓣 .C) (𝓣 .Λ) code.function) (f.clauses 𝓤 H A at-mem run)
   walks 𝓣 fm k₁ k₂ k₃ k₄ = walked 𝓤 H A f.ended stayed (f.clauses 𝓤 H A at-mem run) (WpFn 𝓤 H (𝓣 .C) (𝓣 .Λ) code.function) (λ κs. (slice-vals, (LL.vals Q.the-type Q′.the-laws, tt))) (λ κs. (shr-slice-tells (named 0) (κs .0) R, (LL.tells Q.the-type Q′.the-laws, tt)))
       (λ κs qs bounds a g are. via 𝓤 _ (fst∗ 𝓤 _ (emp 𝓤)) (walk 𝓤 H A W at-mem run (κs .0) (qs .0) (a .0 .ptr .0) (a .0 .ptr .1) (a .0 .name) (a .0 .now) (a .1 .0) (are .0 .0 .1) (are .1 .0) 𝓣 fm k₁ k₂ k₃ k₄))
 
 meets : {M : Type 1} (𝓤 : URA M) (H : Heap 𝓤) (A : Atoms 𝓤) → Given 𝓤 H A → (at-mem : Memory → SProp 𝓤) (run : Routine → Fun 𝓤) (𝓣 : Tables 𝓤 H)
-    → Triple 𝓤 (𝓣 .C #rikzord·get-or) (GetOr 𝓤 H A at-mem run) → Triple 𝓤 (𝓣 .C #snapshot·no-core) (NoCore 𝓤 H A at-mem run)
+    → Triple 𝓤 (𝓣 .C #rikzord·get-or) (GetOr 𝓤 H A at-mem run) → Triple 𝓤 (𝓣 .C #snapshot·no-record) (NoRecord 𝓤 H A at-mem run)
     → Triple 𝓤 (𝓣 .C #snapshot·place-after) (PlaceAfter 𝓤 H A at-mem run) → Triple 𝓤 (𝓣 .C #snapshot·moves) (Moves 𝓤 H A at-mem run)
     → Meets 𝓤 H A f.signature (WpFn 𝓤 H (𝓣 .C) (𝓣 .Λ) code.function) (f.spec 𝓤 H A at-mem run)
 meets 𝓤 H A W at-mem run 𝓣 k₁ k₂ k₃ k₄ = walk-meets 𝓤 H A f.ended stayed W (goes-none-slice 𝓤 H A W 1 (0 ∷ []) tt (plain (λ _. R)) yes, (goes-none 𝓤 H A W 1 (λ _. Q.the-row) yes (λ κs x f. refl), tt)) (f.clauses 𝓤 H A at-mem run)
@@ -303,6 +303,6 @@ scan-spec 𝓤 H 𝓜 𝓖 𝓡 =
     (tables 𝓤 H 𝓜 𝓡 code.env .C) (tables 𝓤 H 𝓜 𝓡 code.env .Λ) #rikzord·scan code.function (code.unfolded 𝓤 H 𝓜 𝓡)
     (meets 𝓤 H (𝓖 .A) (givenOf 𝓤 H 𝓜 𝓖) (𝓜 .mem) (𝓡 .run) (tablesOf 𝓤 H 𝓜 (tables 𝓤 H 𝓜 𝓡 code.env))
     (cited 𝓤 H (GetOr 𝓤 H (𝓖 .A) (𝓜 .mem) (𝓡 .run)) 𝓜 𝓡 code.env #rikzord·get-or get-or-def.routine code.calls-rikzord·get-or (get-or-thm.met 𝓤 H 𝓜 𝓖 𝓡))
-    (cited 𝓤 H (NoCore 𝓤 H (𝓖 .A) (𝓜 .mem) (𝓡 .run)) 𝓜 𝓡 code.env #snapshot·no-core no-core-def.routine code.calls-snapshot·no-core (no-core-thm.met 𝓤 H 𝓜 𝓖 𝓡))
+    (cited 𝓤 H (NoRecord 𝓤 H (𝓖 .A) (𝓜 .mem) (𝓡 .run)) 𝓜 𝓡 code.env #snapshot·no-record no-record-def.routine code.calls-snapshot·no-record (no-record-thm.met 𝓤 H 𝓜 𝓖 𝓡))
     (cited 𝓤 H (PlaceAfter 𝓤 H (𝓖 .A) (𝓜 .mem) (𝓡 .run)) 𝓜 𝓡 code.env #snapshot·place-after place-after-def.routine code.calls-snapshot·place-after (place-after-thm.met 𝓤 H 𝓜 𝓖 𝓡))
     (cited 𝓤 H (Moves 𝓤 H (𝓖 .A) (𝓜 .mem) (𝓡 .run)) 𝓜 𝓡 code.env #snapshot·moves moves-def.routine code.calls-snapshot·moves (moves-thm.met 𝓤 H 𝓜 𝓖 𝓡)))

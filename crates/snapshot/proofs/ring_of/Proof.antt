@@ -14,8 +14,8 @@ use Rattle.snapshot.proofs.ring_of.Tie as tie
 state-of-requires : tie.Need-state-of-requires
 state-of-requires c κs = search needs
 
-load-requires : tie.Need-load-requires
-load-requires c κs = search needs
+load-file-requires : tie.Need-load-file-requires
+load-file-requires c κs = search needs
 
 no-ring-requires : tie.Need-no-ring-requires
 no-ring-requires c κs = search needs
@@ -28,7 +28,7 @@ returns c =
     let s = loaded .before .state-of .result in
     let es = loaded .before .state-of .ensures in
     ring-refused (a .file .now) (a .trace .now) (a .t) (a .semaphore) (a .given) s es _ _
-    (next-file (a .file .now) (a .trace .now) s (a .given) (file-judged (a .file .now) _ (loaded .load .ensures)) (tested .if1 .taken)) (tested .if1 .taken) (c .no-ring .ensures)
+    (next-file (a .file .now) (a .trace .now) s (a .given) (file-judged (a .file .now) _ (loaded .load-file .ensures)) (tested .if1 .taken)) (tested .if1 .taken) (c .no-ring .ensures)
 
 prepare-requires : tie.Need-prepare-requires
 prepare-requires c κs =
@@ -37,7 +37,7 @@ prepare-requires c κs =
     let a = loaded .before .before .before .before .args in
     let s = loaded .before .state-of .result in
     let es = loaded .before .state-of .ensures in
-    (file-accepted (a .file .now) _ (loaded .load .ensures) (tested .if1 .left), file-laid (a .file .now) _ (loaded .load .ensures) (tested .if1 .left))
+    (file-accepted (a .file .now) _ (loaded .load-file .ensures) (tested .if1 .left), file-laid (a .file .now) _ (loaded .load-file .ensures) (tested .if1 .left))
 
 no-ring-requires-2 : tie.Need-no-ring-requires-2
 no-ring-requires-2 c κs = search needs
@@ -51,7 +51,7 @@ returns-2 c =
     let a = loaded .before .before .before .before .args in
     let s = loaded .before .state-of .result in
     let es = loaded .before .state-of .ensures in
-    let accepted = file-accepted (a .file .now) _ (loaded .load .ensures) (tested .if1 .left) in
+    let accepted = file-accepted (a .file .now) _ (loaded .load-file .ensures) (tested .if1 .left) in
     ring-refused (a .file .now) (a .trace .now) (a .t) (a .semaphore) (a .given) s es _ _
     (next-held (a .file .now) (a .trace .now) s (a .given) accepted (held-judged (a .file .now) (a .trace .now) s _ (held .prepare .ensures)) (passed .if2 .taken)) (passed .if2 .taken) (c .no-ring2 .ensures)
 
@@ -68,8 +68,8 @@ returns-3 c =
     let a = loaded .before .before .before .before .args in
     let s = loaded .before .state-of .result in
     let es = loaded .before .state-of .ensures in
-    let accepted = file-accepted (a .file .now) _ (loaded .load .ensures) (tested .if1 .left) in
-    let laid = ap (λ (l : Layout). l .cores) (file-laid (a .file .now) _ (loaded .load .ensures) (tested .if1 .left)) in
+    let accepted = file-accepted (a .file .now) _ (loaded .load-file .ensures) (tested .if1 .left) in
+    let laid = ap (λ (l : Layout). l .cores) (file-laid (a .file .now) _ (loaded .load-file .ensures) (tested .if1 .left)) in
     let fit = sym (held-judged (a .file .now) (a .trace .now) s _ (held .prepare .ensures)) ∙ passed .if2 .left in
     ring-refused (a .file .now) (a .trace .now) (a .t) (a .semaphore) (a .given) s es 20 _
     (next-named (a .file .now) (a .trace .now) s (a .given) accepted fit (omega (arith, laid, named .if3 .taken))) (λ e. absurd (omega arith)) (c .no-ring3 .ensures)
@@ -95,8 +95,8 @@ cast-t25 c =
     let a = loaded .before .before .before .before .args in
     let s = loaded .before .state-of .result in
     let es = loaded .before .state-of .ensures in
-    let accepted = file-accepted (a .file .now) _ (loaded .load .ensures) (tested .if1 .left) in
-    let laid = ap (λ (l : Layout). l .cores) (file-laid (a .file .now) _ (loaded .load .ensures) (tested .if1 .left)) in
+    let accepted = file-accepted (a .file .now) _ (loaded .load-file .ensures) (tested .if1 .left) in
+    let laid = ap (λ (l : Layout). l .cores) (file-laid (a .file .now) _ (loaded .load-file .ensures) (tested .if1 .left)) in
     omega (arith, laid, keeps-rules (a .file .now) accepted .most-cores)
 
 returns-4 : tie.Need-returns-4
@@ -109,8 +109,8 @@ returns-4 c =
     let a = loaded .before .before .before .before .args in
     let s = loaded .before .state-of .result in
     let es = loaded .before .state-of .ensures in
-    let accepted = file-accepted (a .file .now) _ (loaded .load .ensures) (tested .if1 .left) in
-    let laid = ap (λ (l : Layout). l .cores) (file-laid (a .file .now) _ (loaded .load .ensures) (tested .if1 .left)) in
+    let accepted = file-accepted (a .file .now) _ (loaded .load-file .ensures) (tested .if1 .left) in
+    let laid = ap (λ (l : Layout). l .cores) (file-laid (a .file .now) _ (loaded .load-file .ensures) (tested .if1 .left)) in
     let fit = sym (held-judged (a .file .now) (a .trace .now) s _ (held .prepare .ensures)) ∙ passed .if2 .left in
     ring-whole (a .file .now) (a .trace .now) (a .t) (a .semaphore) (a .given) s es
     (next-free (a .file .now) (a .trace .now) s (a .given) accepted fit (omega (arith, laid, named .if3 .left)))
@@ -121,7 +121,7 @@ ring-of-spec =
     tie.close
     (tie.spec
     state-of-requires
-    load-requires
+    load-file-requires
     no-ring-requires
     returns
     prepare-requires

@@ -10,8 +10,8 @@ state-of-requires c κs = search needs
 run-requires : tie.Need-run-requires
 run-requires c κs = search needs
 
-refused-requires : tie.Need-refused-requires
-refused-requires c κs = search needs
+unchanged-requires : tie.Need-unchanged-requires
+unchanged-requires c κs = search needs
 
 same-length : tie.Need-same-length
 same-length c = search needs
@@ -25,7 +25,7 @@ same-length-3 c = search needs
 returns : tie.Need-returns
 returns c =
     let called = c .before .before .before .before .before .before .before .before .before in
-    run-stays _ _ _ _ _ _ _ _ _ _ _ _ _ _ _ (called .before .before .before .before .state-of .ensures) (called .run .ensures) (c .before .if1 .taken) (c .refused .ensures)
+    run-stays _ _ _ _ _ _ _ _ _ _ _ _ _ _ _ (called .before .before .before .before .state-of .ensures) (called .run .ensures) (c .before .if1 .taken) (c .unchanged .ensures)
 
 accepted-requires : tie.Need-accepted-requires
 accepted-requires c κs = search needs
@@ -50,7 +50,7 @@ run-table-spec =
     (tie.spec
     state-of-requires
     run-requires
-    refused-requires
+    unchanged-requires
     same-length
     same-length-2
     same-length-3

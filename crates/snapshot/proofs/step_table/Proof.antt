@@ -10,8 +10,8 @@ state-of-requires c κs = search needs
 step-requires : tie.Need-step-requires
 step-requires c κs = search needs
 
-refused-requires : tie.Need-refused-requires
-refused-requires c κs = search needs
+unchanged-requires : tie.Need-unchanged-requires
+unchanged-requires c κs = search needs
 
 same-length : tie.Need-same-length
 same-length c = search needs
@@ -22,7 +22,7 @@ same-length-2 c = search needs
 returns : tie.Need-returns
 returns c =
     let called = c .before .before .before .before .before .before .before in
-    step-stays _ _ _ _ _ _ _ _ _ _ _ _ (called .before .before .before .state-of .ensures) (called .step .ensures) (c .before .if1 .taken) (c .refused .ensures)
+    step-stays _ _ _ _ _ _ _ _ _ _ _ _ (called .before .before .before .state-of .ensures) (called .step .ensures) (c .before .if1 .taken) (c .unchanged .ensures)
 
 accepted-requires : tie.Need-accepted-requires
 accepted-requires c κs = search needs
@@ -44,7 +44,7 @@ step-table-spec =
     (tie.spec
     state-of-requires
     step-requires
-    refused-requires
+    unchanged-requires
     same-length
     same-length-2
     returns

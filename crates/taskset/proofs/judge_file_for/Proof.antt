@@ -18,12 +18,12 @@ returns : tie.Need-returns
 unfolding judgeFor
 returns c = stop _ (c .before .head-refusal .ensures) (c .if1 .taken)
 
-variables-refusal-requires : tie.Need-variables-refusal-requires
-variables-refusal-requires c κs = search needs
+variable-section-refusal-requires : tie.Need-variable-section-refusal-requires
+variable-section-refusal-requires c κs = search needs
 
 returns-2 : tie.Need-returns-2
 unfolding judgeFor
-returns-2 c = skip (sym (c .before .before .before .head-refusal .ensures) ∙ c .before .before .if1 .left) (stop _ (c .before .variables-refusal .ensures) (c .if2 .taken))
+returns-2 c = skip (sym (c .before .before .before .head-refusal .ensures) ∙ c .before .before .if1 .left) (stop _ (c .before .variable-section-refusal .ensures) (c .if2 .taken))
 
 byte-at-requires : tie.Need-byte-at-requires
 byte-at-requires c κs = search needs
@@ -64,11 +64,11 @@ returns-3 : tie.Need-returns-3
 unfolding judgeFor
 returns-3 c =
     let else2 = c .before .before .before .before in
-    let after-variables-refusal = else2 .before in
-    let else1 = after-variables-refusal .before in
+    let after-variable-section-refusal = else2 .before in
+    let else1 = after-variable-section-refusal .before in
     let after-head-refusal = else1 .before in
     skip (sym (after-head-refusal .head-refusal .ensures) ∙ else1 .if1 .left)
-    (skip (sym (after-variables-refusal .variables-refusal .ensures) ∙ else2 .if2 .left) (c .codes-refusal .ensures))
+    (skip (sym (after-variable-section-refusal .variable-section-refusal .ensures) ∙ else2 .if2 .left) (c .codes-refusal .ensures))
 
 pub judge-file-for-spec : {M : Type 1} → statement M
 judge-file-for-spec =
@@ -76,7 +76,7 @@ judge-file-for-spec =
     (tie.spec
     head-refusal-requires
     returns
-    variables-refusal-requires
+    variable-section-refusal-requires
     returns-2
     byte-at-requires
     cast-n

@@ -12,11 +12,11 @@ use borrow.Author.Needs.{needs}
 use Rattle.window.proofs.find_window.Statement.{statement}
 use Rattle.window.proofs.find_window.Tie as tie
 
-load-requires : tie.Need-load-requires
-load-requires c κs = search needs
+load-file-requires : tie.Need-load-file-requires
+load-file-requires c κs = search needs
 
-refused-requires : tie.Need-refused-requires
-refused-requires c κs = search needs
+no-stretch-requires : tie.Need-no-stretch-requires
+no-stretch-requires c κs = search needs
 
 returns : tie.Need-returns
 returns c =
@@ -24,19 +24,19 @@ returns c =
     let loaded = turned .before .before in
     let a = loaded .before .before .args in
     refused-found (a .file .now) (a .buffer) (a .shown) (a .core) (a .start) (a .count)
-    (file-number (a .file .now) (a .buffer) (a .shown) (a .core) (a .start) (a .count) (file-judged (a .file .now) _ (loaded .load .ensures)) (turned .if1 .taken)) (turned .if1 .taken) (c .refused .ensures)
+    (file-number (a .file .now) (a .buffer) (a .shown) (a .core) (a .start) (a .count) (file-judged (a .file .now) _ (loaded .load-file .ensures)) (turned .if1 .taken)) (turned .if1 .taken) (c .no-stretch .ensures)
 
 sum-of-sizes-requires : tie.Need-sum-of-sizes-requires
 sum-of-sizes-requires c κs =
     let passed = c .before in
     let loaded = passed .before .before in
     let a = loaded .before .before .args in
-    let accepted = file-accepted (a .file .now) _ (loaded .load .ensures) (passed .if1 .left) in
-    let laid = file-laid (a .file .now) _ (loaded .load .ensures) (passed .if1 .left) in
+    let accepted = file-accepted (a .file .now) _ (loaded .load-file .ensures) (passed .if1 .left) in
+    let laid = file-laid (a .file .now) _ (loaded .load-file .ensures) (passed .if1 .left) in
     (accepted, laid)
 
-refused-requires-2 : tie.Need-refused-requires-2
-refused-requires-2 c κs = search needs
+no-stretch-requires-2 : tie.Need-no-stretch-requires-2
+no-stretch-requires-2 c κs = search needs
 
 returns-2 : tie.Need-returns-2
 returns-2 c =
@@ -45,14 +45,14 @@ returns-2 c =
     let passed = summed .before .before in
     let loaded = passed .before .before in
     let a = loaded .before .before .args in
-    let accepted = file-accepted (a .file .now) _ (loaded .load .ensures) (passed .if1 .left) in
-    let laid = file-laid (a .file .now) _ (loaded .load .ensures) (passed .if1 .left) in
+    let accepted = file-accepted (a .file .now) _ (loaded .load-file .ensures) (passed .if1 .left) in
+    let laid = file-laid (a .file .now) _ (loaded .load-file .ensures) (passed .if1 .left) in
     refused-found (a .file .now) (a .buffer) (a .shown) (a .core) (a .start) (a .count)
     (lent-number (a .file .now) (a .buffer) (a .shown) (a .core) (a .start) (a .count) accepted
-    (λ e. turned .if2 .taken (e ∙ sym (summed .sum-of-sizes .ensures .0)))) (λ e. absurd (omega arith)) (c .refused2 .ensures)
+    (λ e. turned .if2 .taken (e ∙ sym (summed .sum-of-sizes .ensures .0)))) (λ e. absurd (omega arith)) (c .no-stretch2 .ensures)
 
-refused-requires-3 : tie.Need-refused-requires-3
-refused-requires-3 c κs = search needs
+no-stretch-requires-3 : tie.Need-no-stretch-requires-3
+no-stretch-requires-3 c κs = search needs
 
 returns-3 : tie.Need-returns-3
 returns-3 c =
@@ -62,12 +62,12 @@ returns-3 c =
     let passed = summed .before .before in
     let loaded = passed .before .before in
     let a = loaded .before .before .args in
-    let accepted = file-accepted (a .file .now) _ (loaded .load .ensures) (passed .if1 .left) in
-    let laid = file-laid (a .file .now) _ (loaded .load .ensures) (passed .if1 .left) in
+    let accepted = file-accepted (a .file .now) _ (loaded .load-file .ensures) (passed .if1 .left) in
+    let laid = file-laid (a .file .now) _ (loaded .load-file .ensures) (passed .if1 .left) in
     let lent = sized .if2 .left ∙ summed .sum-of-sizes .ensures .0 in
     refused-found (a .file .now) (a .buffer) (a .shown) (a .core) (a .start) (a .count)
     (core-number (a .file .now) (a .buffer) (a .shown) (a .core) (a .start) (a .count) accepted lent
-    (omega (arith, ap (λ (l : Layout). l .cores) laid, turned .if3 .taken))) (λ e. absurd (omega arith)) (c .refused3 .ensures)
+    (omega (arith, ap (λ (l : Layout). l .cores) laid, turned .if3 .taken))) (λ e. absurd (omega arith)) (c .no-stretch3 .ensures)
 
 place-of-requires : tie.Need-place-of-requires
 place-of-requires c κs =
@@ -77,14 +77,14 @@ place-of-requires c κs =
     let passed = summed .before .before in
     let loaded = passed .before .before in
     let a = loaded .before .before .args in
-    let accepted = file-accepted (a .file .now) _ (loaded .load .ensures) (passed .if1 .left) in
-    let laid = file-laid (a .file .now) _ (loaded .load .ensures) (passed .if1 .left) in
+    let accepted = file-accepted (a .file .now) _ (loaded .load-file .ensures) (passed .if1 .left) in
+    let laid = file-laid (a .file .now) _ (loaded .load-file .ensures) (passed .if1 .left) in
     let lent = sized .if2 .left ∙ summed .sum-of-sizes .ensures .0 in
     let below : a .core < cores (a .file .now) = omega (arith, ap (λ (l : Layout). l .cores) laid, there .if3 .left) in
     (laid, omega (arith, keeps-rules (a .file .now) accepted .most-cores))
 
-refused-requires-4 : tie.Need-refused-requires-4
-refused-requires-4 c κs = search needs
+no-stretch-requires-4 : tie.Need-no-stretch-requires-4
+no-stretch-requires-4 c κs = search needs
 
 returns-4 : tie.Need-returns-4
 returns-4 c =
@@ -96,15 +96,15 @@ returns-4 c =
     let passed = summed .before .before in
     let loaded = passed .before .before in
     let a = loaded .before .before .args in
-    let accepted = file-accepted (a .file .now) _ (loaded .load .ensures) (passed .if1 .left) in
-    let laid = file-laid (a .file .now) _ (loaded .load .ensures) (passed .if1 .left) in
+    let accepted = file-accepted (a .file .now) _ (loaded .load-file .ensures) (passed .if1 .left) in
+    let laid = file-laid (a .file .now) _ (loaded .load-file .ensures) (passed .if1 .left) in
     let lent = sized .if2 .left ∙ summed .sum-of-sizes .ensures .0 in
     let below : a .core < cores (a .file .now) = omega (arith, ap (λ (l : Layout). l .cores) laid, there .if3 .left) in
     let place = ap (λ (p : Place). p .size) (placed .place-of .ensures) in
-    refused-found (a .file .now) (a .buffer) (a .shown) (a .core) (a .start) (a .count) (stretch-number (a .file .now) (a .buffer) (a .shown) (a .core) (a .start) (a .count) accepted lent below (omega (arith, place, turned .if4 .taken))) (λ e. absurd (omega arith)) (c .refused4 .ensures)
+    refused-found (a .file .now) (a .buffer) (a .shown) (a .core) (a .start) (a .count) (stretch-number (a .file .now) (a .buffer) (a .shown) (a .core) (a .start) (a .count) accepted lent below (omega (arith, place, turned .if4 .taken))) (λ e. absurd (omega arith)) (c .no-stretch4 .ensures)
 
-refused-requires-5 : tie.Need-refused-requires-5
-refused-requires-5 c κs = search needs
+no-stretch-requires-5 : tie.Need-no-stretch-requires-5
+no-stretch-requires-5 c κs = search needs
 
 returns-5 : tie.Need-returns-5
 returns-5 c =
@@ -117,14 +117,14 @@ returns-5 c =
     let passed = summed .before .before in
     let loaded = passed .before .before in
     let a = loaded .before .before .args in
-    let accepted = file-accepted (a .file .now) _ (loaded .load .ensures) (passed .if1 .left) in
-    let laid = file-laid (a .file .now) _ (loaded .load .ensures) (passed .if1 .left) in
+    let accepted = file-accepted (a .file .now) _ (loaded .load-file .ensures) (passed .if1 .left) in
+    let laid = file-laid (a .file .now) _ (loaded .load-file .ensures) (passed .if1 .left) in
     let lent = sized .if2 .left ∙ summed .sum-of-sizes .ensures .0 in
     let below : a .core < cores (a .file .now) = omega (arith, ap (λ (l : Layout). l .cores) laid, there .if3 .left) in
     let place = ap (λ (p : Place). p .size) (placed .place-of .ensures) in
     refused-found (a .file .now) (a .buffer) (a .shown) (a .core) (a .start) (a .count)
     (stretch-number (a .file .now) (a .buffer) (a .shown) (a .core) (a .start) (a .count) accepted lent below
-    (omega (arith, place, begins .if4 .left, turned .if5 .taken))) (λ e. absurd (omega arith)) (c .refused5 .ensures)
+    (omega (arith, place, begins .if4 .left, turned .if5 .taken))) (λ e. absurd (omega arith)) (c .no-stretch5 .ensures)
 
 add-from : tie.Need-add-from
 add-from c =
@@ -137,8 +137,8 @@ add-from c =
     let passed = summed .before .before in
     let loaded = passed .before .before in
     let a = loaded .before .before .args in
-    let accepted = file-accepted (a .file .now) _ (loaded .load .ensures) (passed .if1 .left) in
-    let laid = file-laid (a .file .now) _ (loaded .load .ensures) (passed .if1 .left) in
+    let accepted = file-accepted (a .file .now) _ (loaded .load-file .ensures) (passed .if1 .left) in
+    let laid = file-laid (a .file .now) _ (loaded .load-file .ensures) (passed .if1 .left) in
     let lent = sized .if2 .left ∙ summed .sum-of-sizes .ensures .0 in
     let below : a .core < cores (a .file .now) = omega (arith, ap (λ (l : Layout). l .cores) laid, there .if3 .left) in
     let place = ap (λ (p : Place). p .size) (placed .place-of .ensures) in
@@ -157,8 +157,8 @@ add-t13 c =
     let passed = summed .before .before in
     let loaded = passed .before .before in
     let a = loaded .before .before .args in
-    let accepted = file-accepted (a .file .now) _ (loaded .load .ensures) (passed .if1 .left) in
-    let laid = file-laid (a .file .now) _ (loaded .load .ensures) (passed .if1 .left) in
+    let accepted = file-accepted (a .file .now) _ (loaded .load-file .ensures) (passed .if1 .left) in
+    let laid = file-laid (a .file .now) _ (loaded .load-file .ensures) (passed .if1 .left) in
     let lent = sized .if2 .left ∙ summed .sum-of-sizes .ensures .0 in
     let below : a .core < cores (a .file .now) = omega (arith, ap (λ (l : Layout). l .cores) laid, there .if3 .left) in
     let place = ap (λ (p : Place). p .size) (placed .place-of .ensures) in
@@ -177,8 +177,8 @@ returns-6 c =
     let passed = summed .before .before in
     let loaded = passed .before .before in
     let a = loaded .before .before .args in
-    let accepted = file-accepted (a .file .now) _ (loaded .load .ensures) (passed .if1 .left) in
-    let laid = file-laid (a .file .now) _ (loaded .load .ensures) (passed .if1 .left) in
+    let accepted = file-accepted (a .file .now) _ (loaded .load-file .ensures) (passed .if1 .left) in
+    let laid = file-laid (a .file .now) _ (loaded .load-file .ensures) (passed .if1 .left) in
     let lent = sized .if2 .left ∙ summed .sum-of-sizes .ensures .0 in
     let below : a .core < cores (a .file .now) = omega (arith, ap (λ (l : Layout). l .cores) laid, there .if3 .left) in
     let place = ap (λ (p : Place). p .size) (placed .place-of .ensures) in
@@ -190,18 +190,18 @@ pub find-window-spec : {M : Type 1} → statement M
 find-window-spec =
     tie.close
     (tie.spec
-    load-requires
-    refused-requires
+    load-file-requires
+    no-stretch-requires
     returns
     sum-of-sizes-requires
-    refused-requires-2
+    no-stretch-requires-2
     returns-2
-    refused-requires-3
+    no-stretch-requires-3
     returns-3
     place-of-requires
-    refused-requires-4
+    no-stretch-requires-4
     returns-4
-    refused-requires-5
+    no-stretch-requires-5
     returns-5
     add-from
     add-t13

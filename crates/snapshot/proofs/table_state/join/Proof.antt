@@ -8,43 +8,43 @@ use Rattle.snapshot.proofs.table_state.join.Statement.{statement}
 use Rattle.snapshot.proofs.table_state.join.Tie as tie
 use Rattle.snapshot.proofs.table_state.join.Reads as reads
 use Rattle.snapshot.proofs.table_state.join.Lts as lts
-use Rattle.snapshot.proofs.table_state.copy.Reads as copy-reads
+use Rattle.snapshot.proofs.table_state.copy_entries.Reads as copy-entries-reads
 
-slice-aggregate-copy : tie.Need-slice-aggregate-copy
-slice-aggregate-copy c = search needs
+slice-aggregate-copy-entries : tie.Need-slice-aggregate-copy-entries
+slice-aggregate-copy-entries c = search needs
 
-slice-aggregate-copy-2 : tie.Need-slice-aggregate-copy-2
-slice-aggregate-copy-2 c = search needs
+slice-aggregate-copy-entries-2 : tie.Need-slice-aggregate-copy-entries-2
+slice-aggregate-copy-entries-2 c = search needs
 
-copy-requires : tie.Need-copy-requires
-copy-requires c κs = search needs
+copy-entries-requires : tie.Need-copy-entries-requires
+copy-entries-requires c κs = search needs
 
-slice-aggregate-copy-3 : tie.Need-slice-aggregate-copy-3
-slice-aggregate-copy-3 c = search needs
+slice-aggregate-copy-entries-3 : tie.Need-slice-aggregate-copy-entries-3
+slice-aggregate-copy-entries-3 c = search needs
 
-slice-aggregate-copy-4 : tie.Need-slice-aggregate-copy-4
-slice-aggregate-copy-4 c = search needs
+slice-aggregate-copy-entries-4 : tie.Need-slice-aggregate-copy-entries-4
+slice-aggregate-copy-entries-4 c = search needs
 
-copy-requires-2 : tie.Need-copy-requires-2
-copy-requires-2 c κs = search needs
+copy-entries-requires-2 : tie.Need-copy-entries-requires-2
+copy-entries-requires-2 c κs = search needs
 
-slice-aggregate-copy-5 : tie.Need-slice-aggregate-copy-5
-slice-aggregate-copy-5 c = search needs
+slice-aggregate-copy-entries-5 : tie.Need-slice-aggregate-copy-entries-5
+slice-aggregate-copy-entries-5 c = search needs
 
-slice-aggregate-copy-6 : tie.Need-slice-aggregate-copy-6
-slice-aggregate-copy-6 c = search needs
+slice-aggregate-copy-entries-6 : tie.Need-slice-aggregate-copy-entries-6
+slice-aggregate-copy-entries-6 c = search needs
 
-copy-requires-3 : tie.Need-copy-requires-3
-copy-requires-3 c κs = search needs
+copy-entries-requires-3 : tie.Need-copy-entries-requires-3
+copy-entries-requires-3 c κs = search needs
 
-slice-aggregate-copy-7 : tie.Need-slice-aggregate-copy-7
-slice-aggregate-copy-7 c = search needs
+slice-aggregate-copy-entries-7 : tie.Need-slice-aggregate-copy-entries-7
+slice-aggregate-copy-entries-7 c = search needs
 
-slice-aggregate-copy-8 : tie.Need-slice-aggregate-copy-8
-slice-aggregate-copy-8 c = search needs
+slice-aggregate-copy-entries-8 : tie.Need-slice-aggregate-copy-entries-8
+slice-aggregate-copy-entries-8 c = search needs
 
-copy-requires-4 : tie.Need-copy-requires-4
-copy-requires-4 c κs = search needs
+copy-entries-requires-4 : tie.Need-copy-entries-requires-4
+copy-entries-requires-4 c κs = search needs
 
 returns : tie.Need-returns
 unfolding entries
@@ -54,10 +54,10 @@ returns c =
     let after-copy = after-copy2 .before .before .before .before in
     let start = after-copy .before .before .before in
     rw (
-      c .before .copy4 .ensures,
-      after-copy3 .copy3 .ensures,
-      after-copy2 .copy2 .ensures,
-      after-copy .copy .ensures,
+      c .before .copy-entries4 .ensures,
+      after-copy3 .copy-entries3 .ensures,
+      after-copy2 .copy-entries2 .ensures,
+      after-copy .copy-entries .ensures,
       part-whole (start .args .t1) 16 (omega arith),
       part-whole (start .args .t2) 16 (omega arith),
       part-whole (start .args .t3) 16 (omega arith),
@@ -68,16 +68,16 @@ pub join-spec : {M : Type 1} → statement M
 join-spec =
     tie.close
     (tie.spec
-    slice-aggregate-copy
-    slice-aggregate-copy-2
-    copy-requires
-    slice-aggregate-copy-3
-    slice-aggregate-copy-4
-    copy-requires-2
-    slice-aggregate-copy-5
-    slice-aggregate-copy-6
-    copy-requires-3
-    slice-aggregate-copy-7
-    slice-aggregate-copy-8
-    copy-requires-4
+    slice-aggregate-copy-entries
+    slice-aggregate-copy-entries-2
+    copy-entries-requires
+    slice-aggregate-copy-entries-3
+    slice-aggregate-copy-entries-4
+    copy-entries-requires-2
+    slice-aggregate-copy-entries-5
+    slice-aggregate-copy-entries-6
+    copy-entries-requires-3
+    slice-aggregate-copy-entries-7
+    slice-aggregate-copy-entries-8
+    copy-entries-requires-4
     returns)

@@ -29,17 +29,17 @@ registers-in-requires-3 c κs = search needs
 registers-in-requires-4 : tie.Need-registers-in-requires-4
 registers-in-requires-4 c κs = search needs
 
-places-of-requires : tie.Need-places-of-requires
-places-of-requires c κs = search needs
+table-places-requires : tie.Need-table-places-requires
+table-places-requires c κs = search needs
 
-offsets-of-requires : tie.Need-offsets-of-requires
-offsets-of-requires c κs = search needs
+table-offsets-requires : tie.Need-table-offsets-requires
+table-offsets-requires c κs = search needs
 
 returns : tie.Need-returns
 unfolding held
 returns c =
     let four = c .before .before in
-    rw (four .before .before .before .registers-in .ensures, four .before .before .registers-in2 .ensures, four .before .registers-in3 .ensures, four .registers-in4 .ensures, c .before .places-of .ensures, c .offsets-of .ensures) refl
+    rw (four .before .before .before .registers-in .ensures, four .before .before .registers-in2 .ensures, four .before .registers-in3 .ensures, four .registers-in4 .ensures, c .before .table-places .ensures, c .table-offsets .ensures) refl
 
 pub state-of-spec : {M : Type 1} → statement M
 state-of-spec =
@@ -53,6 +53,6 @@ state-of-spec =
     registers-in-requires-2
     registers-in-requires-3
     registers-in-requires-4
-    places-of-requires
-    offsets-of-requires
+    table-places-requires
+    table-offsets-requires
     returns)

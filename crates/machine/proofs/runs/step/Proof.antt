@@ -1,0 +1,30 @@
+-- `machine::step` meets its contract: a step is the run of an order of one byte. Assumes nothing.
+use borrow.Author.Needs.{needs}
+use Rattle.machine.proofs.Steps.{step-as-run}
+use Rattle.machine.proofs.runs.step.Statement.{statement}
+use Rattle.machine.proofs.runs.step.Tie as tie
+
+slice-aggregate-run : tie.Need-slice-aggregate-run
+slice-aggregate-run c = search needs
+
+slice-aggregate-run-2 : tie.Need-slice-aggregate-run-2
+slice-aggregate-run-2 c = search needs
+
+run-requires : tie.Need-run-requires
+run-requires c κs = search needs
+
+same-length : tie.Need-same-length
+same-length c = search needs
+
+same-length-2 : tie.Need-same-length-2
+same-length-2 c = search needs
+
+returns : tie.Need-returns
+returns c =
+    let run = c .before .before .before .before .before in
+    let start = run .before .before .before .before .before .before .before .before .before in
+    let a = start .args in
+    step-as-run (a .file .now) (a .trace .now) (a .s) (a .buffer .now) (a .shared .now) (a .core) 0 _ _ _ _ (run .run .ensures)
+
+pub step-spec : {M : Type 1} → statement M
+step-spec = tie.close (tie.spec slice-aggregate-run slice-aggregate-run-2 run-requires same-length same-length-2 returns)
