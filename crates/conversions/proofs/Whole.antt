@@ -207,10 +207,6 @@ out-of-range b w (fin s m k) e h l =
 nothing-less : (n : ℕ) → 0 ≤ n
 nothing-less n = omega arith
 
-pub magnitude-up : (z : ℤ) → mag z < 2 ^ 63 → leZ (pos 0) z ≡ true → withSign false (natAbs z) ≡ z
-magnitude-up (pos n) h e = refl
-magnitude-up (negsuc n) h e = absurd (subst T (sym e) tt)
-
 pub magnitude-down : (z : ℤ) → leZ (pos 0) z ≡ false → mag z + 1 ≡ natAbs z
 magnitude-down (pos n) e = absurd (subst T (sym (leb·zero n) ∙ e) tt)
 magnitude-down (negsuc n) e = omega arith

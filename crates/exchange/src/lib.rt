@@ -130,7 +130,8 @@ fn byte_place(file: &[u8], place: usize, byte: usize) -> usize
 
 // Byte x of core k's reading, from shared memory to its data d.
 pub fn bring(file: &[u8], k: usize, x: u16, cursor: Cursor, d: &mut [u8], shared: &[u8])
-    requires { ⌜ Laid (now file) × (k < cores (now file)) × At (now file) (4 + k) x cursor × (x < exchangeBytes (now file) (4 + k)) × (length (now d) ≡ dataSize (now file) k) × (length (now shared) ≡ 1024) ⌝ }
+    requires { ⌜ Laid (now file) × (k < cores (now file)) × At (now file) (4 + k) x cursor × (x < exchangeBytes (now file) (4 + k))
+        × (length (now d) ≡ dataSize (now file) k) × (length (now shared) ≡ 1024) ⌝ }
     ensures { λ _. ⌜ now (d .exit) ≡ copy (take 1 (drop x (readsOf (variablesOf (now (file .entry))) k))) (now (shared .entry)) (now (d .entry)) ⌝ }
 {
     let place = cursor.record;
@@ -200,7 +201,8 @@ fn carry(
     src: &[u8],
     dst: &mut [u8],
 ) -> Cursor
-    requires { ⌜ Laid (now file) × (end ≡ recordPlace (now file) (variables (now file))) × (bit < 8) × (source ≤ 10) × (target ≤ 10) × At (now file) bit x cursor × (x + count ≤ exchangeBytes (now file) bit) × Lies (now file) bit source (length (now src)) × Lies (now file) bit target (length (now dst)) ⌝ }
+    requires { ⌜ Laid (now file) × (end ≡ recordPlace (now file) (variables (now file))) × (bit < 8) × (source ≤ 10) × (target ≤ 10) × At (now file) bit x cursor
+        × (x + count ≤ exchangeBytes (now file) bit) × Lies (now file) bit source (length (now src)) × Lies (now file) bit target (length (now dst)) ⌝ }
     ensures { λ r. ⌜ At (now (file .entry)) bit (x + count) r × BytesCarried (now (file .entry)) bit source target x count (now (src .entry)) (now (dst .entry)) (now (dst .exit)) ⌝ }
 {
     let mut place = cursor.record;
@@ -236,8 +238,10 @@ pub fn bring_bytes(
     d: &mut [u8],
     shared: &[u8],
 ) -> Cursor
-    requires { ⌜ Laid (now file) × (k < cores (now file)) × (end ≡ recordPlace (now file) (variables (now file))) × At (now file) (4 + k) x cursor × (x + count ≤ exchangeBytes (now file) (4 + k)) × (length (now d) ≡ dataSize (now file) k) × (length (now shared) ≡ 1024) ⌝ }
-    ensures { λ r. ⌜ At (now (file .entry)) (4 + k) (x + count) r × (now (d .exit) ≡ copy (take count (drop x (readsOf (variablesOf (now (file .entry))) k))) (now (shared .entry)) (now (d .entry))) ⌝ }
+    requires { ⌜ Laid (now file) × (k < cores (now file)) × (end ≡ recordPlace (now file) (variables (now file))) × At (now file) (4 + k) x cursor
+        × (x + count ≤ exchangeBytes (now file) (4 + k)) × (length (now d) ≡ dataSize (now file) k) × (length (now shared) ≡ 1024) ⌝ }
+    ensures { λ r. ⌜ At (now (file .entry)) (4 + k) (x + count) r
+        × (now (d .exit) ≡ copy (take count (drop x (readsOf (variablesOf (now (file .entry))) k))) (now (shared .entry)) (now (d .entry))) ⌝ }
 {
     carry(
         file,
@@ -264,8 +268,10 @@ pub fn publish_bytes(
     d: &[u8],
     shared: &mut [u8],
 ) -> Cursor
-    requires { ⌜ Laid (now file) × (k < cores (now file)) × (end ≡ recordPlace (now file) (variables (now file))) × At (now file) k x cursor × (x + count ≤ exchangeBytes (now file) k) × (length (now d) ≡ dataSize (now file) k) × (length (now shared) ≡ 1024) ⌝ }
-    ensures { λ r. ⌜ At (now (file .entry)) k (x + count) r × (now (shared .exit) ≡ copy (take count (drop x (writesOf (variablesOf (now (file .entry))) k))) (now (d .entry)) (now (shared .entry))) ⌝ }
+    requires { ⌜ Laid (now file) × (k < cores (now file)) × (end ≡ recordPlace (now file) (variables (now file))) × At (now file) k x cursor
+        × (x + count ≤ exchangeBytes (now file) k) × (length (now d) ≡ dataSize (now file) k) × (length (now shared) ≡ 1024) ⌝ }
+    ensures { λ r. ⌜ At (now (file .entry)) k (x + count) r
+        × (now (shared .exit) ≡ copy (take count (drop x (writesOf (variablesOf (now (file .entry))) k))) (now (d .entry)) (now (shared .entry))) ⌝ }
 {
     carry(file, end, k, LOCAL + 2 * k, 0, x, cursor, count, d, shared)
 }
@@ -274,7 +280,8 @@ pub fn publish_bytes(
 
 // Core k's reading, whole.
 pub fn bring_all(file: &[u8], first: usize, end: usize, k: usize, d: &mut [u8], shared: &[u8])
-    requires { ⌜ Laid (now file) × (k < cores (now file)) × (first ≡ recordPlace (now file) 0) × (end ≡ recordPlace (now file) (variables (now file))) × (length (now d) ≡ dataSize (now file) k) × (length (now shared) ≡ 1024) ⌝ }
+    requires { ⌜ Laid (now file) × (k < cores (now file)) × (first ≡ recordPlace (now file) 0) × (end ≡ recordPlace (now file) (variables (now file)))
+        × (length (now d) ≡ dataSize (now file) k) × (length (now shared) ≡ 1024) ⌝ }
     ensures { λ _. ⌜ now (d .exit) ≡ copy (readsOf (variablesOf (now (file .entry))) k) (now (shared .entry)) (now (d .entry)) ⌝ }
 {
     let mut place = first;
@@ -290,7 +297,8 @@ pub fn bring_all(file: &[u8], first: usize, end: usize, k: usize, d: &mut [u8], 
 
 // Core k's writing, whole.
 pub fn publish_all(file: &[u8], first: usize, end: usize, k: usize, d: &[u8], shared: &mut [u8])
-    requires { ⌜ Laid (now file) × (k < cores (now file)) × (first ≡ recordPlace (now file) 0) × (end ≡ recordPlace (now file) (variables (now file))) × (length (now d) ≡ dataSize (now file) k) × (length (now shared) ≡ 1024) ⌝ }
+    requires { ⌜ Laid (now file) × (k < cores (now file)) × (first ≡ recordPlace (now file) 0) × (end ≡ recordPlace (now file) (variables (now file)))
+        × (length (now d) ≡ dataSize (now file) k) × (length (now shared) ≡ 1024) ⌝ }
     ensures { λ _. ⌜ now (shared .exit) ≡ copy (writesOf (variablesOf (now (file .entry))) k) (now (d .entry)) (now (shared .entry)) ⌝ }
 {
     let mut place = first;

@@ -138,7 +138,8 @@ fn write_taking(out: &mut [u8], at: usize, byte: u8) -> usize
 // The first `taken` bytes of the order list.
 fn write_takings(out: &mut [u8], at: usize, list: &[u8], taken: usize) -> usize
     requires { ⌜ at + 3 * min taken (length (now list)) < 18446744073709551615 ⌝ }
-    ensures { λ r. ⌜ (now (out .exit) ≡ splice (now (out .entry)) at (flat (map takingText (take taken (now (list .entry)))))) × (r ≡ at + length (flat (map takingText (take taken (now (list .entry)))))) × (r ≡ at + 3 * min taken (length (now (list .entry)))) ⌝ }
+    ensures { λ r. ⌜ (now (out .exit) ≡ splice (now (out .entry)) at (flat (map takingText (take taken (now (list .entry))))))
+        × (r ≡ at + length (flat (map takingText (take taken (now (list .entry)))))) × (r ≡ at + 3 * min taken (length (now (list .entry)))) ⌝ }
 {
     let takings = lesser(taken, list.len());
     let mut next = at;

@@ -115,15 +115,9 @@ start-next [] k h = absurd (not-suc-le-zero h)
 start-next (n ∷ ns) zero h = omega arith
 start-next (n ∷ ns) (suc k) h = add-assoc n (start ns k) (getD ns k 0) ∙ ap (λ (m : ℕ). n + m) (start-next ns k (le-of-suc-le-suc h))
 
-pub start-suc : (ns : List ℕ) (k : ℕ) → k < length ns → start ns k + getD ns k 0 ≡ start ns (k + 1)
-start-suc ns k h = rw add-one (start-next ns k h)
-
 pub start-zero : (ns : List ℕ) → 0 ≡ start ns 0
 unfolding start
 start-zero ns = refl
-
-pub start-done : (ns : List ℕ) (i k : ℕ) → i ≤ k → k ≤ i → start ns i ≡ start ns k
-start-done ns i k h l = let e : i ≡ k = omega arith in rw e
 
 -- ---- lengths
 

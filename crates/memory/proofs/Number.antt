@@ -94,9 +94,6 @@ read-word s p =
     let b : readLE s (suc p) 1 ≡ getD s (p + 1) 0 = read-byte s (suc p) ∙ ap (λ (k : ℕ). getD s k 0) (sym (add-one p)) in
     omega arith
 
-pub word-lt : (s : List ℕ) (p : ℕ) → ((i : ℕ) → getD s i 0 < 256) → readLE s p 2 < 65536
-word-lt s p h = read-lt s p 2 h
-
 -- past the end
 pub read-beyond : (s : List ℕ) (p n : ℕ) → length s ≤ p → readLE s p n ≡ 0
 unfolding readLE part valueLE

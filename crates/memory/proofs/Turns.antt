@@ -57,18 +57,6 @@ up-turn d to from n i x h k l e =
 
 -- ---- going down, from index i to i - 1
 
--- what is written lies above what is still to be read
-pub down-turn : (d : List ℕ) (to from i : ℕ) → 0 < i → to + i ≤ length d → from ≤ to
-    → splice (set d (to + (i - 1)) (getD d (from + (i - 1)) 0)) to (part (set d (to + (i - 1)) (getD d (from + (i - 1)) 0)) from (i - 1)) ≡ splice d to (part d from i)
-down-turn d to from i h k l =
-    let x : ℕ = getD d (from + (i - 1)) 0 in
-    let n : length (part d from (i - 1)) ≡ i - 1 = length-part d from (i - 1) (omega arith) in
-    ap (splice (set d (to + (i - 1)) x) to) (take-set-part from (i - 1) d (to + (i - 1)) x (omega arith))
-    ∙ sym (set-splice-above d to (part d from (i - 1)) (to + (i - 1)) x (omega arith))
-    ∙ ap (λ (m : ℕ). set (splice d to (part d from (i - 1))) (to + m) x) (sym n)
-    ∙ sym (splice-snoc d to (part d from (i - 1)) x)
-    ∙ ap (splice d to) (sym (part-snoc d from i (i - 1) (omega arith) (omega arith)))
-
 pub load-turn : (d : List ℕ) (p w i v : ℕ) → 0 < i → i ≤ w → p + w ≤ length d → ((j : ℕ) → Fits w8 (getD d j 0)) → v ≡ readLE d (p + i) (w - i)
     → (v * 256 + getD d (p + (i - 1)) 0 ≡ readLE d (p + (i - 1)) (w - (i - 1))) × (v * 256 + getD d (p + (i - 1)) 0 < 256 ^ (w - (i - 1)))
 unfolding readLE valueLE

@@ -126,9 +126,6 @@ few-listed t (k ∷ ks) s =
 pub front-of : (list ys : List ℕ) → length ys ≤ length list → take (length ys) (splice list 0 ys) ≡ ys
 front-of list ys h = ap (take (length ys)) (splice-is list 0 ys (omega arith)) ∙ take-append-seam ys _
 
-pub nothing-of : (n : ℕ) (l : List ℕ) → n ≡ 0 → take n l ≡ []
-nothing-of n l e = ap (λ (m : ℕ). take m l) e
-
 module _ (f t : List ℕ) (ok : AcceptedSet f t) (x : Left) (w : Lendable f t x) where
   run-wrote : (a b : Lending) (order list : List ℕ) → writtenBy f t (running a b order list) x ≡ orderList (taskOf f t) (countsAs f t (running a b order list) x) (wholeOf f x)
   unfolding runCall runRefusal ranCall pick

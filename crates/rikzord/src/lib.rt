@@ -108,7 +108,8 @@ pub extern "C" fn rikzord_step(
     shared: &mut [u8],
     core: u8,
 ) -> u8
-    ensures { λ r. ⌜ lent r (now (table .exit)) (now (semaphore .exit)) (now (buffer .exit)) (now (shared .exit)) [] ≡ stepLent (now (file .entry)) (now (trace .entry)) (now (table .entry)) (now (semaphore .entry)) (now (buffer .entry)) (now (shared .entry)) core ⌝ }
+    ensures { λ r. ⌜ lent r (now (table .exit)) (now (semaphore .exit)) (now (buffer .exit)) (now (shared .exit)) []
+        ≡ stepLent (now (file .entry)) (now (trace .entry)) (now (table .entry)) (now (semaphore .entry)) (now (buffer .entry)) (now (shared .entry)) core ⌝ }
 {
     let t = load_table(table);
     let x = snapshot::step_table(file, trace, t, *semaphore, buffer, shared, core);
@@ -128,7 +129,11 @@ pub extern "C" fn rikzord_run(
     list: &mut [u8],
     taken: &mut usize,
 ) -> u8
-    ensures { λ r. ⌜ (lent r (now (table .exit)) (now (semaphore .exit)) (now (buffer .exit)) (now (shared .exit)) (now (list .exit)) ≡ runLent (now (file .entry)) (now (trace .entry)) (now (table .entry)) (now (semaphore .entry)) (now (buffer .entry)) (now (shared .entry)) (now (order .entry)) (now (list .entry))) × (now (taken .exit) ≡ takenLent (now (file .entry)) (now (trace .entry)) (now (table .entry)) (now (semaphore .entry)) (now (buffer .entry)) (now (shared .entry)) (now (order .entry)) (now (list .entry)) (now (taken .entry))) ⌝ }
+    ensures { λ r. ⌜ (lent r (now (table .exit)) (now (semaphore .exit)) (now (buffer .exit)) (now (shared .exit)) (now (list .exit))
+        ≡ runLent (now (file .entry)) (now (trace .entry)) (now (table .entry)) (now (semaphore .entry)) (now (buffer .entry)) (now (shared .entry)) (now (order .entry))
+        (now (list .entry)))
+        × (now (taken .exit) ≡ takenLent (now (file .entry)) (now (trace .entry)) (now (table .entry)) (now (semaphore .entry)) (now (buffer .entry)) (now (shared .entry))
+        (now (order .entry)) (now (list .entry)) (now (taken .entry))) ⌝ }
 {
     let t = load_table(table);
     let x = snapshot::run_table(
@@ -154,7 +159,8 @@ pub extern "C" fn rikzord_fresh(
     buffer: &mut [u8],
     shared: &mut [u8],
 ) -> u8
-    ensures { λ r. ⌜ lent r (now (table .exit)) (now (semaphore .exit)) (now (buffer .exit)) (now (shared .exit)) [] ≡ freshLent (now (file .entry)) (now (table .entry)) (now (semaphore .entry)) (now (buffer .entry)) (now (shared .entry)) ⌝ }
+    ensures { λ r. ⌜ lent r (now (table .exit)) (now (semaphore .exit)) (now (buffer .exit)) (now (shared .exit)) []
+        ≡ freshLent (now (file .entry)) (now (table .entry)) (now (semaphore .entry)) (now (buffer .entry)) (now (shared .entry)) ⌝ }
 {
     let t = load_table(table);
     let x = snapshot::fresh_table(file, t, *semaphore, buffer, shared);
@@ -170,7 +176,8 @@ pub extern "C" fn rikzord_fresh_small(
     buffer: &mut [u8],
     shared: &mut [u8],
 ) -> u8
-    ensures { λ r. ⌜ lent r (now (table .exit)) (now (semaphore .exit)) (now (buffer .exit)) (now (shared .exit)) [] ≡ freshLentFor Small (now (file .entry)) (now (table .entry)) (now (semaphore .entry)) (now (buffer .entry)) (now (shared .entry)) ⌝ }
+    ensures { λ r. ⌜ lent r (now (table .exit)) (now (semaphore .exit)) (now (buffer .exit)) (now (shared .exit)) []
+        ≡ freshLentFor Small (now (file .entry)) (now (table .entry)) (now (semaphore .entry)) (now (buffer .entry)) (now (shared .entry)) ⌝ }
 {
     let t = load_table(table);
     let x = snapshot::fresh_small_table(file, t, *semaphore, buffer, shared);
@@ -188,7 +195,9 @@ pub extern "C" fn rikzord_rerun(
     buffer: &mut [u8],
     shared: &mut [u8],
 ) -> u8
-    ensures { λ r. ⌜ lent r (now (table .exit)) (now (semaphore .exit)) (now (buffer .exit)) (now (shared .exit)) [] ≡ rerunLent (now (file .entry)) (now (trace .entry)) (now (list .entry)) (now (table .entry)) (now (semaphore .entry)) (now (buffer .entry)) (now (shared .entry)) ⌝ }
+    ensures { λ r. ⌜ lent r (now (table .exit)) (now (semaphore .exit)) (now (buffer .exit)) (now (shared .exit)) []
+        ≡ rerunLent (now (file .entry)) (now (trace .entry)) (now (list .entry)) (now (table .entry)) (now (semaphore .entry)) (now (buffer .entry))
+        (now (shared .entry)) ⌝ }
 {
     let t = load_table(table);
     let x = snapshot::rerun_table(file, trace, list, t, *semaphore, buffer, shared);
@@ -241,7 +250,9 @@ pub fn step_registers(
     shared: &mut [u8],
     core: u8,
 ) -> RunAnswer
-    ensures { λ x. ⌜ (leftAs x (now (buffer .exit)) (now (shared .exit)) [] ≡ stepRegisters (now (file .entry)) (now (trace .entry)) s (now (registers .entry)) (now (buffer .entry)) (now (shared .entry)) core) × (now (registers .exit) ≡ registersAfter (x .state) core (now (registers .entry))) ⌝ }
+    ensures { λ x. ⌜ (leftAs x (now (buffer .exit)) (now (shared .exit)) []
+        ≡ stepRegisters (now (file .entry)) (now (trace .entry)) s (now (registers .entry)) (now (buffer .entry)) (now (shared .entry)) core)
+        × (now (registers .exit) ≡ registersAfter (x .state) core (now (registers .entry))) ⌝ }
 {
     let x = snapshot::step_with(file, trace, s, *registers, buffer, shared, core);
     *registers = x.registers;

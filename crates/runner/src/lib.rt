@@ -167,8 +167,10 @@ fn run_core(
     offsets: &mut [u16; 64],
     buffer: &mut [u8],
 ) -> Reached
-    requires { ⌜ RunStands (now file) (now trace) (now order) from k before (now places) (now offsets) (now buffer) × (c ≡ coreTask (now file) (now trace) k) × (stepsOn (now order) from k ≡ true) × (before .mode ≡ executing) ⌝ }
-    ensures { λ x. ⌜ Reaches (now (file .entry)) (now (trace .entry)) (now (order .entry)) k from before (now (places .entry)) (now (offsets .entry)) (now (buffer .entry)) x (now (places .exit)) (now (offsets .exit)) (now (buffer .exit)) ⌝ }
+    requires { ⌜ RunStands (now file) (now trace) (now order) from k before (now places) (now offsets) (now buffer) × (c ≡ coreTask (now file) (now trace) k)
+        × (stepsOn (now order) from k ≡ true) × (before .mode ≡ executing) ⌝ }
+    ensures { λ x. ⌜ Reaches (now (file .entry)) (now (trace .entry)) (now (order .entry)) k from before (now (places .entry)) (now (offsets .entry)) (now (buffer .entry))
+        x (now (places .exit)) (now (offsets .exit)) (now (buffer .exit)) ⌝ }
 {
     if before.count as usize == c.limit {
         return reach(from + 1, protocol::faulted(before, LIMIT));
@@ -247,7 +249,8 @@ pub fn run_alone(
     buffer: &mut [u8],
 ) -> Registers
     requires { ⌜ ExecutionGiven (now file) (now trace) k before (now places) (now offsets) (now buffer) × (c ≡ coreTask (now file) (now trace) k) ⌝ }
-    ensures { λ r. ⌜ (r .mode ≢ executing) × Executes (now (file .entry)) (now (trace .entry)) k before (now (places .entry)) (now (offsets .entry)) (now (buffer .entry)) r (now (places .exit)) (now (offsets .exit)) (now (buffer .exit)) ⌝ }
+    ensures { λ r. ⌜ (r .mode ≢ executing) × Executes (now (file .entry)) (now (trace .entry)) k before (now (places .entry)) (now (offsets .entry)) (now (buffer .entry))
+        r (now (places .exit)) (now (offsets .exit)) (now (buffer .exit)) ⌝ }
 {
     let order = [k as u8; STRETCH];
     let mut r = before;
@@ -298,7 +301,8 @@ pub fn run_order(
     list: &mut [u8],
 ) -> RunAnswer
     requires { ⌜ RunGiven (now file) (now trace) tasks first end (now order) s aim (now buffer) (now shared) (now list) ⌝ }
-    ensures { λ r. ⌜ leftAs r (now (buffer .exit)) (now (shared .exit)) (now (list .exit)) ≡ ranCall (now (file .entry)) (now (trace .entry)) s (now (buffer .entry)) (now (shared .entry)) (now (order .entry)) (now (list .entry)) ⌝ }
+    ensures { λ r. ⌜ leftAs r (now (buffer .exit)) (now (shared .exit)) (now (list .exit))
+        ≡ ranCall (now (file .entry)) (now (trace .entry)) s (now (buffer .entry)) (now (shared .entry)) (now (order .entry)) (now (list .entry)) ⌝ }
 {
     let mut cores = table_of(s);
     let mut places = places_of(s);

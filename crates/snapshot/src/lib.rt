@@ -90,7 +90,10 @@ pub fn run_table(
     list: &mut [u8],
     taken: &mut usize,
 ) -> After
-    ensures { λ r. ⌜ (tableLeft r (now (buffer .exit)) (now (shared .exit)) (now (list .exit)) ≡ runTable (now (file .entry)) (now (trace .entry)) t semaphore (now (buffer .entry)) (now (shared .entry)) (now (order .entry)) (now (list .entry))) × (now (taken .exit) ≡ takenTable (now (file .entry)) (now (trace .entry)) t semaphore (now (buffer .entry)) (now (shared .entry)) (now (order .entry)) (now (list .entry)) (now (taken .entry))) ⌝ }
+    ensures { λ r. ⌜ (tableLeft r (now (buffer .exit)) (now (shared .exit)) (now (list .exit))
+        ≡ runTable (now (file .entry)) (now (trace .entry)) t semaphore (now (buffer .entry)) (now (shared .entry)) (now (order .entry)) (now (list .entry)))
+        × (now (taken .exit) ≡ takenTable (now (file .entry)) (now (trace .entry)) t semaphore (now (buffer .entry)) (now (shared .entry)) (now (order .entry))
+        (now (list .entry)) (now (taken .entry))) ⌝ }
 {
     let s = state_of(t, semaphore);
     let ran = machine::run(file, trace, s, buffer, shared, order, list);
@@ -158,7 +161,8 @@ pub fn rerun_table(
     buffer: &mut [u8],
     shared: &mut [u8],
 ) -> After
-    ensures { λ r. ⌜ tableLeft r (now (buffer .exit)) (now (shared .exit)) [] ≡ rerunTable (now (file .entry)) (now (trace .entry)) (now (list .entry)) t semaphore (now (buffer .entry)) (now (shared .entry)) ⌝ }
+    ensures { λ r. ⌜ tableLeft r (now (buffer .exit)) (now (shared .exit)) []
+        ≡ rerunTable (now (file .entry)) (now (trace .entry)) (now (list .entry)) t semaphore (now (buffer .entry)) (now (shared .entry)) ⌝ }
 {
     if t.count < memory::byte_at(file, 4) {
         return unchanged(t, semaphore, short_refusal(Profile::Full, file));
@@ -326,7 +330,9 @@ pub fn step_with(
     shared: &mut [u8],
     core: u8,
 ) -> Stepped
-    ensures { λ x. ⌜ (leftAs (x .ran) (now (buffer .exit)) (now (shared .exit)) [] ≡ stepRegisters (now (file .entry)) (now (trace .entry)) s registers (now (buffer .entry)) (now (shared .entry)) core) × (x .registers ≡ registersAfter (x .ran .state) core registers) ⌝ }
+    ensures { λ x. ⌜ (leftAs (x .ran) (now (buffer .exit)) (now (shared .exit)) []
+        ≡ stepRegisters (now (file .entry)) (now (trace .entry)) s registers (now (buffer .entry)) (now (shared .entry)) core)
+        × (x .registers ≡ registersAfter (x .ran .state) core registers) ⌝ }
 {
     let k = core as usize;
     let ran = machine::step(

@@ -73,7 +73,8 @@ pub fn take_record(
     d: &mut [u8],
 ) -> u32
     requires { ⌜ StepGiven (now file) (now trace) k c r (now d) × (r .cycles < c .count) ⌝ }
-    ensures { λ x. ⌜ (x ≡ sampleAt (now (file .entry)) (now (trace .entry)) k (r .cycles) .time) × (now (d .exit) ≡ splice (now (d .entry)) 0 (sampleAt (now (file .entry)) (now (trace .entry)) k (r .cycles) .input)) ⌝ }
+    ensures { λ x. ⌜ (x ≡ sampleAt (now (file .entry)) (now (trace .entry)) k (r .cycles) .time)
+        × (now (d .exit) ≡ splice (now (d .entry)) 0 (sampleAt (now (file .entry)) (now (trace .entry)) k (r .cycles) .input)) ⌝ }
 {
     if trace.len() == 0 {
         clear(d, c.inputs);
@@ -119,7 +120,8 @@ fn read_byte(
     end: usize,
     cursor: Cursor,
 ) -> Exchange
-    requires { ⌜ StepGiven (now file) (now trace) k c r (now d) × (r .mode ≡ readingExchange) × (length (now shared) ≡ 1024) × At (now file) (4 + k) (r .exchange) cursor × (end ≡ recordPlace (now file) (variables (now file))) ⌝ }
+    requires { ⌜ StepGiven (now file) (now trace) k c r (now d) × (r .mode ≡ readingExchange) × (length (now shared) ≡ 1024) × At (now file) (4 + k) (r .exchange) cursor
+        × (end ≡ recordPlace (now file) (variables (now file))) ⌝ }
     ensures { λ z. ⌜ ExchangesOn (now (file .entry)) (now (trace .entry)) k r (now (d .entry)) (now (shared .entry)) z (now (d .exit)) (now (shared .entry)) ⌝ }
 {
     let x = r.exchange as usize;
@@ -155,7 +157,8 @@ fn write_byte(
     end: usize,
     cursor: Cursor,
 ) -> Exchange
-    requires { ⌜ StepGiven (now file) (now trace) k c r (now d) × (r .mode ≡ writingExchange) × (length (now shared) ≡ 1024) × At (now file) k (r .exchange) cursor × (end ≡ recordPlace (now file) (variables (now file))) ⌝ }
+    requires { ⌜ StepGiven (now file) (now trace) k c r (now d) × (r .mode ≡ writingExchange) × (length (now shared) ≡ 1024) × At (now file) k (r .exchange) cursor
+        × (end ≡ recordPlace (now file) (variables (now file))) ⌝ }
     ensures { λ z. ⌜ ExchangesOn (now (file .entry)) (now (trace .entry)) k r (now (d .entry)) (now (shared .entry)) z (now (d .entry)) (now (shared .exit)) ⌝ }
 {
     let x = r.exchange as usize;
@@ -182,7 +185,8 @@ fn exchange_in(
     cursor: Cursor,
     turn: bool,
 ) -> Exchange
-    requires { ⌜ StepGiven (now file) (now trace) k c r (now d) × (r .mode ≢ executing) × (length (now shared) ≡ 1024) × CursorAimed (now file) k r cursor × (end ≡ recordPlace (now file) (variables (now file))) ⌝ }
+    requires { ⌜ StepGiven (now file) (now trace) k c r (now d) × (r .mode ≢ executing) × (length (now shared) ≡ 1024) × CursorAimed (now file) k r cursor
+        × (end ≡ recordPlace (now file) (variables (now file))) ⌝ }
     ensures { λ z. ⌜ Exchanges (now (file .entry)) (now (trace .entry)) k r (now (d .entry)) (now (shared .entry)) turn z (now (d .exit)) (now (shared .exit)) ⌝ }
 {
     let mode = r.mode;

@@ -119,7 +119,11 @@ pub fn window<'a>(
     file: &'a [u8],
     buffer: &'a [u8],
 ) -> &'a [u8]
-    ensures { λ r. ⌜ (now r ≡ windowOf (now (file .entry)) (now (buffer .entry)) shown core start count) × (shown ≡ Code → (r .ptr .0 ≡ file .entry .ptr .0) × (r .ptr .1 ≡ file .entry .ptr .1 + windowFound (now (file .entry)) (length (now (buffer .entry))) shown core start count .from)) × (shown ≡ Data → (r .ptr .0 ≡ buffer .entry .ptr .0) × (r .ptr .1 ≡ buffer .entry .ptr .1 + windowFound (now (file .entry)) (length (now (buffer .entry))) shown core start count .from)) ⌝ }
+    ensures { λ r. ⌜ (now r ≡ windowOf (now (file .entry)) (now (buffer .entry)) shown core start count)
+        × (shown ≡ Code → (r .ptr .0 ≡ file .entry .ptr .0)
+        × (r .ptr .1 ≡ file .entry .ptr .1 + windowFound (now (file .entry)) (length (now (buffer .entry))) shown core start count .from))
+        × (shown ≡ Data → (r .ptr .0 ≡ buffer .entry .ptr .0)
+        × (r .ptr .1 ≡ buffer .entry .ptr .1 + windowFound (now (file .entry)) (length (now (buffer .entry))) shown core start count .from)) ⌝ }
 {
     let found = find_window(shown, core, start, count, file, buffer.len());
     let from = found.from;

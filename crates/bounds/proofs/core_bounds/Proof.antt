@@ -22,12 +22,6 @@ add-e c =
     let core = core-in (start .args .file .now) _ (start .args .k) (start .pre .0) (start .pre .1) (start .pre .2) in
     omega (arith, core .fits)
 
-sub-bounds-in : tie.Need-sub-bounds-in
-sub-bounds-in c = search needs
-
-part-bounds-in-start : tie.Need-part-bounds-in-start
-part-bounds-in-start c = search needs
-
 part-bounds-in-end : tie.Need-part-bounds-in-end
 part-bounds-in-end c =
     let start = c .before .before .before in
@@ -50,12 +44,4 @@ returns c =
 pub core-bounds-spec : {M : Type 1} → statement M
 core-bounds-spec =
     tie.close
-    (tie.spec
-    mul-core
-    element-copy-out-core
-    add-e
-    sub-bounds-in
-    part-bounds-in-start
-    part-bounds-in-end
-    bounds-in-requires
-    returns)
+    (tie.spec mul-core element-copy-out-core add-e (λ c. search needs) (λ c. search needs) part-bounds-in-end bounds-in-requires returns)

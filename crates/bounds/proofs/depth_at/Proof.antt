@@ -9,15 +9,6 @@ use borrow.Author.Needs.{needs}
 use Rattle.bounds.proofs.depth_at.Statement.{statement}
 use Rattle.bounds.proofs.depth_at.Tie as tie
 
-capped-requires : tie.Need-capped-requires
-capped-requires c κs = search needs
-
-capped-requires-2 : tie.Need-capped-requires-2
-capped-requires-2 c κs = search needs
-
-shared-slice-read-b : tie.Need-shared-slice-read-b
-shared-slice-read-b c = search needs
-
 returns : tie.Need-returns
 unfolding depthBy
 returns c = kept-as depthBy depth-caps Returns _ _ _ _ _ _ (kind-returns _ _ (c .if1 .taken)) (c .before .before .before .capped .ensures) (c .before .before .capped2 .ensures) refl
@@ -29,9 +20,6 @@ returns-2 c =
     kept-as depthBy depth-caps Jumps _ _ _ _ _ _ (kind-jumps _ _ (c .if2 .taken)) (there .before .capped .ensures) (there .capped2 .ensures)
     (omega (arith, there .capped2 .ensures))
 
-larger-requires : tie.Need-larger-requires
-larger-requires c κs = search needs
-
 returns-3 : tie.Need-returns-3
 unfolding depthBy
 returns-3 c =
@@ -40,15 +28,6 @@ returns-3 c =
     kept-as depthBy depth-caps Branches _ _ _ _ _ _
     (kind-branches _ _ (omega (arith, test .before .before .if1 .left, test .before .if2 .left)) (test .if3 .taken)) (there .before .capped .ensures)
     (there .capped2 .ensures) (omega (arith, c .larger .ensures, there .before .capped .ensures, there .capped2 .ensures))
-
-add-larger : tie.Need-add-larger
-add-larger c = search needs
-
-larger-requires-2 : tie.Need-larger-requires-2
-larger-requires-2 c κs = search needs
-
-capped-requires-3 : tie.Need-capped-requires-3
-capped-requires-3 c κs = search needs
 
 returns-4 : tie.Need-returns-4
 unfolding depthBy
@@ -68,16 +47,5 @@ returns-5 c =
 pub depth-at-spec : {M : Type 1} → statement M
 depth-at-spec =
     tie.close
-    (tie.spec
-    capped-requires
-    capped-requires-2
-    shared-slice-read-b
-    returns
-    returns-2
-    larger-requires
-    returns-3
-    add-larger
-    larger-requires-2
-    capped-requires-3
-    returns-4
-    returns-5)
+    (tie.spec (λ c κs. search needs) (λ c κs. search needs) (λ c. search needs) returns returns-2 (λ c κs. search needs) returns-3 (λ c. search needs)
+    (λ c κs. search needs) (λ c κs. search needs) returns-4 returns-5)

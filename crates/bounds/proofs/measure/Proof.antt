@@ -17,17 +17,8 @@ abbrev μ-loop : tie.MeasureT-loop
 starts-requires : tie.Need-starts-requires Inv-loop μ-loop
 starts-requires c κs = (c .before .pre .1, c .before .pre .2)
 
-zeros-requires : tie.Need-zeros-requires Inv-loop μ-loop
-zeros-requires c κs = search needs
-
-zeros-requires-2 : tie.Need-zeros-requires-2 Inv-loop μ-loop
-zeros-requires-2 c κs = search needs
-
 loop-holds : tie.Need-loop-holds Inv-loop μ-loop
 loop-holds c = let at = c .before .before in passing-none _ (at .starts .result) _ _ (at .before .before .pre) (at .starts .ensures) (c .before .zeros .ensures) (c .zeros2 .ensures)
-
-sub-p : tie.Need-sub-p Inv-loop μ-loop
-sub-p c = search needs
 
 array-read-if1 : tie.Need-array-read-if1 Inv-loop μ-loop
 array-read-if1 c = let pass = c .before .loop .inv in omega (arith, in-map pass, pass .size, c .loop-test .taken)
@@ -114,30 +105,6 @@ returns-2 c = passing-end (c .before .loop .inv) (omega (arith, c .loop-test .le
 pub measure-spec : {M : Type 1} → statement M
 measure-spec =
     tie.close
-    (tie.spec
-    Inv-loop
-    μ-loop
-    starts-requires
-    zeros-requires
-    zeros-requires-2
-    loop-holds
-    sub-p
-    array-read-if1
-    rises-at-requires
-    returns
-    target-at-requires
-    mul-count-at
-    array-read-count-at
-    count-at-requires
-    mul-depth-at
-    array-read-depth-at
-    depth-at-requires
-    mul-counts
-    array-write-counts
-    mul-depths
-    array-write-depths
-    loop-less
-    loop-again
-    loop-less-2
-    loop-again-2
-    returns-2)
+    (tie.spec Inv-loop μ-loop starts-requires (λ c κs. search needs) (λ c κs. search needs) loop-holds (λ c. search needs) array-read-if1 rises-at-requires
+    returns target-at-requires mul-count-at array-read-count-at count-at-requires mul-depth-at array-read-depth-at depth-at-requires mul-counts
+    array-write-counts mul-depths array-write-depths loop-less loop-again loop-less-2 loop-again-2 returns-2)

@@ -51,16 +51,4 @@ returns c =
 pub put-column-spec : {M : Type 1} → statement M
 put-column-spec =
     tie.close
-    (tie.spec
-    Inv-loop
-    μ-loop
-    loop-holds
-    mul-places
-    array-read-places
-    mul-places-2
-    slice-write-places
-    add-i
-    loop-less
-    loop-again
-    same-length
-    returns)
+    (tie.spec Inv-loop μ-loop loop-holds mul-places array-read-places mul-places-2 slice-write-places add-i loop-less loop-again same-length returns)

@@ -7,21 +7,15 @@ use borrow.Author.Needs.{needs}
 use Rattle.bounds.proofs.rises_at.Statement.{statement}
 use Rattle.bounds.proofs.rises_at.Tie as tie
 
-shared-slice-read-b : tie.Need-shared-slice-read-b
-shared-slice-read-b c = search needs
-
 returns : tie.Need-returns
 returns c = sym (rises-none _ _ (inl (c .if1 .taken)))
 
 returns-2 : tie.Need-returns-2
 returns-2 c = sym (rises-none _ _ (inr (c .if2 .taken)))
 
-target-at-requires : tie.Need-target-at-requires
-target-at-requires c κs = search needs
-
 returns-3 : tie.Need-returns-3
 returns-3 c = rises-as _ _ _ (omega (arith, c .before .before .if1 .left)) (c .before .if2 .left) (c .target-at .ensures)
 
 pub rises-at-spec : {M : Type 1} → statement M
 rises-at-spec =
-    tie.close (tie.spec shared-slice-read-b returns returns-2 target-at-requires returns-3)
+    tie.close (tie.spec (λ c. search needs) returns returns-2 (λ c κs. search needs) returns-3)

@@ -6,12 +6,6 @@ use Rattle.bounds.proofs.Answer.{refused-file}
 use Rattle.bounds.proofs.takes.Statement.{statement}
 use Rattle.bounds.proofs.takes.Tie as tie
 
-load-file-requires : tie.Need-load-file-requires
-load-file-requires c κs = search needs
-
-none-requires : tie.Need-none-requires
-none-requires c κs = search needs
-
 returns : tie.Need-returns
 returns c =
     let load = c .before .before .before in
@@ -28,4 +22,4 @@ returns-2 : tie.Need-returns-2
 returns-2 c = c .takes-in .ensures
 
 pub takes-spec : {M : Type 1} → statement M
-takes-spec = tie.close (tie.spec load-file-requires none-requires returns takes-in-requires returns-2)
+takes-spec = tie.close (tie.spec (λ c κs. search needs) (λ c κs. search needs) returns takes-in-requires returns-2)

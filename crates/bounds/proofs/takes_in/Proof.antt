@@ -23,9 +23,6 @@ core-bounds-requires c κs =
     let at = c .before .before .before in
     (at .pre .0, at .pre .1, omega (arith, c .loop-test .taken, few-cores (at .args .file .now) _ (at .pre .0) (at .pre .1)))
 
-none-requires : tie.Need-none-requires Inv-loop μ-loop
-none-requires c κs = search needs
-
 returns : tie.Need-returns Inv-loop μ-loop
 returns c =
     let turn = c .before .before .before .before in
@@ -95,19 +92,5 @@ returns-2 c =
 pub takes-in-spec : {M : Type 1} → statement M
 takes-in-spec =
     tie.close
-    (tie.spec
-    Inv-loop
-    μ-loop
-    loop-holds
-    core-bounds-requires
-    none-requires
-    returns
-    mul-count
-    array-write-count
-    mul-depth
-    array-write-depth
-    add-k
-    loop-less
-    loop-again
-    sum-of-sizes-requires
-    returns-2)
+    (tie.spec Inv-loop μ-loop loop-holds core-bounds-requires (λ c κs. search needs) returns mul-count array-write-count mul-depth array-write-depth add-k
+    loop-less loop-again sum-of-sizes-requires returns-2)

@@ -4,12 +4,6 @@ use Rattle.bounds.proofs.Outputs.{output-refused, room, output-done}
 use Rattle.bounds.proofs.takes_to.Statement.{statement}
 use Rattle.bounds.proofs.takes_to.Tie as tie
 
-takes-requires : tie.Need-takes-requires
-takes-requires c κs = search needs
-
-output-refusal-requires : tie.Need-output-refusal-requires
-output-refusal-requires c κs = search needs
-
 returns : tie.Need-returns
 returns c =
     let start = c .before .before .before .before .before .before .before in
@@ -45,15 +39,6 @@ put-column-requires-2 c κs =
     let x = room (lent .file .now) (lent .lengths .now) (lent .counts .now) (lent .depths .now) _ _ answer number (asked .if1 .left) in
     (x .for-depths, x .of-depths)
 
-same-length : tie.Need-same-length
-same-length c = search needs
-
-same-length-2 : tie.Need-same-length-2
-same-length-2 c = search needs
-
-same-length-3 : tie.Need-same-length-3
-same-length-3 c = search needs
-
 returns-2 : tie.Need-returns-2
 returns-2 c =
     let lengths = c .before .before .before .before .before .before .before .before .before .before in
@@ -65,14 +50,5 @@ returns-2 c =
 pub takes-to-spec : {M : Type 1} → statement M
 takes-to-spec =
     tie.close
-    (tie.spec
-    takes-requires
-    output-refusal-requires
-    returns
-    put-lengths-requires
-    put-column-requires
-    put-column-requires-2
-    same-length
-    same-length-2
-    same-length-3
-    returns-2)
+    (tie.spec (λ c κs. search needs) (λ c κs. search needs) returns put-lengths-requires put-column-requires put-column-requires-2 (λ c. search needs)
+    (λ c. search needs) (λ c. search needs) returns-2)

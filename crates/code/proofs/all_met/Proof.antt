@@ -45,13 +45,4 @@ returns c = most-end _ _ _ (c .loop-test .left) (c .before .loop .inv .1) (c .be
 pub all-met-spec : {M : Type 1} → statement M
 all-met-spec =
     tie.close
-    (tie.spec
-    Inv-loop
-    μ-loop
-    loop-holds
-    shared-slice-read-if1
-    shared-slice-read-most
-    add-i
-    loop-less
-    loop-again
-    returns)
+    (tie.spec Inv-loop μ-loop loop-holds shared-slice-read-if1 shared-slice-read-most add-i loop-less loop-again returns)

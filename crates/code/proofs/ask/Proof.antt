@@ -7,15 +7,6 @@ use Rattle.code.proofs.ask.Tie as tie
 returns : tie.Need-returns
 returns c = asked-outside _ _ (c .if1 .taken)
 
-slice-read-if2 : tie.Need-slice-read-if2
-slice-read-if2 c = search needs
-
-slice-write-marks : tie.Need-slice-write-marks
-slice-write-marks c = search needs
-
-same-length : tie.Need-same-length
-same-length c = search needs
-
 returns-2 : tie.Need-returns-2
 returns-2 c = asked-new _ _ (c .before .before .if1 .left) (c .if2 .taken)
 
@@ -24,4 +15,4 @@ returns-3 c = asked-start _ _ (c .if2 .left)
 
 pub ask-spec : {M : Type 1} → statement M
 ask-spec =
-    tie.close (tie.spec returns slice-read-if2 slice-write-marks same-length returns-2 returns-3)
+    tie.close (tie.spec returns (λ c. search needs) (λ c. search needs) (λ c. search needs) returns-2 returns-3)

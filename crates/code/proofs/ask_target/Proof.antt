@@ -11,89 +11,41 @@ use Rattle.code.proofs.Laying.{target-asked, target-none}
 use Rattle.code.proofs.ask_target.Statement.{statement}
 use Rattle.code.proofs.ask_target.Tie as tie
 
-shared-slice-read-b : tie.Need-shared-slice-read-b
-shared-slice-read-b c = search needs
-
-add-word : tie.Need-add-word
-add-word c = search needs
-
 word-requires : tie.Need-word-requires
 unfolding lengthOf rowOf pick
 word-requires c κs = omega (arith, length-at _ (c .before .match .keys1))
-
-ask-requires : tie.Need-ask-requires
-ask-requires c κs = search needs
-
-add-word-2 : tie.Need-add-word-2
-add-word-2 c = search needs
 
 word-requires-2 : tie.Need-word-requires-2
 unfolding lengthOf rowOf pick
 word-requires-2 c κs = omega (arith, length-at _ (c .before .match .keys2))
 
-ask-requires-2 : tie.Need-ask-requires-2
-ask-requires-2 c κs = search needs
-
-add-word-3 : tie.Need-add-word-3
-add-word-3 c = search needs
-
 word-requires-3 : tie.Need-word-requires-3
 unfolding lengthOf rowOf pick
 word-requires-3 c κs = omega (arith, length-at _ (c .before .match .keys3))
-
-ask-requires-3 : tie.Need-ask-requires-3
-ask-requires-3 c κs = search needs
-
-add-word-4 : tie.Need-add-word-4
-add-word-4 c = search needs
 
 word-requires-4 : tie.Need-word-requires-4
 unfolding lengthOf rowOf pick
 word-requires-4 c κs = omega (arith, length-at _ (c .before .match .keys4))
 
-ask-requires-4 : tie.Need-ask-requires-4
-ask-requires-4 c κs = search needs
-
-add-word-5 : tie.Need-add-word-5
-add-word-5 c = search needs
-
 word-requires-5 : tie.Need-word-requires-5
 unfolding lengthOf rowOf pick
 word-requires-5 c κs = omega (arith, length-at _ (c .before .match .keys5))
-
-ask-requires-5 : tie.Need-ask-requires-5
-ask-requires-5 c κs = search needs
-
-same-length : tie.Need-same-length
-same-length c = search needs
 
 returns : tie.Need-returns
 unfolding kindAt targetAt rowOf pick
 returns c = target-asked _ _ _ _ _ _ (rw (c .before .before .before .before .before .match .keys1) (sym (c .before .before .before .word .ensures))) (rw (c .before .before .before .before .before .match .keys1)) (c .before .before .ask .ensures)
 
-same-length-2 : tie.Need-same-length-2
-same-length-2 c = search needs
-
 returns-2 : tie.Need-returns-2
 unfolding kindAt targetAt rowOf pick
 returns-2 c = target-asked _ _ _ _ _ _ (rw (c .before .before .before .before .before .match .keys2) (sym (c .before .before .before .word2 .ensures))) (rw (c .before .before .before .before .before .match .keys2)) (c .before .before .ask2 .ensures)
-
-same-length-3 : tie.Need-same-length-3
-same-length-3 c = search needs
 
 returns-3 : tie.Need-returns-3
 unfolding kindAt targetAt rowOf pick
 returns-3 c = target-asked _ _ _ _ _ _ (rw (c .before .before .before .before .before .match .keys3) (sym (c .before .before .before .word3 .ensures))) (rw (c .before .before .before .before .before .match .keys3)) (c .before .before .ask3 .ensures)
 
-same-length-4 : tie.Need-same-length-4
-same-length-4 c = search needs
-
 returns-4 : tie.Need-returns-4
 unfolding kindAt targetAt rowOf pick
 returns-4 c = target-asked _ _ _ _ _ _ (rw (c .before .before .before .before .before .match .keys4) (sym (c .before .before .before .word4 .ensures))) (rw (c .before .before .before .before .before .match .keys4)) (c .before .before .ask4 .ensures)
-
-same-length-5 : tie.Need-same-length-5
-same-length-5 c = search needs
 
 returns-5 : tie.Need-returns-5
 unfolding kindAt targetAt rowOf pick
@@ -105,31 +57,7 @@ returns-6 c = let n = c .match .rest in target-none _ _ _ (no-target _ _ (n .0 .
 pub ask-target-spec : {M : Type 1} → statement M
 ask-target-spec =
     tie.close
-    (tie.spec
-    shared-slice-read-b
-    add-word
-    word-requires
-    ask-requires
-    add-word-2
-    word-requires-2
-    ask-requires-2
-    add-word-3
-    word-requires-3
-    ask-requires-3
-    add-word-4
-    word-requires-4
-    ask-requires-4
-    add-word-5
-    word-requires-5
-    ask-requires-5
-    same-length
-    returns
-    same-length-2
-    returns-2
-    same-length-3
-    returns-3
-    same-length-4
-    returns-4
-    same-length-5
-    returns-5
-    returns-6)
+    (tie.spec (λ c. search needs) (λ c. search needs) word-requires (λ c κs. search needs) (λ c. search needs) word-requires-2 (λ c κs. search needs)
+    (λ c. search needs) word-requires-3 (λ c κs. search needs) (λ c. search needs) word-requires-4 (λ c κs. search needs) (λ c. search needs) word-requires-5
+    (λ c κs. search needs) (λ c. search needs) returns (λ c. search needs) returns-2 (λ c. search needs) returns-3 (λ c. search needs) returns-4
+    (λ c. search needs) returns-5 returns-6)

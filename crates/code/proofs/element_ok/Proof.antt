@@ -5,9 +5,6 @@ use borrow.Author.Needs.{needs}
 use Rattle.code.proofs.element_ok.Statement.{statement}
 use Rattle.code.proofs.element_ok.Tie as tie
 
-is-width-requires : tie.Need-is-width-requires
-is-width-requires c κs = search needs
-
 returns : tie.Need-returns
 returns c = rw (sym (c .before .is-width .ensures) ∙ not-true _ (c .if1 .taken))
 
@@ -18,4 +15,4 @@ returns-3 : tie.Need-returns-3
 returns-3 c = rw (sym (c .before .before .is-width .ensures) ∙ not-false _ (c .before .if1 .left), le-leb _ _ (c .if2 .left))
 
 pub element-ok-spec : {M : Type 1} → statement M
-element-ok-spec = tie.close (tie.spec is-width-requires returns returns-2 returns-3)
+element-ok-spec = tie.close (tie.spec (λ c κs. search needs) returns returns-2 returns-3)

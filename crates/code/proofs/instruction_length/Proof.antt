@@ -8,9 +8,6 @@ use borrow.Author.Needs.{needs}
 use Rattle.code.proofs.instruction_length.Statement.{statement}
 use Rattle.code.proofs.instruction_length.Tie as tie
 
-shared-slice-read-b : tie.Need-shared-slice-read-b
-shared-slice-read-b c = search needs
-
 cast-n : tie.Need-cast-n
 cast-n c = omega (arith, c .before .shared-slice-known .given (c .before .before .args .p))
 
@@ -19,15 +16,6 @@ element-copy-out-n c = omega (arith, c .before .shared-slice-known .given (c .be
 
 cast-n-2 : tie.Need-cast-n-2
 cast-n-2 c = omega (arith, c .before .before .before .pre .1 .right _ (c .before .before .shared-slice-known .given (c .before .before .before .args .p) .fits), short _ (c .before .before .shared-slice-known .given (c .before .before .before .args .p) .fits))
-
-add-byte-at : tie.Need-add-byte-at
-add-byte-at c = search needs
-
-byte-at-requires : tie.Need-byte-at-requires
-byte-at-requires c κs = search needs
-
-cast-result : tie.Need-cast-result
-cast-result c = search needs
 
 add-result : tie.Need-add-result
 add-result c =
@@ -50,14 +38,4 @@ returns-2 c = rw (ne-eqb _ _ (c .if1 .left), c .before .before .before .before .
 pub instruction-length-spec : {M : Type 1} → statement M
 instruction-length-spec =
     tie.close
-    (tie.spec
-    shared-slice-read-b
-    cast-n
-    element-copy-out-n
-    cast-n-2
-    add-byte-at
-    byte-at-requires
-    cast-result
-    add-result
-    returns
-    returns-2)
+    (tie.spec (λ c. search needs) cast-n element-copy-out-n cast-n-2 (λ c. search needs) (λ c κs. search needs) (λ c. search needs) add-result returns returns-2)

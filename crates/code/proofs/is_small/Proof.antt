@@ -7,20 +7,11 @@ use Rattle.code.proofs.Types.{types-low, types-time, type-inside, types
 use Rattle.code.proofs.is_small.Statement.{statement}
 use Rattle.code.proofs.is_small.Tie as tie
 
-shared-slice-read-b : tie.Need-shared-slice-read-b
-shared-slice-read-b c = search needs
-
 returns : tie.Need-returns
 returns c = sym (types-low _ _ (c .before .before .before .pre .1) (c .if1 .taken))
 
-inside-requires : tie.Need-inside-requires
-inside-requires c κs = search needs
-
 returns-2 : tie.Need-returns-2
 returns-2 c = sym (types-time _ _ (sym (c .before .inside .ensures) ∙ c .if2 .taken))
-
-add-is-wide : tie.Need-add-is-wide
-add-is-wide c = search needs
 
 shared-slice-read-is-wide : tie.Need-shared-slice-read-is-wide
 shared-slice-read-is-wide c =
@@ -32,9 +23,6 @@ shared-slice-read-is-wide c =
           (sym (c .before .before .inside .ensures) ∙ c .before .if2 .left),
     )
 
-is-wide-requires : tie.Need-is-wide-requires
-is-wide-requires c κs = search needs
-
 returns-3 : tie.Need-returns-3
 returns-3 c =
     let else2 = c .before .before .before in
@@ -43,9 +31,6 @@ returns-3 c =
     let start = else1 .before .before .before in
     sym (types-wide _ _ (start .pre .1) (else1 .if1 .left) (sym (after-inside .inside .ensures) ∙ else2 .if2 .left)
     (sym (c .before .is-wide .ensures) ∙ c .if3 .taken))
-
-add-is-wide-2 : tie.Need-add-is-wide-2
-add-is-wide-2 c = search needs
 
 shared-slice-read-is-wide-2 : tie.Need-shared-slice-read-is-wide-2
 shared-slice-read-is-wide-2 c =
@@ -57,9 +42,6 @@ shared-slice-read-is-wide-2 c =
       arith,
       type-inside (start .args .code .now) (start .args .p) (start .pre .1) (else1 .if1 .left) (sym (after-inside .inside .ensures) ∙ else2 .if2 .left),
     )
-
-is-wide-requires-2 : tie.Need-is-wide-requires-2
-is-wide-requires-2 c κs = search needs
 
 returns-4 : tie.Need-returns-4
 returns-4 c =
@@ -85,17 +67,5 @@ returns-5 c =
 pub is-small-spec : {M : Type 1} → statement M
 is-small-spec =
     tie.close
-    (tie.spec
-    shared-slice-read-b
-    returns
-    inside-requires
-    returns-2
-    add-is-wide
-    shared-slice-read-is-wide
-    is-wide-requires
-    returns-3
-    add-is-wide-2
-    shared-slice-read-is-wide-2
-    is-wide-requires-2
-    returns-4
-    returns-5)
+    (tie.spec (λ c. search needs) returns (λ c κs. search needs) returns-2 (λ c. search needs) shared-slice-read-is-wide (λ c κs. search needs) returns-3
+    (λ c. search needs) shared-slice-read-is-wide-2 (λ c κs. search needs) returns-4 returns-5)

@@ -16,9 +16,6 @@ abbrev μ-loop : tie.MeasureT-loop
 returns : tie.Need-returns Inv-loop μ-loop
 returns c = sym (start-beyond _ _ (c .if1 .taken))
 
-lengths-requires : tie.Need-lengths-requires Inv-loop μ-loop
-lengths-requires c κs = search needs
-
 loop-holds : tie.Need-loop-holds Inv-loop μ-loop
 loop-holds c = walking-none _ _
 
@@ -56,17 +53,5 @@ returns-4 c = sym (walking-end _ _ _ (c .before .loop .inv) (c .loop-test .left)
 pub is-start-spec : {M : Type 1} → statement M
 is-start-spec =
     tie.close
-    (tie.spec
-    Inv-loop
-    μ-loop
-    returns
-    lengths-requires
-    loop-holds
-    instruction-length-requires
-    returns-2
-    sub-if3
-    returns-3
-    add-p
-    loop-less
-    loop-again
+    (tie.spec Inv-loop μ-loop returns (λ c κs. search needs) loop-holds instruction-length-requires returns-2 sub-if3 returns-3 add-p loop-less loop-again
     returns-4)

@@ -8,26 +8,8 @@ use borrow.Author.Needs.{needs}
 use Rattle.code.proofs.judge_by_map.Statement.{statement}
 use Rattle.code.proofs.judge_by_map.Tie as tie
 
-lay-requires : tie.Need-lay-requires
-lay-requires c κs = search needs
-
-outside-refusal-requires : tie.Need-outside-refusal-requires
-outside-refusal-requires c κs = search needs
-
-first-refusal-requires : tie.Need-first-refusal-requires
-first-refusal-requires c κs = search needs
-
-same-length : tie.Need-same-length
-same-length c = search needs
-
 returns : tie.Need-returns
 returns c = first-refused _ _ _ _ _ (c .before .before .before .before .before .lay .ensures) _ _ (c .before .before .outside-refusal .ensures) (c .before .first-refusal .ensures) (c .if1 .taken)
-
-all-met-requires : tie.Need-all-met-requires
-all-met-requires c κs = search needs
-
-same-length-2 : tie.Need-same-length-2
-same-length-2 c = search needs
 
 returns-2 : tie.Need-returns-2
 unfolding judgeCodeFor
@@ -35,9 +17,6 @@ returns-2 c =
     let pass = c .before .before .before .before .before .before .before .before .lay .ensures in
     let first = first-none _ _ _ _ _ pass _ _ (c .before .before .before .before .before .outside-refusal .ensures) (c .before .before .before .before .first-refusal .ensures) (c .before .before .before .if1 .left) in
     skip (sym (pass .right) ∙ first .0) (halt 6 _ (no _ _ (targets-wanted _ _ _ _ _ _ pass (first .0) (c .before .all-met .ensures) (not-true _ (c .if2 .taken)))))
-
-same-length-3 : tie.Need-same-length-3
-same-length-3 c = search needs
 
 returns-3 : tie.Need-returns-3
 unfolding judgeCodeFor
@@ -47,9 +26,6 @@ returns-3 c =
     skip (sym (pass .right) ∙ first .0)
     (skip (yes _ _ (targets-right _ _ _ _ _ _ pass (first .0) (first .1) (c .before .before .before .all-met .ensures) (not-false _ (c .before .before .if2 .left))))
     (sym (no _ _ (rw (sym (pass .latest (first .0))) (le-ltb _ _ (c .if3 .taken))))))
-
-same-length-4 : tie.Need-same-length-4
-same-length-4 c = search needs
 
 returns-4 : tie.Need-returns-4
 unfolding judgeCodeFor
@@ -63,16 +39,5 @@ returns-4 c =
 pub judge-by-map-spec : {M : Type 1} → statement M
 judge-by-map-spec =
     tie.close
-    (tie.spec
-    lay-requires
-    outside-refusal-requires
-    first-refusal-requires
-    same-length
-    returns
-    all-met-requires
-    same-length-2
-    returns-2
-    same-length-3
-    returns-3
-    same-length-4
-    returns-4)
+    (tie.spec (λ c κs. search needs) (λ c κs. search needs) (λ c κs. search needs) (λ c. search needs) returns (λ c κs. search needs) (λ c. search needs)
+    returns-2 (λ c. search needs) returns-3 (λ c. search needs) returns-4)

@@ -54,9 +54,6 @@ slice-write-marks c =
     let turn = c .before .before .before .before .before .before .before .before in
     omega (arith, asked-size _ _ _ _ _ (c .before .before .before .before .before .ask-target .ensures), turn .before .before .loop .inv .size, turn .before .loop-test .taken, turn .before .before .before .before .before .pre .1)
 
-shared-slice-read-last : tie.Need-shared-slice-read-last Inv-loop μ-loop
-shared-slice-read-last c = search needs
-
 add-p : tie.Need-add-p Inv-loop μ-loop
 add-p c =
     let turn = c .before .before .before .before .before .before .before .before .before in
@@ -85,21 +82,5 @@ returns-3 c = laying-end _ _ _ _ _ _ (c .before .loop .inv) (c .loop-test .left)
 pub lay-spec : {M : Type 1} → statement M
 lay-spec =
     tie.close
-    (tie.spec
-    Inv-loop
-    μ-loop
-    loop-holds
-    accepted-length-requires
-    same-length
-    returns
-    ask-target-requires
-    is-carried-requires
-    same-length-2
-    returns-2
-    slice-write-marks
-    shared-slice-read-last
-    add-p
-    loop-less
-    loop-again
-    same-length-3
-    returns-3)
+    (tie.spec Inv-loop μ-loop loop-holds accepted-length-requires same-length returns ask-target-requires is-carried-requires same-length-2 returns-2
+    slice-write-marks (λ c. search needs) add-p loop-less loop-again same-length-3 returns-3)

@@ -6,18 +6,9 @@ use borrow.Author.Needs.{needs}
 use Rattle.code.proofs.starts.Statement.{statement}
 use Rattle.code.proofs.starts.Tie as tie
 
-cleared-requires : tie.Need-cleared-requires
-cleared-requires c κs = search needs
-
-slice-aggregate-lay : tie.Need-slice-aggregate-lay
-slice-aggregate-lay c = search needs
-
-lay-requires : tie.Need-lay-requires
-lay-requires c κs = search needs
-
 returns : tie.Need-returns
 unfolding judgeCodeFor
 returns c = (c .before .lay .ensures .size ∙ c .before .before .before .cleared .ensures .0, c .before .lay .ensures .marked (c .before .lay .ensures .right ∙ next-zero _ _ (c .before .before .before .before .before .pre .1) .0))
 
 pub starts-spec : {M : Type 1} → statement M
-starts-spec = tie.close (tie.spec cleared-requires slice-aggregate-lay lay-requires returns)
+starts-spec = tie.close (tie.spec (λ c κs. search needs) (λ c. search needs) (λ c κs. search needs) returns)

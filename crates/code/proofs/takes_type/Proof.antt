@@ -9,28 +9,13 @@ use borrow.Author.Needs.{needs}
 use Rattle.code.proofs.takes_type.Statement.{statement}
 use Rattle.code.proofs.takes_type.Tie as tie
 
-inside-requires : tie.Need-inside-requires
-inside-requires c κs = search needs
-
-inside-requires-2 : tie.Need-inside-requires-2
-inside-requires-2 c κs = search needs
-
 returns : tie.Need-returns
 unfolding takes pick
 returns c = rw (sym (c .before .before .inside .ensures), c .before .if1 .taken, c .inside2 .ensures)
 
-inside-requires-3 : tie.Need-inside-requires-3
-inside-requires-3 c κs = search needs
-
-inside-requires-4 : tie.Need-inside-requires-4
-inside-requires-4 c κs = search needs
-
 returns-2 : tie.Need-returns-2
 unfolding takes pick
 returns-2 c = rw (sym (c .before .before .before .before .inside .ensures), c .before .before .before .if1 .left, sym (c .before .before .inside3 .ensures), c .before .if2 .taken, c .inside4 .ensures)
-
-inside-requires-5 : tie.Need-inside-requires-5
-inside-requires-5 c κs = search needs
 
 returns-3 : tie.Need-returns-3
 unfolding takes pick
@@ -46,9 +31,6 @@ past c = (sym (c .before .before .before .before .inside .ensures) ∙ c .before
 past-four : (c : tie.Else4) → within 24 27 (c .before .before .before .before .before .before .before .args .code) ≡ false
 past-four c = sym (c .before .inside6 .ensures) ∙ c .if4 .left
 
-inside-requires-6 : tie.Need-inside-requires-6
-inside-requires-6 c κs = search needs
-
 returns-4 : tie.Need-returns-4
 unfolding takes pick
 returns-4 c =
@@ -61,12 +43,6 @@ returns-5 c =
     let p = past (c .before .before .before) in
     rw (p .0, p .1, p .2, sym (c .before .before .inside6 .ensures), c .before .if4 .taken, le-leb _ _ (c .if5 .left))
 
-inside-requires-7 : tie.Need-inside-requires-7
-inside-requires-7 c κs = search needs
-
-inside-requires-8 : tie.Need-inside-requires-8
-inside-requires-8 c κs = search needs
-
 returns-6 : tie.Need-returns-6
 unfolding takes pick
 returns-6 c =
@@ -78,9 +54,6 @@ unfolding takes pick
 returns-7 c =
     let p = past (c .before .before .before .before .before .before) in
     rw (p .0, p .1, p .2, past-four (c .before .before .before .before), sym (c .before .before .before .inside7 .ensures), c .before .before .if6 .taken, sym (c .before .inside8 .ensures) ∙ not-false _ (c .if7 .left))
-
-inside-requires-9 : tie.Need-inside-requires-9
-inside-requires-9 c κs = search needs
 
 returns-8 : tie.Need-returns-8
 unfolding takes pick
@@ -97,22 +70,5 @@ returns-9 c =
 pub takes-type-spec : {M : Type 1} → statement M
 takes-type-spec =
     tie.close
-    (tie.spec
-    inside-requires
-    inside-requires-2
-    returns
-    inside-requires-3
-    inside-requires-4
-    returns-2
-    inside-requires-5
-    returns-3
-    inside-requires-6
-    returns-4
-    returns-5
-    inside-requires-7
-    inside-requires-8
-    returns-6
-    returns-7
-    inside-requires-9
-    returns-8
-    returns-9)
+    (tie.spec (λ c κs. search needs) (λ c κs. search needs) returns (λ c κs. search needs) (λ c κs. search needs) returns-2 (λ c κs. search needs) returns-3
+    (λ c κs. search needs) returns-4 returns-5 (λ c κs. search needs) (λ c κs. search needs) returns-6 returns-7 (λ c κs. search needs) returns-8 returns-9)

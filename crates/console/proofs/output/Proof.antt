@@ -7,28 +7,10 @@ use borrow.Author.Needs.{needs}
 use Rattle.console.proofs.output.Statement.{statement}
 use Rattle.console.proofs.output.Tie as tie
 
-too-long-requires : tie.Need-too-long-requires
-too-long-requires c κs = search needs
-
-write-long-requires : tie.Need-write-long-requires
-write-long-requires c κs = search needs
-
-same-length : tie.Need-same-length
-same-length c = search needs
-
 returns : tie.Need-returns
 returns c =
     let a = c .before .before .before .before .before .before .before .before .before .before .args in
     written (a .out .now) (long-text (a .file .now) (a .trace .now) (a .order .now) (sym (c .before .before .before .before .before .too-long .ensures) ∙ c .before .before .before .before .if1 .taken)) (c .before .before .write-long .ensures)
-
-load-file-requires : tie.Need-load-file-requires
-load-file-requires c κs = search needs
-
-write-refused-requires : tie.Need-write-refused-requires
-write-refused-requires c κs = search needs
-
-same-length-2 : tie.Need-same-length-2
-same-length-2 c = search needs
 
 returns-2 : tie.Need-returns-2
 returns-2 c =
@@ -46,17 +28,8 @@ returns-2 c =
 sum-of-sizes-requires : tie.Need-sum-of-sizes-requires
 sum-of-sizes-requires c κs = (file-accepted _ _ (c .before .before .before .load-file .ensures) (c .before .if2 .left), file-laid _ _ (c .before .before .before .load-file .ensures) (c .before .if2 .left))
 
-array-borrow-prefix-buffer : tie.Need-array-borrow-prefix-buffer
-array-borrow-prefix-buffer c = search needs
-
 slice-aggregate-write-run : tie.Need-slice-aggregate-write-run
 slice-aggregate-write-run c = prefix _ 16384 (c .before .sum-of-sizes .ensures .1)
-
-slice-aggregate-write-run-2 : tie.Need-slice-aggregate-write-run-2
-slice-aggregate-write-run-2 c = search needs
-
-slice-aggregate-write-run-3 : tie.Need-slice-aggregate-write-run-3
-slice-aggregate-write-run-3 c = search needs
 
 write-run-requires : tie.Need-write-run-requires
 write-run-requires c κs =
@@ -73,9 +46,6 @@ write-run-requires c κs =
       short-order _ _ _ (sym (if1 .before .too-long .ensures) ∙ if1 .if1 .left),
     )
 
-same-length-3 : tie.Need-same-length-3
-same-length-3 c = search needs
-
 returns-3 : tie.Need-returns-3
 returns-3 c =
     let write-run = c .before .before .before .before .before in
@@ -89,20 +59,6 @@ returns-3 c =
 pub output-spec : {M : Type 1} → statement M
 output-spec =
     tie.close
-    (tie.spec
-    too-long-requires
-    write-long-requires
-    same-length
-    returns
-    load-file-requires
-    write-refused-requires
-    same-length-2
-    returns-2
-    sum-of-sizes-requires
-    array-borrow-prefix-buffer
-    slice-aggregate-write-run
-    slice-aggregate-write-run-2
-    slice-aggregate-write-run-3
-    write-run-requires
-    same-length-3
+    (tie.spec (λ c κs. search needs) (λ c κs. search needs) (λ c. search needs) returns (λ c κs. search needs) (λ c κs. search needs) (λ c. search needs)
+    returns-2 sum-of-sizes-requires (λ c. search needs) slice-aggregate-write-run (λ c. search needs) (λ c. search needs) write-run-requires (λ c. search needs)
     returns-3)

@@ -20,7 +20,8 @@ returns : tie.Need-returns
 unfolding converting
 returns c =
     let a = c .before .before .before .before .before .args in
-    was-beyond (a .d .now) (a .destination) _ (a .source) _ (a .to) (a .from) _ (c .before .either-beyond .ensures) (c .before .before .before .width-of .ensures) (c .before .before .width-of2 .ensures) (converted (a .from) (a .to) (readLE (a .d .now) (a .source) (widthOf (a .from)))) (c .if1 .taken)
+    was-beyond (a .d .now) (a .destination) _ (a .source) _ (a .to) (a .from) _ (c .before .either-beyond .ensures) (c .before .before .before .width-of .ensures) (c .before .before .width-of2 .ensures)
+    (converted (a .from) (a .to) (readLE (a .d .now) (a .source) (widthOf (a .from)))) (c .if1 .taken)
 
 read-value-requires : tie.Need-read-value-requires
 read-value-requires c κs =
@@ -66,13 +67,5 @@ returns-2 c =
 pub convert-at-spec : {M : Type 1} → statement M
 convert-at-spec =
     tie.close
-    (tie.spec
-    (λ c κs. search needs)
-    (λ c κs. search needs)
-    either-beyond-requires
-    returns
-    read-value-requires
-    (λ c κs. search needs)
-    settle-requires
-    (λ c. search needs)
-    returns-2)
+    (tie.spec (λ c κs. search needs) (λ c κs. search needs) either-beyond-requires returns read-value-requires (λ c κs. search needs) settle-requires
+    (λ c. search needs) returns-2)

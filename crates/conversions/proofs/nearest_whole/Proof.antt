@@ -60,12 +60,4 @@ returns-3 c =
 pub nearest-whole-spec : {M : Type 1} → statement M
 nearest-whole-spec =
     tie.close
-    (tie.spec
-    returns
-    float-to-bits-p
-    (λ c κs. search needs)
-    returns-2
-    (λ c κs. search needs)
-    nearest-scaled-requires
-    (λ c κs. search needs)
-    returns-3)
+    (tie.spec returns float-to-bits-p (λ c κs. search needs) returns-2 (λ c κs. search needs) nearest-scaled-requires (λ c κs. search needs) returns-3)

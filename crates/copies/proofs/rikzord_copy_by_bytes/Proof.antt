@@ -8,14 +8,8 @@ use Rattle.copies.proofs.Copies.{fitting, fit, unfit}
 use Rattle.copies.proofs.rikzord_copy_by_bytes.Statement.{statement}
 use Rattle.copies.proofs.rikzord_copy_by_bytes.Tie as tie
 
-fits-requires : tie.Need-fits-requires
-fits-requires c κs = search needs
-
 returns : tie.Need-returns
 returns c = unfit _ _ _ _ (sym (c .before .fits2 .ensures) ∙ not-true _ (c .if1 .taken))
-
-distance-requires : tie.Need-distance-requires
-distance-requires c κs = search needs
 
 move-singly-requires : tie.Need-move-singly-requires
 move-singly-requires c κs =
@@ -25,18 +19,12 @@ move-singly-requires c κs =
 move-through-requires : tie.Need-move-through-requires
 move-through-requires c κs = fitting _ _ _ _ (sym (c .before .before .before .before .fits2 .ensures) ∙ not-false _ (c .before .before .before .if1 .left))
 
-same-length : tie.Need-same-length
-same-length c = search needs
-
 returns-2 : tie.Need-returns-2
 returns-2 c = fit _ _ _ _ _ (sym (c .before .before .before .before .before .before .before .fits2 .ensures) ∙ not-false _ (c .before .before .before .before .before .before .if1 .left)) (c .before .before .move-singly .ensures)
-
-same-length-2 : tie.Need-same-length-2
-same-length-2 c = search needs
 
 returns-3 : tie.Need-returns-3
 returns-3 c = fit _ _ _ _ _ (sym (c .before .before .before .before .before .before .before .fits2 .ensures) ∙ not-false _ (c .before .before .before .before .before .before .if1 .left)) (c .before .before .move-through .ensures)
 
 pub rikzord-copy-by-bytes-spec : {M : Type 1} → statement M
 rikzord-copy-by-bytes-spec =
-    tie.close (tie.spec fits-requires returns distance-requires move-singly-requires move-through-requires same-length returns-2 same-length-2 returns-3)
+    tie.close (tie.spec (λ c κs. search needs) returns (λ c κs. search needs) move-singly-requires move-through-requires (λ c. search needs) returns-2 (λ c. search needs) returns-3)

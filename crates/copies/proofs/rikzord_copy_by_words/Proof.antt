@@ -6,20 +6,14 @@ use Rattle.copies.proofs.Copies.{fitting, fit, unfit}
 use Rattle.copies.proofs.rikzord_copy_by_words.Statement.{statement}
 use Rattle.copies.proofs.rikzord_copy_by_words.Tie as tie
 
-fits-requires : tie.Need-fits-requires
-fits-requires c κs = search needs
-
 returns : tie.Need-returns
 returns c = unfit _ _ _ _ (sym (c .before .fits2 .ensures) ∙ not-true _ (c .if1 .taken))
 
 copy-within-requires : tie.Need-copy-within-requires
 copy-within-requires c κs = fitting _ _ _ _ (sym (c .before .before .fits2 .ensures) ∙ not-false _ (c .before .if1 .left))
 
-same-length : tie.Need-same-length
-same-length c = search needs
-
 returns-2 : tie.Need-returns-2
 returns-2 c = fit _ _ _ _ _ (sym (c .before .before .before .before .before .fits2 .ensures) ∙ not-false _ (c .before .before .before .before .if1 .left)) (c .before .before .copy-within .ensures)
 
 pub rikzord-copy-by-words-spec : {M : Type 1} → statement M
-rikzord-copy-by-words-spec = tie.close (tie.spec fits-requires returns copy-within-requires same-length returns-2)
+rikzord-copy-by-words-spec = tie.close (tie.spec (λ c κs. search needs) returns copy-within-requires (λ c. search needs) returns-2)

@@ -70,22 +70,5 @@ returns-2 c =
 pub reads-from-spec : {M : Type 1} → statement M
 reads-from-spec =
     tie.close
-    (tie.spec
-    Inv-loop
-    μ-loop
-    (λ c κs. search needs)
-    (λ c. search needs)
-    (λ c. search needs)
-    (λ c. search needs)
-    (λ c κs. search needs)
-    (λ c. search needs)
-    loop-holds
-    add-passes
-    mul-passes
-    add-passes-2
-    passes-requires
-    returns
-    add-i
-    loop-less
-    loop-again
-    returns-2)
+    (tie.spec Inv-loop μ-loop (λ c κs. search needs) (λ c. search needs) (λ c. search needs) (λ c. search needs) (λ c κs. search needs) (λ c. search needs)
+    loop-holds add-passes mul-passes add-passes-2 passes-requires returns add-i loop-less loop-again returns-2)

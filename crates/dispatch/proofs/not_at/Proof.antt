@@ -13,21 +13,7 @@ pub not-at-spec : {M : Type 1} → statement M
 unfolding takes resultType resultWidth secondWidth widthOf pick
 not-at-spec =
     tie.close
-    (tie.spec
-    (λ c κs. search (given-type, needs))
-    (λ c. search was-beyond)
-    (λ c κs. search (needs, not-beyond))
-    (λ c κs. search (needs, not-beyond))
-    (λ c κs. search (needs, not-beyond))
-    (λ c κs. search (needs, not-beyond))
-    (λ c κs. search (needs, not-beyond, last-bits))
-    (λ c. search needs)
-    (λ c. search needs)
-    (λ c. search needs)
-    (λ c. search needs)
-    (λ c. search needs)
-    (λ c. search needs)
-    (λ c. search needs)
-    (λ c. search needs)
-    (λ c. search needs)
-    (λ c. search needs))
+    (tie.spec (λ c κs. search (given-type, needs)) (λ c. search was-beyond) (λ c κs. search (needs, not-beyond)) (λ c κs. search (needs, not-beyond))
+    (λ c κs. search (needs, not-beyond)) (λ c κs. search (needs, not-beyond)) (λ c κs. search (needs, not-beyond, last-bits)) (λ c. search needs)
+    (λ c. search needs) (λ c. search needs) (λ c. search needs) (λ c. search needs) (λ c. search needs) (λ c. search needs) (λ c. search needs)
+    (λ c. search needs) (λ c. search needs))

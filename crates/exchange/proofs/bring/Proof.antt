@@ -11,15 +11,6 @@ byte-place-requires c κs =
     let p = c .before .before .before .pre in
     (omega (arith, record-whole _ _ (p .2) (p .3) (p .0)), byte-few _ _ (p .2) (p .3) (p .0))
 
-add-byte-place : tie.Need-add-byte-place
-add-byte-place c = search needs
-
-mul-byte-place : tie.Need-mul-byte-place
-mul-byte-place c = search needs
-
-add-byte-place-2 : tie.Need-add-byte-place-2
-add-byte-place-2 c = search needs
-
 byte-place-requires-2 : tie.Need-byte-place-requires-2
 byte-place-requires-2 c κs =
     let p = c .before .before .before .before .pre in
@@ -35,9 +26,6 @@ slice-write-d c =
     let p = c .before .before .before .before .before .before .pre in
     omega (arith, c .before .byte-place2 .ensures, local-fits _ _ (p .2) (p .3) (p .0) _ (p .1) (λ q e. inr e))
 
-same-length : tie.Need-same-length
-same-length c = search needs
-
 returns : tie.Need-returns
 returns c =
     let p = c .before .before .before .before .before .before .pre in
@@ -46,13 +34,5 @@ returns c =
 pub bring-spec : {M : Type 1} → statement M
 bring-spec =
     tie.close
-    (tie.spec
-    byte-place-requires
-    add-byte-place
-    mul-byte-place
-    add-byte-place-2
-    byte-place-requires-2
-    shared-slice-read-d
-    slice-write-d
-    same-length
-    returns)
+    (tie.spec byte-place-requires (λ c. search needs) (λ c. search needs) (λ c. search needs) byte-place-requires-2 shared-slice-read-d slice-write-d
+    (λ c. search needs) returns)

@@ -46,9 +46,6 @@ named-requires c κs = (record-here c, omega (arith, few-cores c))
 word-requires : tie.Need-word-requires Inv-loop μ-loop
 word-requires c κs = omega (arith, record-here (c .before .before), few-cores (c .before .before))
 
-cast-from : tie.Need-cast-from Inv-loop μ-loop
-cast-from c = search needs
-
 add-word : tie.Need-add-word Inv-loop μ-loop
 add-word c = omega (arith, record-here (c .before .before .before), few-cores (c .before .before .before))
 
@@ -60,9 +57,6 @@ add-word-2 c = omega (arith, record-here (c .before .before .before), few-cores 
 
 word-requires-2 : tie.Need-word-requires-2 Inv-loop μ-loop
 word-requires-2 c κs = omega (arith, record-here (c .before .before .before), few-cores (c .before .before .before))
-
-cast-to : tie.Need-cast-to Inv-loop μ-loop
-cast-to c = search needs
 
 add-copy : tie.Need-add-copy Inv-loop μ-loop
 add-copy c = omega (arith, record-here (c .before .before .before .before .before), few-cores (c .before .before .before .before .before))
@@ -134,25 +128,5 @@ returns c =
 pub bring-all-spec : {M : Type 1} → statement M
 bring-all-spec =
     tie.close
-    (tie.spec
-    Inv-loop
-    μ-loop
-    loop-holds
-    add-named
-    named-requires
-    word-requires
-    cast-from
-    add-word
-    mul-word
-    add-word-2
-    word-requires-2
-    cast-to
-    add-copy
-    shared-slice-read-copy
-    cast-copy
-    copy-requires
-    add-place
-    loop-less
-    loop-again
-    same-length
-    returns)
+    (tie.spec Inv-loop μ-loop loop-holds add-named named-requires word-requires (λ c. search needs) add-word mul-word add-word-2 word-requires-2
+    (λ c. search needs) add-copy shared-slice-read-copy cast-copy copy-requires add-place loop-less loop-again same-length returns)

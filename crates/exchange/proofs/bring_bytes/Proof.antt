@@ -13,23 +13,11 @@ use Rattle.exchange.proofs.Carrying.{shared-lies, reading-lies, shared-
 use Rattle.exchange.proofs.bring_bytes.Statement.{statement}
 use Rattle.exchange.proofs.bring_bytes.Tie as tie
 
-add-carry : tie.Need-add-carry
-add-carry c = search needs
-
-mul-carry : tie.Need-mul-carry
-mul-carry c = search needs
-
-add-carry-2 : tie.Need-add-carry-2
-add-carry-2 c = search needs
-
 carry-requires : tie.Need-carry-requires
 carry-requires c κs =
     let p = c .before .before .before .before .pre in
     let few = p .0 .few-cores in
     (p .0, p .2, omega (arith, p .1, few), omega arith, omega (arith, p .1, few), p .3, p .4, rw (p .6) (shared-lies _ (p .0) _ (p .1) _), rw (p .5) (reading-lies _ (p .0) _ (p .1)))
-
-same-length : tie.Need-same-length
-same-length c = search needs
 
 returns : tie.Need-returns
 returns c =
@@ -43,4 +31,4 @@ returns c =
 
 pub bring-bytes-spec : {M : Type 1} → statement M
 bring-bytes-spec =
-    tie.close (tie.spec add-carry mul-carry add-carry-2 carry-requires same-length returns)
+    tie.close (tie.spec (λ c. search needs) (λ c. search needs) (λ c. search needs) carry-requires (λ c. search needs) returns)

@@ -55,16 +55,4 @@ returns c =
 pub bytes-spec : {M : Type 1} → statement M
 bytes-spec =
     tie.close
-    (tie.spec
-    Inv-loop
-    μ-loop
-    loop-holds
-    named-requires
-    add-total
-    shared-slice-read-total
-    cast-total
-    add-total-2
-    add-place
-    loop-less
-    loop-again
-    returns)
+    (tie.spec Inv-loop μ-loop loop-holds named-requires add-total shared-slice-read-total cast-total add-total-2 add-place loop-less loop-again returns)

@@ -39,9 +39,6 @@ sub-smaller c =
     let w = c .before .before .loop .inv in
     omega (arith, at-chosen _ _ (w .at) (left-some _ _ _ _ _ _ _ _ w (c .before .loop-test .taken) (p .6)) .1)
 
-smaller-requires : tie.Need-smaller-requires Inv-loop μ-loop
-smaller-requires c κs = search needs
-
 add-byte-place : tie.Need-add-byte-place Inv-loop μ-loop
 add-byte-place c =
     let p = c .before .before .before .before .before .before .before .pre in
@@ -173,27 +170,6 @@ returns c = under-last _ _ _ _ _ _ _ _ (c .before .loop .inv) (omega (arith, c .
 pub carry-spec : {M : Type 1} → statement M
 carry-spec =
     tie.close
-    (tie.spec
-    Inv-loop
-    μ-loop
-    loop-holds
-    add-width
-    shared-slice-read-width
-    cast-width
-    sub-smaller
-    smaller-requires
-    add-byte-place
-    byte-place-requires
-    add-byte-place-2
-    byte-place-requires-2
-    copy-bytes-requires
-    add-byte
-    sub-left
-    add-seek
-    seek-requires
-    loop-less
-    loop-again
-    loop-less-2
-    loop-again-2
-    same-length
-    returns)
+    (tie.spec Inv-loop μ-loop loop-holds add-width shared-slice-read-width cast-width sub-smaller (λ c κs. search needs) add-byte-place byte-place-requires
+    add-byte-place-2 byte-place-requires-2 copy-bytes-requires add-byte sub-left add-seek seek-requires loop-less loop-again loop-less-2 loop-again-2
+    same-length returns)

@@ -36,13 +36,4 @@ returns c = let e : c .before .loop .i ≡ c .before .before .before .before .ar
 pub locate-spec : {M : Type 1} → statement M
 locate-spec =
     tie.close
-    (tie.spec
-    Inv-loop
-    μ-loop
-    start-requires
-    loop-holds
-    onward-requires
-    add-i
-    loop-less
-    loop-again
-    returns)
+    (tie.spec Inv-loop μ-loop start-requires loop-holds onward-requires add-i loop-less loop-again returns)

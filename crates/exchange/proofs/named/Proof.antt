@@ -9,22 +9,10 @@ use borrow.Author.Needs.{needs}
 use Rattle.exchange.proofs.named.Statement.{statement}
 use Rattle.exchange.proofs.named.Tie as tie
 
-add-result : tie.Need-add-result
-add-result c = search needs
-
-shared-slice-read-result : tie.Need-shared-slice-read-result
-shared-slice-read-result c = search needs
-
-cast-result : tie.Need-cast-result
-cast-result c = search needs
-
-shr-result : tie.Need-shr-result
-shr-result c = search needs
-
 returns : tie.Need-returns
 unfolding hasBit
 returns c = ap (λ (x : ℕ). eqb x 1) (and-mask (getD (c .before .args .file .now) (c .before .args .place + 3) 0 / 2 ^ c .before .args .bit) 1)
 
 pub named-spec : {M : Type 1} → statement M
 named-spec =
-    tie.close (tie.spec add-result shared-slice-read-result cast-result shr-result returns)
+    tie.close (tie.spec (λ c. search needs) (λ c. search needs) (λ c. search needs) (λ c. search needs) returns)

@@ -12,9 +12,6 @@ add-byte c =
     let p = c .before .before .pre in
     omega (arith, byte-few _ _ (p .3) (p .4) (p .0))
 
-add-if1 : tie.Need-add-if1
-add-if1 c = search needs
-
 shared-slice-read-if1 : tie.Need-shared-slice-read-if1
 shared-slice-read-if1 c =
     let p = c .before .before .before .pre in
@@ -27,9 +24,6 @@ returns : tie.Need-returns
 returns c =
     let p = c .before .before .before .before .pre in
     at-within _ _ (p .3) (p .4) 1 (c .if1 .taken)
-
-add-seek : tie.Need-add-seek
-add-seek c = search needs
 
 seek-requires : tie.Need-seek-requires
 seek-requires c κs =
@@ -44,4 +38,4 @@ returns-2 c =
 
 pub onward-spec : {M : Type 1} → statement M
 onward-spec =
-    tie.close (tie.spec add-byte add-if1 shared-slice-read-if1 cast-if1 returns add-seek seek-requires returns-2)
+    tie.close (tie.spec add-byte (λ c. search needs) shared-slice-read-if1 cast-if1 returns (λ c. search needs) seek-requires returns-2)

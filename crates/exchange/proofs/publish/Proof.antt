@@ -6,15 +6,6 @@ use Rattle.exchange.proofs.Cursors.{record-whole, byte-few, shared-fits
 use Rattle.exchange.proofs.publish.Statement.{statement}
 use Rattle.exchange.proofs.publish.Tie as tie
 
-add-byte-place : tie.Need-add-byte-place
-add-byte-place c = search needs
-
-mul-byte-place : tie.Need-mul-byte-place
-mul-byte-place c = search needs
-
-add-byte-place-2 : tie.Need-add-byte-place-2
-add-byte-place-2 c = search needs
-
 byte-place-requires : tie.Need-byte-place-requires
 byte-place-requires c κs =
     let p = c .before .before .before .pre in
@@ -35,9 +26,6 @@ slice-write-shared c =
     let p = c .before .before .before .before .before .before .pre in
     omega (arith, c .before .byte-place2 .ensures, shared-fits _ _ (p .2) (p .3) (p .0))
 
-same-length : tie.Need-same-length
-same-length c = search needs
-
 returns : tie.Need-returns
 returns c =
     let p = c .before .before .before .before .before .before .pre in
@@ -46,13 +34,5 @@ returns c =
 pub publish-spec : {M : Type 1} → statement M
 publish-spec =
     tie.close
-    (tie.spec
-    add-byte-place
-    mul-byte-place
-    add-byte-place-2
-    byte-place-requires
-    byte-place-requires-2
-    shared-slice-read-shared
-    slice-write-shared
-    same-length
-    returns)
+    (tie.spec (λ c. search needs) (λ c. search needs) (λ c. search needs) byte-place-requires byte-place-requires-2 shared-slice-read-shared slice-write-shared
+    (λ c. search needs) returns)

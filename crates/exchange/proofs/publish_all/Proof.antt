@@ -52,14 +52,8 @@ add-word-2 c = omega (arith, record-here (c .before .before), few-cores (c .befo
 word-requires : tie.Need-word-requires Inv-loop μ-loop
 word-requires c κs = omega (arith, record-here (c .before .before), few-cores (c .before .before))
 
-cast-from : tie.Need-cast-from Inv-loop μ-loop
-cast-from c = search needs
-
 word-requires-2 : tie.Need-word-requires-2 Inv-loop μ-loop
 word-requires-2 c κs = omega (arith, record-here (c .before .before .before), few-cores (c .before .before .before))
-
-cast-to : tie.Need-cast-to Inv-loop μ-loop
-cast-to c = search needs
 
 add-copy : tie.Need-add-copy Inv-loop μ-loop
 add-copy c = omega (arith, record-here (c .before .before .before .before .before), few-cores (c .before .before .before .before .before))
@@ -132,24 +126,5 @@ returns c =
 pub publish-all-spec : {M : Type 1} → statement M
 publish-all-spec =
     tie.close
-    (tie.spec
-    Inv-loop
-    μ-loop
-    loop-holds
-    named-requires
-    add-word
-    mul-word
-    add-word-2
-    word-requires
-    cast-from
-    word-requires-2
-    cast-to
-    add-copy
-    shared-slice-read-copy
-    cast-copy
-    copy-requires
-    add-place
-    loop-less
-    loop-again
-    same-length
-    returns)
+    (tie.spec Inv-loop μ-loop loop-holds named-requires add-word mul-word add-word-2 word-requires (λ c. search needs) word-requires-2 (λ c. search needs)
+    add-copy shared-slice-read-copy cast-copy copy-requires add-place loop-less loop-again same-length returns)

@@ -13,20 +13,11 @@ use Rattle.exchange.proofs.Carrying.{shared-lies, writing-lies, shared-
 use Rattle.exchange.proofs.publish_bytes.Statement.{statement}
 use Rattle.exchange.proofs.publish_bytes.Tie as tie
 
-mul-carry : tie.Need-mul-carry
-mul-carry c = search needs
-
-add-carry : tie.Need-add-carry
-add-carry c = search needs
-
 carry-requires : tie.Need-carry-requires
 carry-requires c κs =
     let p = c .before .before .before .before .pre in
     let few = p .0 .few-cores in
     (p .0, p .2, omega (arith, p .1, few), omega (arith, p .1, few), omega arith, p .3, p .4, rw (p .5) (writing-lies _ (p .0) _ (p .1)), rw (p .6) (shared-lies _ (p .0) _ (p .1) _))
-
-same-length : tie.Need-same-length
-same-length c = search needs
 
 returns : tie.Need-returns
 returns c =
@@ -39,4 +30,4 @@ returns c =
     )
 
 pub publish-bytes-spec : {M : Type 1} → statement M
-publish-bytes-spec = tie.close (tie.spec mul-carry add-carry carry-requires same-length returns)
+publish-bytes-spec = tie.close (tie.spec (λ c. search needs) (λ c. search needs) carry-requires (λ c. search needs) returns)

@@ -37,13 +37,4 @@ returns-2 c = (c .before .loop .inv, λ h. absurd (let z : ⊥ = omega arith in 
 pub seek-spec : {M : Type 1} → statement M
 seek-spec =
     tie.close
-    (tie.spec
-    Inv-loop
-    μ-loop
-    loop-holds
-    named-requires
-    returns
-    add-place
-    loop-less
-    loop-again
-    returns-2)
+    (tie.spec Inv-loop μ-loop loop-holds named-requires returns add-place loop-less loop-again returns-2)

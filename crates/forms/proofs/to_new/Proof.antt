@@ -25,17 +25,8 @@ has-mark c = sym (c .before .is-old .ensures) ∙ not-false _ (c .if2 .left)
 accepted : (c : tie.Else3) → judge (c .before .before .before .before .before .before .before .args .f .now) ≡ 0
 accepted c = sym (c .before .judge-file .ensures) ∙ c .if3 .left
 
-nothing-written-requires : tie.Need-nothing-written-requires
-nothing-written-requires c κs = search needs
-
 returns : tie.Need-returns
 returns c = convert-refused _ (c .before .before .before .before .args .out .now) _ 1 _ (c .nothing-written .ensures) (new-short (c .before .before .before .before .args .f .now) _ (c .before .if1 .taken)) (λ e. absurd (let y : ⊥ = omega arith in y))
-
-is-old-requires : tie.Need-is-old-requires
-is-old-requires c κs = search needs
-
-nothing-written-requires-2 : tie.Need-nothing-written-requires-2
-nothing-written-requires-2 c κs = search needs
 
 returns-2 : tie.Need-returns-2
 returns-2 c =
@@ -44,12 +35,6 @@ returns-2 c =
     convert-refused _ (start .args .out .now) _ 2 _ (c .nothing-written2 .ensures)
     (new-mark (start .args .f .now) _ (else1 .if1 .left) (sym (c .before .before .is-old .ensures) ∙ not-true _ (c .before .if2 .taken)))
     (λ e. absurd (let y : ⊥ = omega arith in y))
-
-judge-file-requires : tie.Need-judge-file-requires
-judge-file-requires c κs = search needs
-
-nothing-written-requires-3 : tie.Need-nothing-written-requires-3
-nothing-written-requires-3 c κs = search needs
 
 returns-3 : tie.Need-returns-3
 returns-3 c =
@@ -61,21 +46,6 @@ returns-3 c =
     (new-file (start .args .f .now) _ (else1 .if1 .left) (has-mark else2) _ (c .before .before .judge-file .ensures) (then3 .if3 .taken))
     (then3 .if3 .taken)
 
-byte-at-requires : tie.Need-byte-at-requires
-byte-at-requires c κs = search needs
-
-cast-counts : tie.Need-cast-counts
-cast-counts c = search needs
-
-mul-counts : tie.Need-mul-counts
-mul-counts c = search needs
-
-add-if4 : tie.Need-add-if4
-add-if4 c = search needs
-
-nothing-written-requires-4 : tie.Need-nothing-written-requires-4
-nothing-written-requires-4 c κs = search needs
-
 returns-4 : tie.Need-returns-4
 returns-4 c =
     let else3 = c .before .before .before in
@@ -85,18 +55,6 @@ returns-4 c =
     convert-refused _ (start .args .out .now) _ 21 _ (c .nothing-written4 .ensures)
     (new-room (start .args .f .now) _ (else1 .if1 .left) (has-mark else2) (accepted else3) _ (c .before .before .byte-at .ensures)
     (c .before .if4 .taken)) (λ e. absurd (let y : ⊥ = omega arith in y))
-
-write-form-requires : tie.Need-write-form-requires
-write-form-requires c κs = search needs
-
-store-requires : tie.Need-store-requires
-store-requires c κs = search needs
-
-add-t7 : tie.Need-add-t7
-add-t7 c = search needs
-
-same-length : tie.Need-same-length
-same-length c = search needs
 
 returns-5 : tie.Need-returns-5
 returns-5 c =
@@ -117,23 +75,6 @@ returns-5 c =
 pub to-new-spec : {M : Type 1} → statement M
 to-new-spec =
     tie.close
-    (tie.spec
-    nothing-written-requires
-    returns
-    is-old-requires
-    nothing-written-requires-2
-    returns-2
-    judge-file-requires
-    nothing-written-requires-3
-    returns-3
-    byte-at-requires
-    cast-counts
-    mul-counts
-    add-if4
-    nothing-written-requires-4
-    returns-4
-    write-form-requires
-    store-requires
-    add-t7
-    same-length
-    returns-5)
+    (tie.spec (λ c κs. search needs) returns (λ c κs. search needs) (λ c κs. search needs) returns-2 (λ c κs. search needs) (λ c κs. search needs) returns-3
+    (λ c κs. search needs) (λ c. search needs) (λ c. search needs) (λ c. search needs) (λ c κs. search needs) returns-4 (λ c κs. search needs)
+    (λ c κs. search needs) (λ c. search needs) (λ c. search needs) returns-5)

@@ -30,17 +30,8 @@ accepted c = sym (c .before .judge-file .ensures) ∙ c .if3 .left
 code-end : (c : tie.After-code-place) → c .code-place .result ≡ startPlace (c .before .before .before .before .before .before .before .before .before .args .f .now) 0
 code-end c = end-is (c .before .before .before .before .before .before .before .before .before .args .f .now) _ _ (c .code-place .ensures .0) (c .before .byte-at .ensures)
 
-nothing-written-requires : tie.Need-nothing-written-requires
-nothing-written-requires c κs = search needs
-
 returns : tie.Need-returns
 returns c = convert-refused _ (c .before .before .before .before .args .out .now) _ 1 _ (c .nothing-written .ensures) (old-short (c .before .before .before .before .args .f .now) _ (c .before .if1 .taken)) (λ e. absurd (let y : ⊥ = omega arith in y))
-
-is-new-requires : tie.Need-is-new-requires
-is-new-requires c κs = search needs
-
-nothing-written-requires-2 : tie.Need-nothing-written-requires-2
-nothing-written-requires-2 c κs = search needs
 
 returns-2 : tie.Need-returns-2
 returns-2 c =
@@ -49,12 +40,6 @@ returns-2 c =
     convert-refused _ (start .args .out .now) _ 2 _ (c .nothing-written2 .ensures)
     (old-mark (start .args .f .now) _ (else1 .if1 .left) (sym (c .before .before .is-new .ensures) ∙ not-true _ (c .before .if2 .taken)))
     (λ e. absurd (let y : ⊥ = omega arith in y))
-
-judge-file-requires : tie.Need-judge-file-requires
-judge-file-requires c κs = search needs
-
-nothing-written-requires-3 : tie.Need-nothing-written-requires-3
-nothing-written-requires-3 c κs = search needs
 
 returns-3 : tie.Need-returns-3
 returns-3 c =
@@ -66,23 +51,8 @@ returns-3 c =
     (old-file (start .args .f .now) _ (else1 .if1 .left) (has-mark else2) _ (c .before .before .judge-file .ensures) (then3 .if3 .taken))
     (then3 .if3 .taken)
 
-byte-at-requires : tie.Need-byte-at-requires
-byte-at-requires c κs = search needs
-
-cast-n : tie.Need-cast-n
-cast-n c = search needs
-
 code-place-requires : tie.Need-code-place-requires
 code-place-requires c κs = omega (arith, c .byte-at .ensures, keeps-rules (c .before .before .before .before .before .before .before .before .args .f .now) (accepted (c .before)) .most-cores)
-
-mul-if4 : tie.Need-mul-if4
-mul-if4 c = search needs
-
-add-if4 : tie.Need-add-if4
-add-if4 c = search needs
-
-nothing-written-requires-4 : tie.Need-nothing-written-requires-4
-nothing-written-requires-4 c κs = search needs
 
 returns-4 : tie.Need-returns-4
 returns-4 c =
@@ -95,9 +65,6 @@ returns-4 c =
     convert-refused _ (start .args .out .now) _ 32 _ (c .nothing-written4 .ensures)
     (old-starts f _ (else1 .if1 .left) (has-mark else2) (accepted else3) _ _ (after-byte-at .byte-at .ensures) (code-end (c .before .before))
     (c .before .if4 .taken)) (λ e. absurd (let y : ⊥ = omega arith in y))
-
-nothing-written-requires-5 : tie.Need-nothing-written-requires-5
-nothing-written-requires-5 c κs = search needs
 
 returns-5 : tie.Need-returns-5
 returns-5 c =
@@ -123,9 +90,6 @@ write-form-requires c κs =
       c .before .before .if5 .left,
     )
 
-same-length : tie.Need-same-length
-same-length c = search needs
-
 returns-6 : tie.Need-returns-6
 returns-6 c =
     let else5 = c .before .before .before .before .before in
@@ -146,24 +110,6 @@ returns-6 c =
 pub to-old-spec : {M : Type 1} → statement M
 to-old-spec =
     tie.close
-    (tie.spec
-    nothing-written-requires
-    returns
-    is-new-requires
-    nothing-written-requires-2
-    returns-2
-    judge-file-requires
-    nothing-written-requires-3
-    returns-3
-    byte-at-requires
-    cast-n
-    code-place-requires
-    mul-if4
-    add-if4
-    nothing-written-requires-4
-    returns-4
-    nothing-written-requires-5
-    returns-5
-    write-form-requires
-    same-length
-    returns-6)
+    (tie.spec (λ c κs. search needs) returns (λ c κs. search needs) (λ c κs. search needs) returns-2 (λ c κs. search needs) (λ c κs. search needs) returns-3
+    (λ c κs. search needs) (λ c. search needs) code-place-requires (λ c. search needs) (λ c. search needs) (λ c κs. search needs) returns-4
+    (λ c κs. search needs) returns-5 write-form-requires (λ c. search needs) returns-6)

@@ -12,18 +12,6 @@ use Rattle.forms.proofs.write_form.Reads as reads
 use Rattle.forms.proofs.write_form.Lts as lts
 use Rattle.memory.proofs.copy.Reads as copy-reads
 
-copy-requires : tie.Need-copy-requires
-copy-requires c κs = search needs
-
-sub-copy : tie.Need-sub-copy
-sub-copy c = search needs
-
-copy-requires-2 : tie.Need-copy-requires-2
-copy-requires-2 c κs = search needs
-
-same-length : tie.Need-same-length
-same-length c = search needs
-
 returns : tie.Need-returns
 returns c =
     let after-copy = c .before .before .before .before .before .before in
@@ -33,4 +21,4 @@ returns c =
     (after-copy .copy .ensures ∙ ap (splice (start .args .out .now) 0) (whole-mark (start .args .mark .now) (omega arith)))
 
 pub write-form-spec : {M : Type 1} → statement M
-write-form-spec = tie.close (tie.spec copy-requires sub-copy copy-requires-2 same-length returns)
+write-form-spec = tie.close (tie.spec (λ c κs. search needs) (λ c. search needs) (λ c κs. search needs) (λ c. search needs) returns)

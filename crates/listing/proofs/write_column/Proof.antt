@@ -8,15 +8,6 @@ use borrow.Author.Needs.{needs}
 use Rattle.listing.proofs.write_column.Statement.{statement}
 use Rattle.listing.proofs.write_column.Tie as tie
 
-write-decimal-requires : tie.Need-write-decimal-requires
-write-decimal-requires c κs = search needs
-
-put-byte-requires : tie.Need-put-byte-requires
-put-byte-requires c κs = search needs
-
-same-length : tie.Need-same-length
-same-length c = search needs
-
 returns : tie.Need-returns
 unfolding column
 returns c =
@@ -30,4 +21,4 @@ returns c =
     (w .0, w .1, omega arith)
 
 pub write-column-spec : {M : Type 1} → statement M
-write-column-spec = tie.close (tie.spec write-decimal-requires put-byte-requires same-length returns)
+write-column-spec = tie.close (tie.spec (λ c κs. search needs) (λ c κs. search needs) (λ c. search needs) returns)

@@ -8,24 +8,6 @@ use borrow.Author.Needs.{needs}
 use Rattle.listing.proofs.write_head.Statement.{statement}
 use Rattle.listing.proofs.write_head.Tie as tie
 
-slice-aggregate-write-text : tie.Need-slice-aggregate-write-text
-slice-aggregate-write-text c = search needs
-
-write-text-requires : tie.Need-write-text-requires
-write-text-requires c κs = search needs
-
-write-lines-requires : tie.Need-write-lines-requires
-write-lines-requires c κs = search needs
-
-slice-aggregate-write-text-2 : tie.Need-slice-aggregate-write-text-2
-slice-aggregate-write-text-2 c = search needs
-
-write-text-requires-2 : tie.Need-write-text-requires-2
-write-text-requires-2 c κs = search needs
-
-same-length : tie.Need-same-length
-same-length c = search needs
-
 returns : tie.Need-returns
 unfolding head header orderWord
 returns c =
@@ -44,11 +26,4 @@ returns c =
 pub write-head-spec : {M : Type 1} → statement M
 write-head-spec =
     tie.close
-    (tie.spec
-    slice-aggregate-write-text
-    write-text-requires
-    write-lines-requires
-    slice-aggregate-write-text-2
-    write-text-requires-2
-    same-length
-    returns)
+    (tie.spec (λ c. search needs) (λ c κs. search needs) (λ c κs. search needs) (λ c. search needs) (λ c κs. search needs) (λ c. search needs) returns)

@@ -7,33 +7,6 @@ use borrow.Author.Needs.{needs}
 use Rattle.listing.proofs.write_line.Statement.{statement}
 use Rattle.listing.proofs.write_line.Tie as tie
 
-cast-core : tie.Need-cast-core
-cast-core c = search needs
-
-cast-mode : tie.Need-cast-mode
-cast-mode c = search needs
-
-cast-flags : tie.Need-cast-flags
-cast-flags c = search needs
-
-write-column-requires : tie.Need-write-column-requires
-write-column-requires c κs = search needs
-
-write-column-requires-2 : tie.Need-write-column-requires-2
-write-column-requires-2 c κs = search needs
-
-write-column-requires-3 : tie.Need-write-column-requires-3
-write-column-requires-3 c κs = search needs
-
-write-column-requires-4 : tie.Need-write-column-requires-4
-write-column-requires-4 c κs = search needs
-
-write-column-requires-5 : tie.Need-write-column-requires-5
-write-column-requires-5 c κs = search needs
-
-same-length : tie.Need-same-length
-same-length c = search needs
-
 returns : tie.Need-returns
 unfolding coreLine
 returns c =
@@ -55,14 +28,5 @@ returns c =
 pub write-line-spec : {M : Type 1} → statement M
 write-line-spec =
     tie.close
-    (tie.spec
-    cast-core
-    cast-mode
-    cast-flags
-    write-column-requires
-    write-column-requires-2
-    write-column-requires-3
-    write-column-requires-4
-    write-column-requires-5
-    same-length
-    returns)
+    (tie.spec (λ c. search needs) (λ c. search needs) (λ c. search needs) (λ c κs. search needs) (λ c κs. search needs) (λ c κs. search needs)
+    (λ c κs. search needs) (λ c κs. search needs) (λ c. search needs) returns)

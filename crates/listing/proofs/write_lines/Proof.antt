@@ -20,26 +20,11 @@ Inv-loop out₀ at n cores lines next₀ k₀ out next k =
 abbrev μ-loop : tie.MeasureT-loop
 μ-loop out₀ at n cores lines next₀ k₀ out next k = lines - k
 
-cores-of-requires : tie.Need-cores-of-requires Inv-loop μ-loop
-cores-of-requires c κs = search needs
-
-lesser-requires : tie.Need-lesser-requires Inv-loop μ-loop
-lesser-requires c κs = search needs
-
 loop-holds : tie.Need-loop-holds Inv-loop μ-loop
 loop-holds c = (omega arith, search needs, omega arith, writing-start _ _ _)
 
-mul-write-line : tie.Need-mul-write-line Inv-loop μ-loop
-mul-write-line c = search needs
-
-array-copy-out-write-line : tie.Need-array-copy-out-write-line Inv-loop μ-loop
-array-copy-out-write-line c = search needs
-
 write-line-requires : tie.Need-write-line-requires Inv-loop μ-loop
 write-line-requires c κs = (omega arith, omega arith)
-
-add-k : tie.Need-add-k Inv-loop μ-loop
-add-k c = search needs
 
 loop-less : tie.Need-loop-less Inv-loop μ-loop
 loop-less c = omega arith
@@ -60,9 +45,6 @@ loop-again c = (
       (after-write-line .write-line .ensures .0) (after-write-line .write-line .ensures .1),
 )
 
-same-length : tie.Need-same-length Inv-loop μ-loop
-same-length c = search needs
-
 returns : tie.Need-returns Inv-loop μ-loop
 returns c =
     let w = writing-end (c .before .loop .inv .3) (last-line (c .before .before .before .cores-of .result) (c .before .before .before .before .before .args .n) (c .before .loop .k) (omega (arith, c .before .before .before .cores-of .ensures .1))) in
@@ -71,17 +53,5 @@ returns c =
 pub write-lines-spec : {M : Type 1} → statement M
 write-lines-spec =
     tie.close
-    (tie.spec
-    Inv-loop
-    μ-loop
-    cores-of-requires
-    lesser-requires
-    loop-holds
-    mul-write-line
-    array-copy-out-write-line
-    write-line-requires
-    add-k
-    loop-less
-    loop-again
-    same-length
-    returns)
+    (tie.spec Inv-loop μ-loop (λ c κs. search needs) (λ c κs. search needs) loop-holds (λ c. search needs) (λ c. search needs) write-line-requires
+    (λ c. search needs) loop-less loop-again (λ c. search needs) returns)

@@ -11,27 +11,12 @@ use borrow.Author.Needs.{needs}
 use Rattle.listing.proofs.write_listing.Statement.{statement}
 use Rattle.listing.proofs.write_listing.Tie as tie
 
-slice-aggregate-write-head : tie.Need-slice-aggregate-write-head
-slice-aggregate-write-head c = search needs
-
-write-head-requires : tie.Need-write-head-requires
-write-head-requires c κs = search needs
-
 returns : tie.Need-returns
 returns c =
     let measured = c .before .before in
     let a = measured .before .before .before .before .args in
     text-short (listing (a .n) (a .s) (take (a .taken) (a .list .now))) (a .out .now)
     (omega (arith, length-listing (a .n) (a .s) (a .list .now) (a .taken), measured .write-head .ensures .1, c .if1 .taken))
-
-lesser-requires : tie.Need-lesser-requires
-lesser-requires c κs = search needs
-
-sub-if2 : tie.Need-sub-if2
-sub-if2 c = search needs
-
-sub-if2-2 : tie.Need-sub-if2-2
-sub-if2-2 c = search needs
 
 returns-2 : tie.Need-returns-2
 returns-2 c =
@@ -41,9 +26,6 @@ returns-2 c =
     let a = measured .before .before .before .before .args in
     text-short (listing (a .n) (a .s) (take (a .taken) (a .list .now))) (a .out .now)
     (omega (arith, length-listing (a .n) (a .s) (a .list .now) (a .taken), measured .write-head .ensures .1, room .if1 .left, counted .lesser .ensures, c .if2 .taken))
-
-write-head-requires-2 : tie.Need-write-head-requires-2
-write-head-requires-2 c κs = search needs
 
 write-takings-requires : tie.Need-write-takings-requires
 write-takings-requires c κs =
@@ -63,9 +45,6 @@ put-byte-requires c κs =
     let room = counted .before in
     let measured = room .before .before in
     omega (arith, measured .before .before .before .before .good, listed .write-takings .ensures .2, measured .write-head .ensures .1, wrote .write-head2 .ensures .1, room .if1 .left, counted .lesser .ensures, fits .if2 .left)
-
-same-length : tie.Need-same-length
-same-length c = search needs
 
 returns-3 : tie.Need-returns-3
 returns-3 c =
@@ -91,16 +70,5 @@ returns-3 c =
 pub write-listing-spec : {M : Type 1} → statement M
 write-listing-spec =
     tie.close
-    (tie.spec
-    slice-aggregate-write-head
-    write-head-requires
-    returns
-    lesser-requires
-    sub-if2
-    sub-if2-2
-    returns-2
-    write-head-requires-2
-    write-takings-requires
-    put-byte-requires
-    same-length
-    returns-3)
+    (tie.spec (λ c. search needs) (λ c κs. search needs) returns (λ c κs. search needs) (λ c. search needs) (λ c. search needs) returns-2 (λ c κs. search needs)
+    write-takings-requires put-byte-requires (λ c. search needs) returns-3)

@@ -10,15 +10,6 @@ returns : tie.Need-returns
 unfolding longText
 returns c = text-short longText (c .before .before .args .out .now) (omega arith)
 
-slice-aggregate-write-text : tie.Need-slice-aggregate-write-text
-slice-aggregate-write-text c = search needs
-
-write-text-requires : tie.Need-write-text-requires
-write-text-requires c κs = search needs
-
-same-length : tie.Need-same-length
-same-length c = search needs
-
 returns-2 : tie.Need-returns-2
 unfolding longText
 returns-2 c =
@@ -29,4 +20,4 @@ returns-2 c =
 pub write-long-spec : {M : Type 1} → statement M
 write-long-spec =
     tie.close
-    (tie.spec returns slice-aggregate-write-text write-text-requires same-length returns-2)
+    (tie.spec returns (λ c. search needs) (λ c κs. search needs) (λ c. search needs) returns-2)

@@ -7,18 +7,6 @@ use borrow.Author.Needs.{needs}
 use Rattle.listing.proofs.write_number.Statement.{statement}
 use Rattle.listing.proofs.write_number.Tie as tie
 
-slice-aggregate-write-text : tie.Need-slice-aggregate-write-text
-slice-aggregate-write-text c = search needs
-
-write-text-requires : tie.Need-write-text-requires
-write-text-requires c κs = search needs
-
-write-column-requires : tie.Need-write-column-requires
-write-column-requires c κs = search needs
-
-same-length : tie.Need-same-length
-same-length c = search needs
-
 returns : tie.Need-returns
 unfolding refusedText
 returns c =
@@ -32,9 +20,4 @@ returns c =
 pub write-number-spec : {M : Type 1} → statement M
 write-number-spec =
     tie.close
-    (tie.spec
-    slice-aggregate-write-text
-    write-text-requires
-    write-column-requires
-    same-length
-    returns)
+    (tie.spec (λ c. search needs) (λ c κs. search needs) (λ c κs. search needs) (λ c. search needs) returns)

@@ -10,24 +10,6 @@ use borrow.Author.Needs.{needs}
 use Rattle.listing.proofs.write_taking.Statement.{statement}
 use Rattle.listing.proofs.write_taking.Tie as tie
 
-put-byte-requires : tie.Need-put-byte-requires
-put-byte-requires c κs = search needs
-
-add-put-byte : tie.Need-add-put-byte
-add-put-byte c = search needs
-
-put-byte-requires-2 : tie.Need-put-byte-requires-2
-put-byte-requires-2 c κs = search needs
-
-kind-of-requires : tie.Need-kind-of-requires
-kind-of-requires c κs = search needs
-
-put-byte-requires-3 : tie.Need-put-byte-requires-3
-put-byte-requires-3 c κs = search needs
-
-same-length : tie.Need-same-length
-same-length c = search needs
-
 returns : tie.Need-returns
 unfolding takingText
 returns c =
@@ -48,11 +30,4 @@ returns c =
 pub write-taking-spec : {M : Type 1} → statement M
 write-taking-spec =
     tie.close
-    (tie.spec
-    put-byte-requires
-    add-put-byte
-    put-byte-requires-2
-    kind-of-requires
-    put-byte-requires-3
-    same-length
-    returns)
+    (tie.spec (λ c κs. search needs) (λ c. search needs) (λ c κs. search needs) (λ c κs. search needs) (λ c κs. search needs) (λ c. search needs) returns)

@@ -21,9 +21,6 @@ Inv-loop out₀ at list taken takings next₀ i₀ out next i =
 abbrev μ-loop : tie.MeasureT-loop
 μ-loop out₀ at list taken takings next₀ i₀ out next i = takings - i
 
-lesser-requires : tie.Need-lesser-requires Inv-loop μ-loop
-lesser-requires c κs = search needs
-
 loop-holds : tie.Need-loop-holds Inv-loop μ-loop
 loop-holds c = (omega arith, search needs, omega arith, writing-start _ _ _)
 
@@ -32,9 +29,6 @@ shared-slice-read-write-taking c = omega arith
 
 write-taking-requires : tie.Need-write-taking-requires Inv-loop μ-loop
 write-taking-requires c κs = omega arith
-
-add-i : tie.Need-add-i Inv-loop μ-loop
-add-i c = search needs
 
 loop-less : tie.Need-loop-less Inv-loop μ-loop
 loop-less c = omega arith
@@ -54,9 +48,6 @@ loop-again c = (
       (after-write-taking .write-taking .ensures .1 ∙ ap (λ (n : ℕ). turn .loop .next + n) (length-taking (getD list (turn .loop .i) 0))),
 )
 
-same-length : tie.Need-same-length Inv-loop μ-loop
-same-length c = search needs
-
 returns : tie.Need-returns Inv-loop μ-loop
 returns c =
     let w = writing-end (c .before .loop .inv .3) (last-taking (c .before .before .before .before .before .args .list .now) (c .before .before .before .before .before .args .taken) (c .before .loop .i) (omega arith)) in
@@ -65,15 +56,5 @@ returns c =
 pub write-takings-spec : {M : Type 1} → statement M
 write-takings-spec =
     tie.close
-    (tie.spec
-    Inv-loop
-    μ-loop
-    lesser-requires
-    loop-holds
-    shared-slice-read-write-taking
-    write-taking-requires
-    add-i
-    loop-less
-    loop-again
-    same-length
-    returns)
+    (tie.spec Inv-loop μ-loop (λ c κs. search needs) loop-holds shared-slice-read-write-taking write-taking-requires (λ c. search needs) loop-less loop-again
+    (λ c. search needs) returns)

@@ -23,12 +23,6 @@ loop-holds c = (omega arith, refl, omega arith, writing-start _ _ _)
 shared-slice-read-put-byte : tie.Need-shared-slice-read-put-byte Inv-loop μ-loop
 shared-slice-read-put-byte c = omega arith
 
-put-byte-requires : tie.Need-put-byte-requires Inv-loop μ-loop
-put-byte-requires c κs = search needs
-
-add-i : tie.Need-add-i Inv-loop μ-loop
-add-i c = search needs
-
 loop-less : tie.Need-loop-less Inv-loop μ-loop
 loop-less c = omega arith
 
@@ -46,13 +40,10 @@ loop-again c = (
       (turn .loop .inv .3) (one-of text (turn .loop .i) 0 h) (after-put .put-byte .ensures .0) (after-put .put-byte .ensures .1),
 )
 
-same-length : tie.Need-same-length Inv-loop μ-loop
-same-length c = search needs
-
 returns : tie.Need-returns Inv-loop μ-loop
 returns c = writing-end (c .before .loop .inv .3) (drop-of-length-le (c .before .before .before .before .args .text .now) {i = c .before .loop .i} (omega arith))
 
 pub write-text-spec : {M : Type 1} → statement M
 write-text-spec =
     tie.close
-    (tie.spec Inv-loop μ-loop loop-holds shared-slice-read-put-byte put-byte-requires add-i loop-less loop-again same-length returns)
+    (tie.spec Inv-loop μ-loop loop-holds shared-slice-read-put-byte (λ c κs. search needs) (λ c. search needs) loop-less loop-again (λ c. search needs) returns)

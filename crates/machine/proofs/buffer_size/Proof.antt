@@ -9,9 +9,6 @@ use Rattle.taskset.proofs.Loading.{file-judged, file-accepted, file-laid}
 use Rattle.machine.proofs.buffer_size.Statement.{statement}
 use Rattle.machine.proofs.buffer_size.Tie as tie
 
-load-file-requires : tie.Need-load-file-requires
-load-file-requires c κs = search needs
-
 returns : tie.Need-returns
 unfolding bufferSize
 returns c = (sym (pick-false _ _ _ (ne-eqb _ _ (λ e. c .if1 .taken (file-judged (c .before .before .before .before .args .file .now) _ (c .before .before .load-file .ensures) ∙ e)))), omega arith)
@@ -25,4 +22,4 @@ returns-2 c =
     (c .sum-of-sizes .ensures .0 ∙ sym (pick-true _ _ _ (eq-eqb _ _ (file-accepted (c .before .before .before .before .before .args .file .now) _ (c .before .before .before .load-file .ensures) (c .before .if1 .left)))), c .sum-of-sizes .ensures .1)
 
 pub buffer-size-spec : {M : Type 1} → statement M
-buffer-size-spec = tie.close (tie.spec load-file-requires returns sum-of-sizes-requires returns-2)
+buffer-size-spec = tie.close (tie.spec (λ c κs. search needs) returns sum-of-sizes-requires returns-2)

@@ -10,12 +10,6 @@ use borrow.Author.Needs.{needs}
 use Rattle.machine.proofs.next_core.Statement.{statement}
 use Rattle.machine.proofs.next_core.Tie as tie
 
-load-file-requires : tie.Need-load-file-requires
-load-file-requires c κs = search needs
-
-slice-aggregate-judge-call : tie.Need-slice-aggregate-judge-call
-slice-aggregate-judge-call c = search needs
-
 judge-call-requires : tie.Need-judge-call-requires
 judge-call-requires c κs = λ z. (file-accepted _ _ (c .before .load-file .ensures) z, file-laid _ _ (c .before .load-file .ensures) z)
 
@@ -47,10 +41,4 @@ returns-2 c =
 pub next-core-spec : {M : Type 1} → statement M
 next-core-spec =
     tie.close
-    (tie.spec
-    load-file-requires
-    slice-aggregate-judge-call
-    judge-call-requires
-    returns
-    next-moving-requires
-    returns-2)
+    (tie.spec (λ c κs. search needs) (λ c. search needs) judge-call-requires returns next-moving-requires returns-2)

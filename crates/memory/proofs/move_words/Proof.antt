@@ -93,26 +93,5 @@ returns c = sym (copy-done _ _ _ _ _ _ (omega arith)) ∙ c .before .loop2 .inv 
 pub move-words-spec : {M : Type 1} → statement M
 move-words-spec =
     tie.close
-    (tie.spec
-    Inv-loop
-    μ-loop
-    Inv-loop2
-    μ-loop2
-    loop-holds
-    sub-loop
-    add-move-word
-    add-move-word-2
-    move-word-requires
-    add-i
-    loop-less
-    loop-again
-    loop2-holds
-    add-d
-    slice-read-d
-    add-d-2
-    slice-write-d
-    add-i-2
-    loop2-less
-    loop2-again
-    same-length
-    returns)
+    (tie.spec Inv-loop μ-loop Inv-loop2 μ-loop2 loop-holds sub-loop add-move-word add-move-word-2 move-word-requires add-i loop-less loop-again loop2-holds
+    add-d slice-read-d add-d-2 slice-write-d add-i-2 loop2-less loop2-again same-length returns)

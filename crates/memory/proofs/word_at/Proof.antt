@@ -13,29 +13,14 @@ returns : tie.Need-returns
 returns c = (sym (read-beyond _ _ 2 (c .if1 .taken)), omega arith)
 
 -- src/lib.rt:24:15
-shared-slice-read-low : tie.Need-shared-slice-read-low
-shared-slice-read-low c = search needs
-
 -- src/lib.rt:24:15
 cast-low : tie.Need-cast-low
 cast-low c = omega (arith, c .shared-slice-known2 .given (c .before .before .before .args .place))
 
 -- src/lib.rt:25:27
-add-byte-at : tie.Need-add-byte-at
-add-byte-at c = search needs
-
 -- src/lib.rt:25:16
-byte-at-requires : tie.Need-byte-at-requires
-byte-at-requires c κs = search needs
-
 -- src/lib.rt:25:16
-cast-high : tie.Need-cast-high
-cast-high c = search needs
-
 -- src/lib.rt:26:11
-mul-result : tie.Need-mul-result
-mul-result c = search needs
-
 -- src/lib.rt:26:5
 add-result : tie.Need-add-result
 add-result c = omega (arith, c .before .shared-slice-known2 .given (c .before .before .before .before .args .place), c .byte-at .ok)
@@ -50,13 +35,4 @@ returns-2 c = (
 pub word-at-spec : {M : Type 1} → statement M
 word-at-spec =
     tie.close
-    (tie.spec
-    returns
-    shared-slice-read-low
-    cast-low
-    add-byte-at
-    byte-at-requires
-    cast-high
-    mul-result
-    add-result
-    returns-2)
+    (tie.spec returns (λ c. search needs) cast-low (λ c. search needs) (λ c κs. search needs) (λ c. search needs) (λ c. search needs) add-result returns-2)

@@ -5,9 +5,6 @@ use borrow.Author.Needs.{needs}
 use Rattle.order.proofs.core_at.Statement.{statement}
 use Rattle.order.proofs.core_at.Tie as tie
 
-shared-slice-read-result : tie.Need-shared-slice-read-result
-shared-slice-read-result c = search needs
-
 cast-result : tie.Need-cast-result
 cast-result c = omega (arith, c .shared-slice-known .given (c .before .args .i))
 
@@ -17,4 +14,4 @@ returns c =
     (refl, below, omega arith)
 
 pub core-at-spec : {M : Type 1} → statement M
-core-at-spec = tie.close (tie.spec shared-slice-read-result cast-result returns)
+core-at-spec = tie.close (tie.spec (λ c. search needs) cast-result returns)

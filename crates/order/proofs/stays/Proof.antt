@@ -8,9 +8,6 @@ use Rattle.order.proofs.stays.Tie as tie
 returns : tie.Need-returns
 returns c = rw (le-ltb _ _ (c .if1 .taken))
 
-shared-slice-read-result : tie.Need-shared-slice-read-result
-shared-slice-read-result c = search needs
-
 cast-result : tie.Need-cast-result
 cast-result c = omega (arith, c .shared-slice-known .given (c .before .before .args .i))
 
@@ -18,4 +15,4 @@ returns-2 : tie.Need-returns-2
 returns-2 c = rw (lt-ltb _ _ (c .before .if1 .left))
 
 pub stays-spec : {M : Type 1} → statement M
-stays-spec = tie.close (tie.spec returns shared-slice-read-result cast-result returns-2)
+stays-spec = tie.close (tie.spec returns (λ c. search needs) cast-result returns-2)

@@ -8,27 +8,6 @@ use Rattle.processor.proofs.Inside.{inside, both-inside, select-both}
 use Rattle.processor.proofs.access_element.Tie as tie
 use Rattle.processor.proofs.access_element.Statement.{statement}
 
-cast-p : tie.Need-cast-p
-cast-p c = search needs
-
-add-operand : tie.Need-add-operand
-add-operand c = search needs
-
-operand-requires : tie.Need-operand-requires
-operand-requires c κs = search needs
-
-add-operand-2 : tie.Need-add-operand-2
-add-operand-2 c = search needs
-
-operand-requires-2 : tie.Need-operand-requires-2
-operand-requires-2 c κs = search needs
-
-add-size : tie.Need-add-size
-add-size c = search needs
-
-shared-slice-read-size : tie.Need-shared-slice-read-size
-shared-slice-read-size c = search needs
-
 cast-size : tie.Need-cast-size
 cast-size c = omega (arith, width-le (c .before .before .before .before .before .before .pre .2))
 
@@ -46,15 +25,6 @@ returns c =
 word-requires : tie.Need-word-requires
 word-requires c κs = both-inside _ _ _ _ _ (sym (c .before .before .any-beyond .ensures) ∙ c .before .if1 .left) .1
 
-add-word : tie.Need-add-word
-add-word c = search needs
-
-word-requires-2 : tie.Need-word-requires-2
-word-requires-2 c κs = search needs
-
-same-length : tie.Need-same-length
-same-length c = search needs
-
 returns-2 : tie.Need-returns-2
 returns-2 c =
     let else1 = c .before .before .before .before in
@@ -65,20 +35,11 @@ returns-2 c =
     element-index _ _ _ _ _ _ _ _ _ (start .pre .0) (start .pre .1 .here) (after-operand .operand .ensures .0) (after-operand2 .operand2 .ensures .0)
     (after-any-beyond .any-beyond .ensures) (else1 .if1 .left) (c .before .before .word .ensures) (c .before .word2 .ensures) (c .if2 .taken)
 
-add-operand-3 : tie.Need-add-operand-3
-add-operand-3 c = search needs
-
-operand-requires-3 : tie.Need-operand-requires-3
-operand-requires-3 c κs = search needs
-
 element-place-requires : tie.Need-element-place-requires
 element-place-requires c κs = (c .operand3 .ensures .1, width-le (c .before .before .before .before .before .before .before .before .before .before .before .before .before .pre .2))
 
 is-beyond-requires : tie.Need-is-beyond-requires
 is-beyond-requires c κs = (c .element-place .ensures .1, omega (arith, width-le (c .before .before .before .before .before .before .before .before .before .before .before .before .before .before .pre .2)))
-
-same-length-2 : tie.Need-same-length-2
-same-length-2 c = search needs
 
 returns-3 : tie.Need-returns-3
 returns-3 c =
@@ -94,12 +55,6 @@ returns-3 c =
     element-outside _ _ _ _ _ _ _ _ _ _ _ _ (start .pre .0) (start .pre .1 .here) (after-operand .operand .ensures .0) (after-operand2 .operand2 .ensures .0)
     (after-any-beyond .any-beyond .ensures) (else1 .if1 .left) (after-word .word .ensures) (after-word2 .word2 .ensures) (else2 .if2 .left)
     (after-operand3 .operand3 .ensures .0) (c .before .before .element-place .ensures .0) (c .before .is-beyond .ensures) (c .if3 .taken)
-
-select-requires : tie.Need-select-requires
-select-requires c κs = search needs
-
-select-requires-2 : tie.Need-select-requires-2
-select-requires-2 c κs = search needs
 
 copy-element-requires : tie.Need-copy-element-requires
 copy-element-requires c κs =
@@ -119,9 +74,6 @@ add-t18 : tie.Need-add-t18
 add-t18 c =
     let start = c .before .before .before .before .before .before .before .before .before .before .before .before .before .before .before .before .before .before .before .before .before .before .before in
     omega (arith, start .pre .1 .whole, start .pre .1 .short)
-
-same-length-3 : tie.Need-same-length-3
-same-length-3 c = search needs
 
 returns-4 : tie.Need-returns-4
 returns-4 c =
@@ -148,31 +100,7 @@ returns-4 c =
 pub access-element-spec : {M : Type 1} → statement M
 access-element-spec =
     tie.close
-    (tie.spec
-    cast-p
-    add-operand
-    operand-requires
-    add-operand-2
-    operand-requires-2
-    add-size
-    shared-slice-read-size
-    cast-size
-    any-beyond-requires
-    returns
-    word-requires
-    add-word
-    word-requires-2
-    same-length
-    returns-2
-    add-operand-3
-    operand-requires-3
-    element-place-requires
-    is-beyond-requires
-    same-length-2
-    returns-3
-    select-requires
-    select-requires-2
-    copy-element-requires
-    add-t18
-    same-length-3
-    returns-4)
+    (tie.spec (λ c. search needs) (λ c. search needs) (λ c κs. search needs) (λ c. search needs) (λ c κs. search needs) (λ c. search needs) (λ c. search needs)
+    cast-size any-beyond-requires returns word-requires (λ c. search needs) (λ c κs. search needs) (λ c. search needs) returns-2 (λ c. search needs)
+    (λ c κs. search needs) element-place-requires is-beyond-requires (λ c. search needs) returns-3 (λ c κs. search needs) (λ c κs. search needs)
+    copy-element-requires add-t18 (λ c. search needs) returns-4)

@@ -6,32 +6,11 @@ use Rattle.processor.proofs.Inside.{stored-copy}
 use Rattle.processor.proofs.copy_element.Tie as tie
 use Rattle.processor.proofs.copy_element.Statement.{statement}
 
-load-requires : tie.Need-load-requires
-load-requires c κs = search needs
-
-store-requires : tie.Need-store-requires
-store-requires c κs = search needs
-
-load-requires-2 : tie.Need-load-requires-2
-load-requires-2 c κs = search needs
-
-store-requires-2 : tie.Need-store-requires-2
-store-requires-2 c κs = search needs
-
-load-requires-3 : tie.Need-load-requires-3
-load-requires-3 c κs = search needs
-
-store-requires-3 : tie.Need-store-requires-3
-store-requires-3 c κs = search needs
-
 load-requires-4 : tie.Need-load-requires-4
 load-requires-4 c κs = let e = last-width (c .before .before .before .before .pre .0) (c .before .before .match .rest .0 .0 .1) (c .before .before .match .rest .0 .1) (c .before .before .match .rest .1) in (omega arith, omega arith)
 
 store-requires-4 : tie.Need-store-requires-4
 store-requires-4 c κs = let e = last-width (c .before .before .before .before .before .pre .0) (c .before .before .before .match .rest .0 .0 .1) (c .before .before .before .match .rest .0 .1) (c .before .before .before .match .rest .1) in omega arith
-
-same-length : tie.Need-same-length
-same-length c = search needs
 
 returns : tie.Need-returns
 returns c =
@@ -42,9 +21,6 @@ returns c =
     stored-copy _ _ _ _ _ _ _ (known .slice-known .given) (start .pre .2) (matched .match .keys1) (after-load .load .ensures .0)
     (c .before .before .store .ensures)
 
-same-length-2 : tie.Need-same-length-2
-same-length-2 c = search needs
-
 returns-2 : tie.Need-returns-2
 returns-2 c =
     let after-load2 = c .before .before .before in
@@ -54,9 +30,6 @@ returns-2 c =
     stored-copy _ _ _ _ _ _ _ (known .slice-known .given) (start .pre .2) (matched .match .keys2) (after-load2 .load2 .ensures .0)
     (c .before .before .store2 .ensures)
 
-same-length-3 : tie.Need-same-length-3
-same-length-3 c = search needs
-
 returns-3 : tie.Need-returns-3
 returns-3 c =
     let after-load3 = c .before .before .before in
@@ -65,9 +38,6 @@ returns-3 c =
     let start = known .before in
     stored-copy _ _ _ _ _ _ _ (known .slice-known .given) (start .pre .2) (matched .match .keys3) (after-load3 .load3 .ensures .0)
     (c .before .before .store3 .ensures)
-
-same-length-4 : tie.Need-same-length-4
-same-length-4 c = search needs
 
 returns-4 : tie.Need-returns-4
 returns-4 c =
@@ -82,20 +52,5 @@ returns-4 c =
 pub copy-element-spec : {M : Type 1} → statement M
 copy-element-spec =
     tie.close
-    (tie.spec
-    load-requires
-    store-requires
-    load-requires-2
-    store-requires-2
-    load-requires-3
-    store-requires-3
-    load-requires-4
-    store-requires-4
-    same-length
-    returns
-    same-length-2
-    returns-2
-    same-length-3
-    returns-3
-    same-length-4
-    returns-4)
+    (tie.spec (λ c κs. search needs) (λ c κs. search needs) (λ c κs. search needs) (λ c κs. search needs) (λ c κs. search needs) (λ c κs. search needs)
+    load-requires-4 store-requires-4 (λ c. search needs) returns (λ c. search needs) returns-2 (λ c. search needs) returns-3 (λ c. search needs) returns-4)

@@ -21,14 +21,5 @@ execute-other-requires c κs = (c .before .before .before .before .before .befor
 pub execute-spec : {M : Type 1} → statement M
 execute-spec =
     tie.close
-    (tie.spec
-    (λ c κs. search needs)
-    (λ c κs. search needs)
-    execute-typed-requires
-    add-outcome
-    (λ c κs. search needs)
-    (λ c. search needs)
-    returns
-    execute-other-requires
-    (λ c. search needs)
-    (λ c. search needs))
+    (tie.spec (λ c κs. search needs) (λ c κs. search needs) execute-typed-requires add-outcome (λ c κs. search needs) (λ c. search needs) returns
+    execute-other-requires (λ c. search needs) (λ c. search needs))

@@ -94,53 +94,10 @@ returns-15 c =
 pub execute-other-spec : {M : Type 1} → statement M
 execute-other-spec =
     tie.close
-    (tie.spec
-    (λ c. search needs)
-    (λ c. search needs)
-    word-requires
-    branch-requires
-    branch-requires-2
-    call-instance-requires
-    call-function-requires
-    move-constant-requires
-    copy-memory-requires
-    (λ c. search needs)
-    store-number-requires
-    (λ c. search needs)
-    store-number-requires-2
-    convert-value-requires
-    pack-digits-requires
-    unpack-digits-requires
-    access-element-requires
-    single-requires
-    not-at-requires
-    add-outcome
-    (λ c κs. search needs)
-    returns
-    returns-2
-    (λ c. search needs)
-    (λ c. search needs)
-    (λ c. search needs)
-    (λ c. search needs)
-    (λ c. search needs)
-    (λ c. search needs)
-    (λ c. search needs)
-    (λ c. search needs)
-    (λ c. search needs)
-    (λ c. search needs)
-    (λ c. search needs)
-    (λ c. search needs)
-    (λ c. search needs)
-    (λ c. search needs)
-    (λ c. search needs)
-    (λ c. search needs)
-    (λ c. search needs)
-    (λ c. search needs)
-    (λ c. search needs)
-    (λ c. search needs)
-    (λ c. search needs)
-    (λ c. search needs)
-    (λ c. search needs)
-    (λ c. search needs)
-    (λ c. search needs)
-    returns-15)
+    (tie.spec (λ c. search needs) (λ c. search needs) word-requires branch-requires branch-requires-2 call-instance-requires call-function-requires
+    move-constant-requires copy-memory-requires (λ c. search needs) store-number-requires (λ c. search needs) store-number-requires-2 convert-value-requires
+    pack-digits-requires unpack-digits-requires access-element-requires single-requires not-at-requires add-outcome (λ c κs. search needs) returns returns-2
+    (λ c. search needs) (λ c. search needs) (λ c. search needs) (λ c. search needs) (λ c. search needs) (λ c. search needs) (λ c. search needs)
+    (λ c. search needs) (λ c. search needs) (λ c. search needs) (λ c. search needs) (λ c. search needs) (λ c. search needs) (λ c. search needs)
+    (λ c. search needs) (λ c. search needs) (λ c. search needs) (λ c. search needs) (λ c. search needs) (λ c. search needs) (λ c. search needs)
+    (λ c. search needs) (λ c. search needs) (λ c. search needs) (λ c. search needs) returns-15)

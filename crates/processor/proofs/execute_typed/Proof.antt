@@ -14,13 +14,10 @@ typed-at-requires c κs =
     let given = c .before .before .before .before .pre in
     (three-operands _ (given .2), three-given _ _ _ (given .0) _ _ (given .1) (given .2) (c .operands .ensures))
 
-same-length : tie.Need-same-length
-same-length c = search needs
-
 returns : tie.Need-returns
 returns c =
     let given = c .before .before .before .before .before .before .before .pre in
     typed-done _ _ _ _ 6 _ _ _ _ (three-here _ _ _ (given .1) (given .2)) (c .before .before .before .operands .ensures .0) (c .before .before .typed-at .ensures) refl
 
 pub execute-typed-spec : {M : Type 1} → statement M
-execute-typed-spec = tie.close (tie.spec operands-requires typed-at-requires same-length returns)
+execute-typed-spec = tie.close (tie.spec operands-requires typed-at-requires (λ c. search needs) returns)

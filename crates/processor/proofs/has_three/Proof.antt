@@ -8,11 +8,8 @@ use Rattle.processor.proofs.Accepted.{three-bits}
 use Rattle.processor.proofs.has_three.Statement.{statement}
 use Rattle.processor.proofs.has_three.Tie as tie
 
-shr-result : tie.Need-shr-result
-shr-result c = search needs
-
 returns : tie.Need-returns
 returns c = ap (λ (x : ℕ). eqb x 1) (and-mask (274728943616 / 2 ^ c .args .op) 1) ∙ three-bits (c .args .op) (c .pre)
 
 pub has-three-spec : {M : Type 1} → statement M
-has-three-spec = tie.close (tie.spec shr-result returns)
+has-three-spec = tie.close (tie.spec (λ c. search needs) returns)

@@ -16,10 +16,4 @@ returns c = packing-done _ _ _ _ _ _ _ (c .before .before .before .before .befor
 pub pack-digits-spec : {M : Type 1} → statement M
 pack-digits-spec =
     tie.close
-    (tie.spec
-    single-requires
-    pack-at-requires
-    (λ c. search needs)
-    (λ c κs. search needs)
-    (λ c. search needs)
-    returns)
+    (tie.spec single-requires pack-at-requires (λ c. search needs) (λ c κs. search needs) (λ c. search needs) returns)

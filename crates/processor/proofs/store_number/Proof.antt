@@ -8,15 +8,6 @@ use Rattle.processor.proofs.Commands.{report-beyond, report-done}
 use Rattle.processor.proofs.store_number.Tie as tie
 use Rattle.processor.proofs.store_number.Statement.{statement}
 
-cast-p : tie.Need-cast-p
-cast-p c = search needs
-
-add-operand : tie.Need-add-operand
-add-operand c = search needs
-
-operand-requires : tie.Need-operand-requires
-operand-requires c κs = search needs
-
 is-beyond-requires : tie.Need-is-beyond-requires
 is-beyond-requires c κs = (omega arith, ⊎-elim (λ w. omega (arith, w .1)) (λ w. omega (arith, w .1)) (c .before .before .before .before .pre .0))
 
@@ -25,12 +16,6 @@ returns c = report-beyond _ _ _ _ _ _ _ _ (c .before .before .before .before .be
 
 store-requires : tie.Need-store-requires
 store-requires c κs = inside _ _ _ (sym (c .before .before .is-beyond .ensures) ∙ c .before .if1 .left)
-
-add-t14 : tie.Need-add-t14
-add-t14 c = search needs
-
-same-length : tie.Need-same-length
-same-length c = search needs
 
 returns-2 : tie.Need-returns-2
 returns-2 c =
@@ -45,13 +30,5 @@ returns-2 c =
 pub store-number-spec : {M : Type 1} → statement M
 store-number-spec =
     tie.close
-    (tie.spec
-    cast-p
-    add-operand
-    operand-requires
-    is-beyond-requires
-    returns
-    store-requires
-    add-t14
-    same-length
+    (tie.spec (λ c. search needs) (λ c. search needs) (λ c κs. search needs) is-beyond-requires returns store-requires (λ c. search needs) (λ c. search needs)
     returns-2)

@@ -16,10 +16,4 @@ returns c = unpacking-done _ _ _ _ _ _ _ (c .before .before .before .before .bef
 pub unpack-digits-spec : {M : Type 1} → statement M
 unpack-digits-spec =
     tie.close
-    (tie.spec
-    single-requires
-    unpack-at-requires
-    (λ c. search needs)
-    (λ c κs. search needs)
-    (λ c. search needs)
-    returns)
+    (tie.spec single-requires unpack-at-requires (λ c. search needs) (λ c κs. search needs) (λ c. search needs) returns)

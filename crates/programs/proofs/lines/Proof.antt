@@ -12,12 +12,6 @@ Inv-loop text from₀ from = from ≤ length text + 1
 abbrev μ-loop : tie.MeasureT-loop
 μ-loop text from₀ from = length text + 1 - from
 
-loop-holds : tie.Need-loop-holds Inv-loop μ-loop
-loop-holds c = search needs
-
-line-end-requires : tie.Need-line-end-requires Inv-loop μ-loop
-line-end-requires c κs = search needs
-
 sub-case : tie.Need-sub-case Inv-loop μ-loop
 sub-case c = c .line-end .ensures .1 (omega (arith, c .before .loop-test .taken))
 
@@ -27,34 +21,14 @@ part-case-start c = omega (arith, c .line-end .ensures .0, c .line-end .ensures 
 part-case-end : tie.Need-part-case-end Inv-loop μ-loop
 part-case-end c = omega (arith, c .line-end .ensures .0, c .line-end .ensures .1 (omega (arith, c .before .loop-test .taken)))
 
-case-requires : tie.Need-case-requires Inv-loop μ-loop
-case-requires c κs = search needs
-
-add-from : tie.Need-add-from Inv-loop μ-loop
-add-from c = search needs
-
 loop-less : tie.Need-loop-less Inv-loop μ-loop
 loop-less c = omega (arith, c .before .before .before .loop-test .taken, c .before .before .line-end .ensures .0, c .before .before .line-end .ensures .1 (omega (arith, c .before .before .before .loop-test .taken)))
 
 loop-again : tie.Need-loop-again Inv-loop μ-loop
 loop-again c = omega (arith, c .before .before .line-end .ensures .0)
 
-returns : tie.Need-returns Inv-loop μ-loop
-returns c = search needs
-
 pub lines-spec : {M : Type 1} → statement M
 lines-spec =
     tie.close
-    (tie.spec
-    Inv-loop
-    μ-loop
-    loop-holds
-    line-end-requires
-    sub-case
-    part-case-start
-    part-case-end
-    case-requires
-    add-from
-    loop-less
-    loop-again
-    returns)
+    (tie.spec Inv-loop μ-loop (λ c. search needs) (λ c κs. search needs) sub-case part-case-start part-case-end (λ c κs. search needs) (λ c. search needs)
+    loop-less loop-again (λ c. search needs))

@@ -4,12 +4,9 @@ use Rattle.protocol.specs.Registers.{advanced}
 use Rattle.protocol.proofs.advanced.Statement.{statement}
 use Rattle.protocol.proofs.advanced.Tie as tie
 
-add-s : tie.Need-add-s
-add-s c = search needs
-
 returns : tie.Need-returns
 unfolding advanced
 returns c = search needs
 
 pub advanced-spec : {M : Type 1} → statement M
-advanced-spec = tie.close (tie.spec add-s returns)
+advanced-spec = tie.close (tie.spec (λ c. search needs) returns)

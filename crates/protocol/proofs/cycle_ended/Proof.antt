@@ -4,12 +4,9 @@ use Rattle.protocol.specs.Registers.{cycleEnded}
 use Rattle.protocol.proofs.cycle_ended.Statement.{statement}
 use Rattle.protocol.proofs.cycle_ended.Tie as tie
 
-add-s : tie.Need-add-s
-add-s c = search needs
-
 returns : tie.Need-returns
 unfolding cycleEnded
 returns c = search needs
 
 pub cycle-ended-spec : {M : Type 1} → statement M
-cycle-ended-spec = tie.close (tie.spec add-s returns)
+cycle-ended-spec = tie.close (tie.spec (λ c. search needs) returns)

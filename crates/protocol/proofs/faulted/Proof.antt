@@ -5,12 +5,9 @@ use Rattle.protocol.proofs.Flags.{flag-or}
 use Rattle.protocol.proofs.faulted.Statement.{statement}
 use Rattle.protocol.proofs.faulted.Tie as tie
 
-shl-s : tie.Need-shl-s
-shl-s c = search needs
-
 returns : tie.Need-returns
 unfolding faulted
 returns c = rw (flag-or (c .before .args .bit) (c .before .args .r .flags) (search needs) (search needs))
 
 pub faulted-spec : {M : Type 1} → statement M
-faulted-spec = tie.close (tie.spec shl-s returns)
+faulted-spec = tie.close (tie.spec (λ c. search needs) returns)

@@ -4,15 +4,9 @@ use Rattle.protocol.specs.Registers.{returned}
 use Rattle.protocol.proofs.returned.Statement.{statement}
 use Rattle.protocol.proofs.returned.Tie as tie
 
-sub-s : tie.Need-sub-s
-sub-s c = search needs
-
-add-s : tie.Need-add-s
-add-s c = search needs
-
 returns : tie.Need-returns
 unfolding returned
 returns c = search needs
 
 pub returned-spec : {M : Type 1} → statement M
-returned-spec = tie.close (tie.spec sub-s add-s returns)
+returned-spec = tie.close (tie.spec (λ c. search needs) (λ c. search needs) returns)

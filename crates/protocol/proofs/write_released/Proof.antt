@@ -5,12 +5,9 @@ use Rattle.protocol.proofs.Flags.{warm-and}
 use Rattle.protocol.proofs.write_released.Statement.{statement}
 use Rattle.protocol.proofs.write_released.Tie as tie
 
-add-s : tie.Need-add-s
-add-s c = search needs
-
 returns : tie.Need-returns
 unfolding writeReleased
 returns c = rw (warm-and (c .before .before .args .r .flags) (search needs))
 
 pub write-released-spec : {M : Type 1} → statement M
-write-released-spec = tie.close (tie.spec add-s returns)
+write-released-spec = tie.close (tie.spec (λ c. search needs) returns)

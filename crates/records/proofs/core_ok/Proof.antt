@@ -6,31 +6,13 @@ use borrow.Author.Needs.{needs}
 use Rattle.records.proofs.core_ok.Statement.{statement}
 use Rattle.records.proofs.core_ok.Tie as tie
 
-mul-p : tie.Need-mul-p
-mul-p c = search needs
-
-add-p : tie.Need-add-p
-add-p c = search needs
-
-word-at-requires : tie.Need-word-at-requires
-word-at-requires c κs = search needs
-
 returns : tie.Need-returns
 unfolding coreOk
 returns c = rw (sym (c .before .word-at .ensures .0), lt-leb _ _ (c .if1 .taken))
 
-most-data-requires : tie.Need-most-data-requires
-most-data-requires c κs = search needs
-
 returns-2 : tie.Need-returns-2
 unfolding coreOk
 returns-2 c = rw (sym (c .before .before .before .word-at .ensures .0), le-leb _ _ (c .before .before .if1 .left), sym (c .before .most-data .ensures), lt-leb _ _ (c .if2 .taken))
-
-add-word-at : tie.Need-add-word-at
-add-word-at c = search needs
-
-word-at-requires-2 : tie.Need-word-at-requires-2
-word-at-requires-2 c κs = search needs
 
 returns-3 : tie.Need-returns-3
 unfolding coreOk
@@ -46,12 +28,6 @@ returns-3 c =
       sym (c .before .word-at2 .ensures .0),
       lt-leb _ _ (c .if3 .taken),
     )
-
-add-word-at-2 : tie.Need-add-word-at-2
-add-word-at-2 c = search needs
-
-word-at-requires-3 : tie.Need-word-at-requires-3
-word-at-requires-3 c κs = search needs
 
 returns-4 : tie.Need-returns-4
 unfolding coreOk
@@ -73,16 +49,5 @@ returns-4 c =
 pub core-ok-spec : {M : Type 1} → statement M
 core-ok-spec =
     tie.close
-    (tie.spec
-    mul-p
-    add-p
-    word-at-requires
-    returns
-    most-data-requires
-    returns-2
-    add-word-at
-    word-at-requires-2
-    returns-3
-    add-word-at-2
-    word-at-requires-3
-    returns-4)
+    (tie.spec (λ c. search needs) (λ c. search needs) (λ c κs. search needs) returns (λ c κs. search needs) returns-2 (λ c. search needs) (λ c κs. search needs)
+    returns-3 (λ c. search needs) (λ c κs. search needs) returns-4)

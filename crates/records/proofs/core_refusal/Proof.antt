@@ -7,21 +7,9 @@ use borrow.Author.Needs.{needs}
 use Rattle.records.proofs.core_refusal.Statement.{statement}
 use Rattle.records.proofs.core_refusal.Tie as tie
 
-mul-if1 : tie.Need-mul-if1
-mul-if1 c = search needs
-
-add-if1 : tie.Need-add-if1
-add-if1 c = search needs
-
-add-if1-2 : tie.Need-add-if1-2
-add-if1-2 c = search needs
-
 returns : tie.Need-returns
 unfolding coreRefusal
 returns c = halt 0 _ (no _ _ (lt-leb _ _ (c .if1 .taken)))
-
-core-ok-requires : tie.Need-core-ok-requires
-core-ok-requires c κs = search needs
 
 returns-2 : tie.Need-returns-2
 unfolding coreRefusal
@@ -33,4 +21,4 @@ returns-3 c = skip (yes _ _ (le-leb _ _ (c .before .before .if1 .left))) (sym (n
 
 pub core-refusal-spec : {M : Type 1} → statement M
 core-refusal-spec =
-    tie.close (tie.spec mul-if1 add-if1 add-if1-2 returns core-ok-requires returns-2 returns-3)
+    tie.close (tie.spec (λ c. search needs) (λ c. search needs) (λ c. search needs) returns (λ c κs. search needs) returns-2 returns-3)

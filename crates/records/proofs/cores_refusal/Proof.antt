@@ -37,13 +37,4 @@ returns-2 c = going-end _ _ _ _ (c .before .loop .inv) (c .loop-test .left)
 pub cores-refusal-spec : {M : Type 1} → statement M
 cores-refusal-spec =
     tie.close
-    (tie.spec
-    Inv-loop
-    μ-loop
-    loop-holds
-    core-refusal-requires
-    returns
-    add-k
-    loop-less
-    loop-again
-    returns-2)
+    (tie.spec Inv-loop μ-loop loop-holds core-refusal-requires returns add-k loop-less loop-again returns-2)

@@ -7,14 +7,8 @@ use borrow.Author.Needs.{needs}
 use Rattle.records.proofs.has_bit.Statement.{statement}
 use Rattle.records.proofs.has_bit.Tie as tie
 
-cast-result : tie.Need-cast-result
-cast-result c = search needs
-
-shr-result : tie.Need-shr-result
-shr-result c = search needs
-
 returns : tie.Need-returns
 returns c = ap (λ (n : ℕ). eqb n 1) (bit-and (c .args .a) (c .args .k))
 
 pub has-bit-spec : {M : Type 1} → statement M
-has-bit-spec = tie.close (tie.spec cast-result shr-result returns)
+has-bit-spec = tie.close (tie.spec (λ c. search needs) (λ c. search needs) returns)

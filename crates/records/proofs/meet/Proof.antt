@@ -7,12 +7,6 @@ use borrow.Author.Needs.{needs}
 use Rattle.records.proofs.meet.Statement.{statement}
 use Rattle.records.proofs.meet.Tie as tie
 
-add-if1 : tie.Need-add-if1
-add-if1 c = search needs
-
-add-result : tie.Need-add-result
-add-result c = search needs
-
 returns : tie.Need-returns
 unfolding meets
 returns c = rw (lt-ltb _ _ (c .if1 .taken)) (sym (both-alone _))
@@ -22,4 +16,4 @@ unfolding meets
 returns-2 c = rw (le-ltb _ _ (c .if1 .left), both-none)
 
 pub meet-spec : {M : Type 1} → statement M
-meet-spec = tie.close (tie.spec add-if1 add-result returns returns-2)
+meet-spec = tie.close (tie.spec (λ c. search needs) (λ c. search needs) returns returns-2)

@@ -7,21 +7,6 @@ use borrow.Author.Needs.{needs}
 use Rattle.records.proofs.meet_in.Statement.{statement}
 use Rattle.records.proofs.meet_in.Tie as tie
 
-local-place-requires : tie.Need-local-place-requires
-local-place-requires c κs = search needs
-
-width-requires : tie.Need-width-requires
-width-requires c κs = search needs
-
-local-place-requires-2 : tie.Need-local-place-requires-2
-local-place-requires-2 c κs = search needs
-
-width-requires-2 : tie.Need-width-requires-2
-width-requires-2 c κs = search needs
-
-meet-requires : tie.Need-meet-requires
-meet-requires c κs = search needs
-
 returns : tie.Need-returns
 unfolding meetsIn
 returns c =
@@ -38,15 +23,9 @@ returns c =
       both-none,
     )
 
-is-named-requires : tie.Need-is-named-requires
-is-named-requires c κs = search needs
-
 returns-2 : tie.Need-returns-2
 unfolding meetsIn
 returns-2 c = rw (sym (c .before .is-named .ensures) ∙ not-true _ (c .if2 .taken))
-
-is-named-requires-2 : tie.Need-is-named-requires-2
-is-named-requires-2 c κs = search needs
 
 returns-3 : tie.Need-returns-3
 unfolding meetsIn
@@ -70,14 +49,5 @@ returns-3 c =
 pub meet-in-spec : {M : Type 1} → statement M
 meet-in-spec =
     tie.close
-    (tie.spec
-    local-place-requires
-    width-requires
-    local-place-requires-2
-    width-requires-2
-    meet-requires
-    returns
-    is-named-requires
-    returns-2
-    is-named-requires-2
-    returns-3)
+    (tie.spec (λ c κs. search needs) (λ c κs. search needs) (λ c κs. search needs) (λ c κs. search needs) (λ c κs. search needs) returns (λ c κs. search needs)
+    returns-2 (λ c κs. search needs) returns-3)

@@ -16,17 +16,11 @@ Inv-loop f i m p j₀ j = Going (pairRefusal f i) (i + 1) (variables f) j
 abbrev μ-loop : tie.MeasureT-loop
 μ-loop f i m p j₀ j = m - j
 
-record-place-requires : tie.Need-record-place-requires Inv-loop μ-loop
-record-place-requires c κs = search needs
-
 add-j : tie.Need-add-j Inv-loop μ-loop
 add-j c = omega arith
 
 loop-holds : tie.Need-loop-holds Inv-loop μ-loop
 loop-holds c = going-none _ _ _
-
-record-place-requires-2 : tie.Need-record-place-requires-2 Inv-loop μ-loop
-record-place-requires-2 c κs = search needs
 
 overlapping-requires : tie.Need-overlapping-requires Inv-loop μ-loop
 overlapping-requires c κs = (omega (arith, c .before .before .before .record-place .ensures .0, c .before .before .before .before .before .pre), omega (arith, c .record-place2 .ensures .0, c .before .loop-test .taken, c .before .before .before .before .before .pre))
@@ -63,16 +57,4 @@ returns-2 c = going-end _ _ _ _ (c .before .loop .inv) (omega (arith, c .before 
 pub overlap-refusal-spec : {M : Type 1} → statement M
 overlap-refusal-spec =
     tie.close
-    (tie.spec
-    Inv-loop
-    μ-loop
-    record-place-requires
-    add-j
-    loop-holds
-    record-place-requires-2
-    overlapping-requires
-    returns
-    add-j-2
-    loop-less
-    loop-again
-    returns-2)
+    (tie.spec Inv-loop μ-loop (λ c κs. search needs) add-j loop-holds (λ c κs. search needs) overlapping-requires returns add-j-2 loop-less loop-again returns-2)

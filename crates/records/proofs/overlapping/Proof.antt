@@ -5,29 +5,17 @@ use borrow.Author.Needs.{needs}
 use Rattle.records.proofs.overlapping.Statement.{statement}
 use Rattle.records.proofs.overlapping.Tie as tie
 
-meet-shared-requires : tie.Need-meet-shared-requires
-meet-shared-requires c κs = search needs
-
 returns : tie.Need-returns
 unfolding overlap
 returns c = rw (sym (c .before .meet-shared .ensures), c .if1 .taken)
-
-meet-in-requires : tie.Need-meet-in-requires
-meet-in-requires c κs = search needs
 
 returns-2 : tie.Need-returns-2
 unfolding overlap
 returns-2 c = rw (sym (c .before .before .before .meet-shared .ensures), c .before .before .if1 .left, sym (c .before .meet-in .ensures), c .if2 .taken)
 
-meet-in-requires-2 : tie.Need-meet-in-requires-2
-meet-in-requires-2 c κs = search needs
-
 returns-3 : tie.Need-returns-3
 unfolding overlap
 returns-3 c = rw (sym (c .before .before .before .before .before .meet-shared .ensures), c .before .before .before .before .if1 .left, sym (c .before .before .before .meet-in .ensures), c .before .before .if2 .left, sym (c .before .meet-in2 .ensures), c .if3 .taken)
-
-meet-in-requires-3 : tie.Need-meet-in-requires-3
-meet-in-requires-3 c κs = search needs
 
 returns-4 : tie.Need-returns-4
 unfolding overlap
@@ -47,9 +35,6 @@ returns-4 c =
       sym (c .before .meet-in3 .ensures),
       c .if4 .taken,
     )
-
-meet-in-requires-4 : tie.Need-meet-in-requires-4
-meet-in-requires-4 c κs = search needs
 
 returns-5 : tie.Need-returns-5
 unfolding overlap
@@ -74,14 +59,5 @@ returns-5 c =
 pub overlapping-spec : {M : Type 1} → statement M
 overlapping-spec =
     tie.close
-    (tie.spec
-    meet-shared-requires
-    returns
-    meet-in-requires
-    returns-2
-    meet-in-requires-2
-    returns-3
-    meet-in-requires-3
-    returns-4
-    meet-in-requires-4
-    returns-5)
+    (tie.spec (λ c κs. search needs) returns (λ c κs. search needs) returns-2 (λ c κs. search needs) returns-3 (λ c κs. search needs) returns-4
+    (λ c κs. search needs) returns-5)

@@ -15,9 +15,6 @@ Inv-loop f m i₀ i = Going (overlapRefusal f) 0 m i
 abbrev μ-loop : tie.MeasureT-loop
 μ-loop f m i₀ i = m - i
 
-rising-requires : tie.Need-rising-requires Inv-loop μ-loop
-rising-requires c κs = search needs
-
 returns : tie.Need-returns Inv-loop μ-loop
 returns c = none-overlaps _ _ (c .before .before .before .pre .0) (c .before .rising .ensures (c .if1 .taken))
 
@@ -45,15 +42,4 @@ returns-3 c = going-end _ _ _ _ (c .before .loop .inv) (c .loop-test .left)
 pub overlaps-refusal-spec : {M : Type 1} → statement M
 overlaps-refusal-spec =
     tie.close
-    (tie.spec
-    Inv-loop
-    μ-loop
-    rising-requires
-    returns
-    loop-holds
-    overlap-refusal-requires
-    returns-2
-    add-i
-    loop-less
-    loop-again
-    returns-3)
+    (tie.spec Inv-loop μ-loop (λ c κs. search needs) returns loop-holds overlap-refusal-requires returns-2 add-i loop-less loop-again returns-3)

@@ -6,35 +6,17 @@ use borrow.Author.Needs.{needs}
 use Rattle.records.proofs.part_ok.Statement.{statement}
 use Rattle.records.proofs.part_ok.Tie as tie
 
-reads-requires : tie.Need-reads-requires
-reads-requires c κs = search needs
-
-writes-requires : tie.Need-writes-requires
-writes-requires c κs = search needs
-
 returns : tie.Need-returns
 unfolding partOk pick
 returns c = rw (sym (c .before .before .before .reads .ensures), c .before .before .if1 .taken, sym (c .before .writes .ensures), c .if2 .taken)
-
-place-ok-requires : tie.Need-place-ok-requires
-place-ok-requires c κs = search needs
 
 returns-2 : tie.Need-returns-2
 unfolding partOk pick
 returns-2 c = rw (sym (c .before .before .before .before .reads .ensures), c .before .before .before .if1 .taken, sym (c .before .before .writes .ensures), c .before .if2 .left) (c .place-ok .ensures)
 
-writes-requires-2 : tie.Need-writes-requires-2
-writes-requires-2 c κs = search needs
-
-place-ok-requires-2 : tie.Need-place-ok-requires-2
-place-ok-requires-2 c κs = search needs
-
 returns-3 : tie.Need-returns-3
 unfolding partOk pick
 returns-3 c = rw (sym (c .before .before .before .before .reads .ensures), c .before .before .before .if1 .left, sym (c .before .before .writes2 .ensures), c .before .if3 .taken) (c .place-ok2 .ensures)
-
-local-place-requires : tie.Need-local-place-requires
-local-place-requires c κs = search needs
 
 returns-4 : tie.Need-returns-4
 unfolding partOk pick
@@ -43,14 +25,5 @@ returns-4 c = rw (sym (c .before .before .before .before .reads .ensures), c .be
 pub part-ok-spec : {M : Type 1} → statement M
 part-ok-spec =
     tie.close
-    (tie.spec
-    reads-requires
-    writes-requires
-    returns
-    place-ok-requires
-    returns-2
-    writes-requires-2
-    place-ok-requires-2
-    returns-3
-    local-place-requires
-    returns-4)
+    (tie.spec (λ c κs. search needs) (λ c κs. search needs) returns (λ c κs. search needs) returns-2 (λ c κs. search needs) (λ c κs. search needs) returns-3
+    (λ c κs. search needs) returns-4)

@@ -6,22 +6,13 @@ use borrow.Author.Needs.{needs}
 use Rattle.records.proofs.parts_ok.Statement.{statement}
 use Rattle.records.proofs.parts_ok.Tie as tie
 
-part-ok-requires : tie.Need-part-ok-requires
-part-ok-requires c κs = search needs
-
 returns : tie.Need-returns
 unfolding partsOk
 returns c = rw (sym (c .before .part-ok .ensures) ∙ not-true _ (c .if1 .taken))
 
-part-ok-requires-2 : tie.Need-part-ok-requires-2
-part-ok-requires-2 c κs = search needs
-
 returns-2 : tie.Need-returns-2
 unfolding partsOk
 returns-2 c = rw (sym (c .before .before .before .part-ok .ensures) ∙ not-false _ (c .before .before .if1 .left), sym (c .before .part-ok2 .ensures) ∙ not-true _ (c .if2 .taken))
-
-part-ok-requires-3 : tie.Need-part-ok-requires-3
-part-ok-requires-3 c κs = search needs
 
 returns-3 : tie.Need-returns-3
 unfolding partsOk
@@ -34,9 +25,6 @@ returns-3 c =
       sym (after-part-ok2 .part-ok2 .ensures) ∙ not-false _ (c .before .before .if2 .left),
       sym (c .before .part-ok3 .ensures) ∙ not-true _ (c .if3 .taken),
     )
-
-part-ok-requires-4 : tie.Need-part-ok-requires-4
-part-ok-requires-4 c κs = search needs
 
 returns-4 : tie.Need-returns-4
 unfolding partsOk
@@ -54,12 +42,4 @@ returns-4 c =
 pub parts-ok-spec : {M : Type 1} → statement M
 parts-ok-spec =
     tie.close
-    (tie.spec
-    part-ok-requires
-    returns
-    part-ok-requires-2
-    returns-2
-    part-ok-requires-3
-    returns-3
-    part-ok-requires-4
-    returns-4)
+    (tie.spec (λ c κs. search needs) returns (λ c κs. search needs) returns-2 (λ c κs. search needs) returns-3 (λ c κs. search needs) returns-4)

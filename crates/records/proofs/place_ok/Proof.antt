@@ -6,49 +6,13 @@ use borrow.Author.Needs.{needs}
 use Rattle.records.proofs.place_ok.Statement.{statement}
 use Rattle.records.proofs.place_ok.Tie as tie
 
-byte-at-requires : tie.Need-byte-at-requires
-byte-at-requires c κs = search needs
-
-cast-if1 : tie.Need-cast-if1
-cast-if1 c = search needs
-
 returns : tie.Need-returns
 unfolding placeOk
 returns c = rw (sym (c .before .byte-at .ensures), le-ltb _ _ (c .if1 .taken))
 
-mul-q : tie.Need-mul-q
-mul-q c = search needs
-
-add-q : tie.Need-add-q
-add-q c = search needs
-
-local-place-requires : tie.Need-local-place-requires
-local-place-requires c κs = search needs
-
-cast-place : tie.Need-cast-place
-cast-place c = search needs
-
-add-word-at : tie.Need-add-word-at
-add-word-at c = search needs
-
-word-at-requires : tie.Need-word-at-requires
-word-at-requires c κs = search needs
-
 returns-2 : tie.Need-returns-2
 unfolding placeOk
 returns-2 c = rw (sym (c .before .before .before .before .byte-at .ensures), lt-ltb _ _ (c .before .before .before .if1 .left), sym (c .before .before .local-place .ensures), sym (c .before .word-at .ensures .0), lt-leb _ _ (c .if2 .taken))
-
-width-requires : tie.Need-width-requires
-width-requires c κs = search needs
-
-cast-result : tie.Need-cast-result
-cast-result c = search needs
-
-add-result : tie.Need-add-result
-add-result c = search needs
-
-word-at-requires-2 : tie.Need-word-at-requires-2
-word-at-requires-2 c κs = search needs
 
 returns-3 : tie.Need-returns-3
 unfolding placeOk
@@ -70,19 +34,5 @@ returns-3 c =
 pub place-ok-spec : {M : Type 1} → statement M
 place-ok-spec =
     tie.close
-    (tie.spec
-    byte-at-requires
-    cast-if1
-    returns
-    mul-q
-    add-q
-    local-place-requires
-    cast-place
-    add-word-at
-    word-at-requires
-    returns-2
-    width-requires
-    cast-result
-    add-result
-    word-at-requires-2
-    returns-3)
+    (tie.spec (λ c κs. search needs) (λ c. search needs) returns (λ c. search needs) (λ c. search needs) (λ c κs. search needs) (λ c. search needs)
+    (λ c. search needs) (λ c κs. search needs) returns-2 (λ c κs. search needs) (λ c. search needs) (λ c. search needs) (λ c κs. search needs) returns-3)

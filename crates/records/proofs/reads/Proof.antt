@@ -5,18 +5,6 @@ use borrow.Author.Needs.{needs}
 use Rattle.records.proofs.reads.Statement.{statement}
 use Rattle.records.proofs.reads.Tie as tie
 
-add-has-bit : tie.Need-add-has-bit
-add-has-bit c = search needs
-
-shared-slice-read-has-bit : tie.Need-shared-slice-read-has-bit
-shared-slice-read-has-bit c = search needs
-
-add-has-bit-2 : tie.Need-add-has-bit-2
-add-has-bit-2 c = search needs
-
-has-bit-requires : tie.Need-has-bit-requires
-has-bit-requires c κs = search needs
-
 returns : tie.Need-returns
 unfolding readsIt
 returns c = rw (lt-ltb _ _ (c .before .before .before .pre .1)) (c .has-bit .ensures)
@@ -24,4 +12,4 @@ returns c = rw (lt-ltb _ _ (c .before .before .before .pre .1)) (c .has-bit .ens
 pub reads-spec : {M : Type 1} → statement M
 reads-spec =
     tie.close
-    (tie.spec add-has-bit shared-slice-read-has-bit add-has-bit-2 has-bit-requires returns)
+    (tie.spec (λ c. search needs) (λ c. search needs) (λ c. search needs) (λ c κs. search needs) returns)

@@ -6,32 +6,17 @@ use Rattle.records.proofs.Order.{each-core}
 use Rattle.records.proofs.rising.Statement.{statement}
 use Rattle.records.proofs.rising.Tie as tie
 
-rising-shared-requires : tie.Need-rising-shared-requires
-rising-shared-requires c κs = search needs
-
 returns : tie.Need-returns
 returns c = λ e. absurd-bool e
-
-rising-in-requires : tie.Need-rising-in-requires
-rising-in-requires c κs = search needs
 
 returns-2 : tie.Need-returns-2
 returns-2 c = λ e. absurd-bool e
 
-rising-in-requires-2 : tie.Need-rising-in-requires-2
-rising-in-requires-2 c κs = search needs
-
 returns-3 : tie.Need-returns-3
 returns-3 c = λ e. absurd-bool e
 
-rising-in-requires-3 : tie.Need-rising-in-requires-3
-rising-in-requires-3 c κs = search needs
-
 returns-4 : tie.Need-returns-4
 returns-4 c = λ e. absurd-bool e
-
-rising-in-requires-4 : tie.Need-rising-in-requires-4
-rising-in-requires-4 c κs = search needs
 
 returns-5 : tie.Need-returns-5
 returns-5 c = λ e. record {
@@ -43,14 +28,5 @@ returns-5 c = λ e. record {
 pub rising-spec : {M : Type 1} → statement M
 rising-spec =
     tie.close
-    (tie.spec
-    rising-shared-requires
-    returns
-    rising-in-requires
-    returns-2
-    rising-in-requires-2
-    returns-3
-    rising-in-requires-3
-    returns-4
-    rising-in-requires-4
-    returns-5)
+    (tie.spec (λ c κs. search needs) returns (λ c κs. search needs) returns-2 (λ c κs. search needs) returns-3 (λ c κs. search needs) returns-4
+    (λ c κs. search needs) returns-5)

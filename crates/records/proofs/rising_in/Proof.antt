@@ -17,29 +17,17 @@ abbrev μ-loop : tie.MeasureT-loop
 loop-holds : tie.Need-loop-holds Inv-loop μ-loop
 loop-holds c = risen-none _ _ _
 
-record-place-requires : tie.Need-record-place-requires Inv-loop μ-loop
-record-place-requires c κs = search needs
-
 is-named-requires : tie.Need-is-named-requires Inv-loop μ-loop
 is-named-requires c κs = (omega (arith, c .record-place .ensures .0, c .before .loop-test .taken, c .before .before .before .before .pre .0), c .before .before .before .before .pre .1)
 
 local-place-requires : tie.Need-local-place-requires Inv-loop μ-loop
 local-place-requires c κs = (omega (arith, c .before .before .record-place .ensures .0, c .before .before .before .loop-test .taken, c .before .before .before .before .before .before .pre .0), c .before .before .before .before .before .before .pre .1)
 
-cast-local : tie.Need-cast-local Inv-loop μ-loop
-cast-local c = search needs
-
 returns : tie.Need-returns Inv-loop μ-loop
 returns c = λ e. absurd-bool e
 
 width-requires : tie.Need-width-requires Inv-loop μ-loop
 width-requires c κs = omega (arith, c .before .before .before .before .record-place .ensures .0, c .before .before .before .before .before .loop-test .taken, c .before .before .before .before .before .before .before .before .pre .0)
-
-cast-end : tie.Need-cast-end Inv-loop μ-loop
-cast-end c = search needs
-
-add-end : tie.Need-add-end Inv-loop μ-loop
-add-end c = search needs
 
 add-i : tie.Need-add-i Inv-loop μ-loop
 add-i c = omega arith
@@ -60,19 +48,5 @@ returns-2 c = λ _. risen-end _ _ _ _ _ _ (c .before .loop .inv) (c .loop-test .
 pub rising-in-spec : {M : Type 1} → statement M
 rising-in-spec =
     tie.close
-    (tie.spec
-    Inv-loop
-    μ-loop
-    loop-holds
-    record-place-requires
-    is-named-requires
-    local-place-requires
-    cast-local
-    returns
-    width-requires
-    cast-end
-    add-end
-    add-i
-    loop-less
-    loop-again
-    returns-2)
+    (tie.spec Inv-loop μ-loop loop-holds (λ c κs. search needs) is-named-requires local-place-requires (λ c. search needs) returns width-requires
+    (λ c. search needs) (λ c. search needs) add-i loop-less loop-again returns-2)

@@ -17,26 +17,14 @@ abbrev μ-loop : tie.MeasureT-loop
 loop-holds : tie.Need-loop-holds Inv-loop μ-loop
 loop-holds c = risen-none _ _ _
 
-record-place-requires : tie.Need-record-place-requires Inv-loop μ-loop
-record-place-requires c κs = search needs
-
 shared-place-requires : tie.Need-shared-place-requires Inv-loop μ-loop
 shared-place-requires c κs = omega (arith, c .record-place .ensures .0, c .before .loop-test .taken, c .before .before .before .before .pre)
-
-cast-place : tie.Need-cast-place Inv-loop μ-loop
-cast-place c = search needs
 
 returns : tie.Need-returns Inv-loop μ-loop
 returns c = λ e. absurd-bool e
 
 width-requires : tie.Need-width-requires Inv-loop μ-loop
 width-requires c κs = omega (arith, c .before .before .record-place .ensures .0, c .before .before .before .loop-test .taken, c .before .before .before .before .before .before .pre)
-
-cast-end : tie.Need-cast-end Inv-loop μ-loop
-cast-end c = search needs
-
-add-end : tie.Need-add-end Inv-loop μ-loop
-add-end c = search needs
 
 add-i : tie.Need-add-i Inv-loop μ-loop
 add-i c = omega arith
@@ -53,18 +41,5 @@ returns-2 c = λ _. risen-end _ _ _ _ _ _ (c .before .loop .inv) (c .loop-test .
 pub rising-shared-spec : {M : Type 1} → statement M
 rising-shared-spec =
     tie.close
-    (tie.spec
-    Inv-loop
-    μ-loop
-    loop-holds
-    record-place-requires
-    shared-place-requires
-    cast-place
-    returns
-    width-requires
-    cast-end
-    add-end
-    add-i
-    loop-less
-    loop-again
-    returns-2)
+    (tie.spec Inv-loop μ-loop loop-holds (λ c κs. search needs) shared-place-requires (λ c. search needs) returns width-requires (λ c. search needs)
+    (λ c. search needs) add-i loop-less loop-again returns-2)

@@ -10,40 +10,13 @@ use borrow.Author.Needs.{needs}
 use Rattle.records.proofs.variable_ok.Statement.{statement}
 use Rattle.records.proofs.variable_ok.Tie as tie
 
-width-requires : tie.Need-width-requires
-width-requires c κs = search needs
-
-is-width-requires : tie.Need-is-width-requires
-is-width-requires c κs = search needs
-
 returns : tie.Need-returns
 unfolding variableOk
 returns c = rw (ap isWidth (sym (c .before .before .width .ensures)) ∙ sym (c .before .is-width .ensures) ∙ not-true _ (c .if1 .taken))
 
-add-one-writer : tie.Need-add-one-writer
-add-one-writer c = search needs
-
-shared-slice-read-one-writer : tie.Need-shared-slice-read-one-writer
-shared-slice-read-one-writer c = search needs
-
-one-writer-requires : tie.Need-one-writer-requires
-one-writer-requires c κs = search needs
-
 returns-2 : tie.Need-returns-2
 unfolding variableOk
 returns-2 c = rw (ap isWidth (sym (c .before .before .before .before .before .width .ensures)) ∙ sym (c .before .before .before .before .is-width .ensures) ∙ not-false _ (c .before .before .before .if1 .left), sym (c .before .one-writer .ensures) ∙ not-true _ (c .if2 .taken))
-
-shared-place-requires : tie.Need-shared-place-requires
-shared-place-requires c κs = search needs
-
-cast-if3 : tie.Need-cast-if3
-cast-if3 c = search needs
-
-cast-if3-2 : tie.Need-cast-if3-2
-cast-if3-2 c = search needs
-
-add-if3 : tie.Need-add-if3
-add-if3 c = search needs
 
 returns-3 : tie.Need-returns-3
 unfolding variableOk
@@ -60,9 +33,6 @@ returns-3 c =
       lt-leb (word f (start .args .p) + byte f (start .args .p + 2)) 1024
           (omega (arith, c .before .shared-place .ensures, after-width .width .ensures, c .if3 .taken)),
     )
-
-parts-ok-requires : tie.Need-parts-ok-requires
-parts-ok-requires c κs = search needs
 
 returns-4 : tie.Need-returns-4
 unfolding variableOk
@@ -84,18 +54,5 @@ returns-4 c =
 pub variable-ok-spec : {M : Type 1} → statement M
 variable-ok-spec =
     tie.close
-    (tie.spec
-    width-requires
-    is-width-requires
-    returns
-    add-one-writer
-    shared-slice-read-one-writer
-    one-writer-requires
-    returns-2
-    shared-place-requires
-    cast-if3
-    cast-if3-2
-    add-if3
-    returns-3
-    parts-ok-requires
-    returns-4)
+    (tie.spec (λ c κs. search needs) (λ c κs. search needs) returns (λ c. search needs) (λ c. search needs) (λ c κs. search needs) returns-2
+    (λ c κs. search needs) (λ c. search needs) (λ c. search needs) (λ c. search needs) returns-3 (λ c κs. search needs) returns-4)

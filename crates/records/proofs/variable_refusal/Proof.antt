@@ -7,18 +7,9 @@ use borrow.Author.Needs.{needs}
 use Rattle.records.proofs.variable_refusal.Statement.{statement}
 use Rattle.records.proofs.variable_refusal.Tie as tie
 
-record-place-requires : tie.Need-record-place-requires
-record-place-requires c κs = search needs
-
-add-if1 : tie.Need-add-if1
-add-if1 c = search needs
-
 returns : tie.Need-returns
 unfolding variableRefusal
 returns c = rw (sym (c .before .record-place .ensures .0)) (halt 0 _ (no _ _ (lt-leb _ _ (c .if1 .taken))))
-
-variable-ok-requires : tie.Need-variable-ok-requires
-variable-ok-requires c κs = search needs
 
 returns-2 : tie.Need-returns-2
 unfolding variableRefusal
@@ -31,4 +22,4 @@ returns-3 c = rw (sym (c .before .before .before .record-place .ensures .0)) (sk
 pub variable-refusal-spec : {M : Type 1} → statement M
 variable-refusal-spec =
     tie.close
-    (tie.spec record-place-requires add-if1 returns variable-ok-requires returns-2 returns-3)
+    (tie.spec (λ c κs. search needs) (λ c. search needs) returns (λ c κs. search needs) returns-2 returns-3)

@@ -17,9 +17,6 @@ abbrev μ-loop : tie.MeasureT-loop
 loop-holds : tie.Need-loop-holds Inv-loop μ-loop
 loop-holds c = going-none _ _ _
 
-variable-refusal-requires : tie.Need-variable-refusal-requires Inv-loop μ-loop
-variable-refusal-requires c κs = search needs
-
 returns : tie.Need-returns Inv-loop μ-loop
 returns c = going-stop _ _ _ _ _ (c .before .before .before .loop .inv) (c .before .before .loop-test .taken) (c .before .variable-refusal .ensures) (c .if1 .taken)
 
@@ -38,13 +35,4 @@ returns-2 c = going-end _ _ _ _ (c .before .loop .inv) (c .loop-test .left)
 pub variables-refusal-spec : {M : Type 1} → statement M
 variables-refusal-spec =
     tie.close
-    (tie.spec
-    Inv-loop
-    μ-loop
-    loop-holds
-    variable-refusal-requires
-    returns
-    add-i
-    loop-less
-    loop-again
-    returns-2)
+    (tie.spec Inv-loop μ-loop loop-holds (λ c κs. search needs) returns add-i loop-less loop-again returns-2)

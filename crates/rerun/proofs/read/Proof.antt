@@ -10,12 +10,6 @@ use Rattle.rerun.proofs.read.Tie as tie
 read-exchange-requires : tie.Need-read-exchange-requires
 read-exchange-requires c κs = reading-asks (c .before .before .before .before .before .pre)
 
-read-acquired-requires : tie.Need-read-acquired-requires
-read-acquired-requires c κs = search needs
-
-read-released-requires : tie.Need-read-released-requires
-read-released-requires c κs = search needs
-
 run-alone-requires : tie.Need-run-alone-requires
 run-alone-requires c κs =
     let read-released = c .before .before .before in
@@ -31,9 +25,6 @@ run-alone-requires c κs =
           (start .pre .rests),
       start .pre .task,
     )
-
-same-length : tie.Need-same-length
-same-length c = search needs
 
 returns : tie.Need-returns
 returns c =
@@ -53,10 +44,4 @@ returns c =
 pub read-spec : {M : Type 1} → statement M
 read-spec =
     tie.close
-    (tie.spec
-    read-exchange-requires
-    read-acquired-requires
-    read-released-requires
-    run-alone-requires
-    same-length
-    returns)
+    (tie.spec read-exchange-requires (λ c κs. search needs) (λ c κs. search needs) run-alone-requires (λ c. search needs) returns)

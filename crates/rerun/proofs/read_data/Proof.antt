@@ -26,9 +26,6 @@ bring-all-requires c κs =
       start .pre .0 .shared,
     )
 
-same-length : tie.Need-same-length
-same-length c = search needs
-
 returns : tie.Need-returns
 returns c =
     let bring-all = c .before .before in
@@ -41,4 +38,4 @@ returns c =
     )
 
 pub read-data-spec : {M : Type 1} → statement M
-read-data-spec = tie.close (tie.spec take-record-requires bring-all-requires same-length returns)
+read-data-spec = tie.close (tie.spec take-record-requires bring-all-requires (λ c. search needs) returns)

@@ -16,12 +16,6 @@ use Rattle.rerun.proofs.read_exchange.Tie as tie
 add-e : tie.Need-add-e
 add-e c = record { fits = omega (arith, stretch-inside _ (c .before .before .before .before .before .pre .0 .ready) (c .before .before .before .before .before .pre .2)) }
 
-sub-read-data : tie.Need-sub-read-data
-sub-read-data c = search needs
-
-part-read-data-start : tie.Need-part-read-data-start
-part-read-data-start c = search needs
-
 part-read-data-end : tie.Need-part-read-data-end
 part-read-data-end c = omega (arith, stretch-inside _ (c .before .before .before .before .before .pre .0 .ready) (c .before .before .before .before .before .pre .2))
 
@@ -36,9 +30,6 @@ read-data-requires c κs =
       },
       given .1,
     )
-
-same-length : tie.Need-same-length
-same-length c = search needs
 
 returns : tie.Need-returns
 returns c =
@@ -55,11 +46,4 @@ returns c =
 pub read-exchange-spec : {M : Type 1} → statement M
 read-exchange-spec =
     tie.close
-    (tie.spec
-    add-e
-    sub-read-data
-    part-read-data-start
-    part-read-data-end
-    read-data-requires
-    same-length
-    returns)
+    (tie.spec add-e (λ c. search needs) (λ c. search needs) part-read-data-end read-data-requires (λ c. search needs) returns)

@@ -9,24 +9,12 @@ use borrow.Author.Needs.{needs}
 use Rattle.rerun.proofs.rerun.Statement.{statement}
 use Rattle.rerun.proofs.rerun.Tie as tie
 
-load-lent-requires : tie.Need-load-lent-requires
-load-lent-requires c κs = search needs
-
-without-table-requires : tie.Need-without-table-requires
-without-table-requires c κs = search needs
-
 returns : tie.Need-returns
 returns c =
     let a = c .before .before .before .before .before .before .before .before .before .args in
     rerun-refused (a .file .now) (a .trace .now) (a .list .now) (a .buffer .now) (a .shared .now) _
     (refused-loaded (a .file .now) (a .trace .now) (a .list .now) (a .buffer .now) (a .shared .now) (fresh-number Full (a .file .now) (a .buffer .now) (a .shared .now) _ (c .before .before .before .load-lent .ensures)) (c .before .if1 .taken))
     (c .before .if1 .taken) (c .without-table .ensures)
-
-load-trace-requires : tie.Need-load-trace-requires
-load-trace-requires c κs = search needs
-
-without-table-requires-2 : tie.Need-without-table-requires-2
-without-table-requires-2 c κs = search needs
 
 returns-2 : tie.Need-returns-2
 returns-2 c =
@@ -75,27 +63,11 @@ rerun-judged-requires c κs =
       fits = lent .fits;
     }
 
-same-length : tie.Need-same-length
-same-length c = search needs
-
-same-length-2 : tie.Need-same-length-2
-same-length-2 c = search needs
-
 returns-3 : tie.Need-returns-3
 returns-3 c = c .before .before .before .before .rerun-judged .ensures
 
 pub rerun-spec : {M : Type 1} → statement M
 rerun-spec =
     tie.close
-    (tie.spec
-    load-lent-requires
-    without-table-requires
-    returns
-    load-trace-requires
-    without-table-requires-2
-    returns-2
-    core-tasks-requires
-    rerun-judged-requires
-    same-length
-    same-length-2
-    returns-3)
+    (tie.spec (λ c κs. search needs) (λ c κs. search needs) returns (λ c κs. search needs) (λ c κs. search needs) returns-2 core-tasks-requires
+    rerun-judged-requires (λ c. search needs) (λ c. search needs) returns-3)

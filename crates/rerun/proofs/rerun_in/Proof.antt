@@ -21,15 +21,6 @@ abbrev μ-loop : tie.MeasureT-loop
 fresh-judged-requires : tie.Need-fresh-judged-requires Inv-loop μ-loop
 fresh-judged-requires c κs = let given = c .before .before .before .before .before .before .before .pre in record { accepted = given .accepted .file; laid = given .laid; fits = given .fits }
 
-table-of-requires : tie.Need-table-of-requires Inv-loop μ-loop
-table-of-requires c κs = search needs
-
-places-of-requires : tie.Need-places-of-requires Inv-loop μ-loop
-places-of-requires c κs = search needs
-
-offsets-of-requires : tie.Need-offsets-of-requires Inv-loop μ-loop
-offsets-of-requires c κs = search needs
-
 mul-end : tie.Need-mul-end Inv-loop μ-loop
 mul-end c =
     let start = c .before .before .before .before .before .before .before .before .before .before .before .before .before .before .before .before .before in
@@ -55,17 +46,8 @@ loop-holds c =
     (fresh-judged .fresh-judged .result) _ _ (fresh-judged .fresh-judged .ensures) (table-of .table-of .ensures) (places-of .places-of .ensures)
     (offsets-of .offsets-of .ensures)
 
-shared-slice-read-b : tie.Need-shared-slice-read-b Inv-loop μ-loop
-shared-slice-read-b c = search needs
-
 cast-b : tie.Need-cast-b Inv-loop μ-loop
 cast-b c = omega (arith, c .before .before .before .before .before .before .before .before .before .before .before .before .before .before .before .before .before .shared-slice-known3 .given (c .before .before .loop .i))
-
-named-core-requires : tie.Need-named-core-requires Inv-loop μ-loop
-named-core-requires c κs = search needs
-
-without-table-requires : tie.Need-without-table-requires Inv-loop μ-loop
-without-table-requires c κs = search needs
 
 same-length : tie.Need-same-length Inv-loop μ-loop
 same-length c =
@@ -113,12 +95,6 @@ element-copy-out-is-due c =
     let if1 = c .before in
     let start = if1 .before .before .before .before .before .before .before .before .before .before .before .before .before .before .before .before .before .before .before .before .before .before in
     search (needs, known-few (start .pre .accepted) (start .pre .laid) (if1 .if1 .left))
-
-is-due-requires : tie.Need-is-due-requires Inv-loop μ-loop
-is-due-requires c κs = search needs
-
-without-table-requires-2 : tie.Need-without-table-requires-2 Inv-loop μ-loop
-without-table-requires-2 c κs = search needs
 
 same-length-3 : tie.Need-same-length-3 Inv-loop μ-loop
 same-length-3 c =
@@ -224,9 +200,6 @@ loop-again c =
     (tasks-at _ _ (start .pre .accepted) _ (start .pre .tasked) _ (omega (arith, if1 .if1 .left, cores-are (start .pre .accepted) (start .pre .laid))))
     (sym (is-due .is-due .ensures) ∙ not-false _ (if2 .if2 .left)) (take .take .ensures) _ refl
 
-reran-requires : tie.Need-reran-requires Inv-loop μ-loop
-reran-requires c κs = search needs
-
 same-length-5 : tie.Need-same-length-5 Inv-loop μ-loop
 same-length-5 c =
     let loop = c .before .before in
@@ -259,43 +232,7 @@ returns-3 c =
 pub rerun-in-spec : {M : Type 1} → statement M
 rerun-in-spec =
     tie.close
-    (tie.spec
-    Inv-loop
-    μ-loop
-    fresh-judged-requires
-    table-of-requires
-    places-of-requires
-    offsets-of-requires
-    mul-end
-    add-end
-    loop-holds
-    shared-slice-read-b
-    cast-b
-    named-core-requires
-    without-table-requires
-    same-length
-    same-length-2
-    returns
-    mul-is-due
-    array-copy-out-is-due
-    mul-is-due-2
-    element-copy-out-is-due
-    is-due-requires
-    without-table-requires-2
-    same-length-3
-    same-length-4
-    returns-2
-    mul-take
-    array-copy-out-take
-    mul-take-2
-    array-copy-out-take-2
-    take-requires
-    mul-cores
-    array-set-from-cores
-    add-i
-    loop-less
-    loop-again
-    reran-requires
-    same-length-5
-    same-length-6
-    returns-3)
+    (tie.spec Inv-loop μ-loop fresh-judged-requires (λ c κs. search needs) (λ c κs. search needs) (λ c κs. search needs) mul-end add-end loop-holds
+    (λ c. search needs) cast-b (λ c κs. search needs) (λ c κs. search needs) same-length same-length-2 returns mul-is-due array-copy-out-is-due mul-is-due-2
+    element-copy-out-is-due (λ c κs. search needs) (λ c κs. search needs) same-length-3 same-length-4 returns-2 mul-take array-copy-out-take mul-take-2
+    array-copy-out-take-2 take-requires mul-cores array-set-from-cores add-i loop-less loop-again (λ c κs. search needs) same-length-5 same-length-6 returns-3)

@@ -10,14 +10,8 @@ use Rattle.rerun.proofs.rerun_judged.Tie as tie
 sum-of-sizes-requires : tie.Need-sum-of-sizes-requires
 sum-of-sizes-requires c κs = (c .before .before .before .before .before .pre .accepted .file, c .before .before .before .before .before .pre .laid)
 
-array-borrow-prefix-data : tie.Need-array-borrow-prefix-data
-array-borrow-prefix-data c = search needs
-
 slice-aggregate-rerun-through : tie.Need-slice-aggregate-rerun-through
 slice-aggregate-rerun-through c = prefix _ 16384 (c .before .sum-of-sizes .ensures .1)
-
-slice-aggregate-rerun-through-2 : tie.Need-slice-aggregate-rerun-through-2
-slice-aggregate-rerun-through-2 c = search needs
 
 rerun-through-requires : tie.Need-rerun-through-requires
 rerun-through-requires c κs =
@@ -31,24 +25,11 @@ rerun-through-requires c κs =
       sym (lent-lengths (a .file .now) (length (a .buffer .now)) (length (a .shared .now)) (start .pre .fits) .1),
     )
 
-same-length : tie.Need-same-length
-same-length c = search needs
-
-same-length-2 : tie.Need-same-length-2
-same-length-2 c = search needs
-
 returns : tie.Need-returns
 returns c = c .before .before .before .before .before .before .rerun-through .ensures
 
 pub rerun-judged-spec : {M : Type 1} → statement M
 rerun-judged-spec =
     tie.close
-    (tie.spec
-    sum-of-sizes-requires
-    array-borrow-prefix-data
-    slice-aggregate-rerun-through
-    slice-aggregate-rerun-through-2
-    rerun-through-requires
-    same-length
-    same-length-2
-    returns)
+    (tie.spec sum-of-sizes-requires (λ c. search needs) slice-aggregate-rerun-through (λ c. search needs) rerun-through-requires (λ c. search needs)
+    (λ c. search needs) returns)

@@ -20,24 +20,6 @@ rerun-in-requires c κs =
       fits = ap₂ (λ (m n : ℕ). lentFits (start .args .file .now) m n) (given .1) (given .2) ∙ given .0 .fits;
     }
 
-copy-requires : tie.Need-copy-requires
-copy-requires c κs = search needs
-
-copy-requires-2 : tie.Need-copy-requires-2
-copy-requires-2 c κs = search needs
-
-same-length : tie.Need-same-length
-same-length c = search needs
-
-same-length-2 : tie.Need-same-length-2
-same-length-2 c = search needs
-
-same-length-3 : tie.Need-same-length-3
-same-length-3 c = search needs
-
-same-length-4 : tie.Need-same-length-4
-same-length-4 c = search needs
-
 returns : tie.Need-returns
 returns c =
     let copy2 = c .before .before in
@@ -52,12 +34,6 @@ returns c =
     ∙ rerun-done (a .file .now) (a .trace .now) (a .list .now) (a .buffer .now) (a .shared .now) (start .pre .0 .accepted .file) (start .pre .0 .fits)
     (start .pre .0 .accepted .trace) (rerun-in .rerun-in .result) _ _ (rerun-in .rerun-in .ensures) (if1 .if1 .taken)
 
-same-length-5 : tie.Need-same-length-5
-same-length-5 c = search needs
-
-same-length-6 : tie.Need-same-length-6
-same-length-6 c = search needs
-
 returns-2 : tie.Need-returns-2
 returns-2 c =
     let rerun-in = c .before .before .before .before .before .before in
@@ -69,15 +45,5 @@ returns-2 c =
 pub rerun-through-spec : {M : Type 1} → statement M
 rerun-through-spec =
     tie.close
-    (tie.spec
-    rerun-in-requires
-    copy-requires
-    copy-requires-2
-    same-length
-    same-length-2
-    same-length-3
-    same-length-4
-    returns
-    same-length-5
-    same-length-6
-    returns-2)
+    (tie.spec rerun-in-requires (λ c κs. search needs) (λ c κs. search needs) (λ c. search needs) (λ c. search needs) (λ c. search needs) (λ c. search needs)
+    returns (λ c. search needs) (λ c. search needs) returns-2)

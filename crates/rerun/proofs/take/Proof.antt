@@ -9,12 +9,6 @@ use Rattle.rerun.proofs.take.Tie as tie
 read-requires : tie.Need-read-requires
 read-requires c κs = reading-due (c .before .before .before .before .before .before .before .before .before .pre) (c .before .before .before .before .if1 .taken)
 
-same-length : tie.Need-same-length
-same-length c = search needs
-
-same-length-2 : tie.Need-same-length-2
-same-length-2 c = search needs
-
 returns : tie.Need-returns
 returns c = record { reads = λ s. (c .before .before .read .ensures, refl); writes = λ l. absurd (omega (arith, c .before .before .before .before .before .before .before .if1 .taken)) }
 
@@ -24,25 +18,11 @@ write-exchange-requires c κs = writing-due (c .before .before .before .before .
 write-released-requires : tie.Need-write-released-requires
 write-released-requires c κs = cycles-due (c .before .before .before .before .before .before .before .before .before .before .pre) (omega (arith, c .before .before .before .before .before .if1 .left))
 
-same-length-3 : tie.Need-same-length-3
-same-length-3 c = search needs
-
-same-length-4 : tie.Need-same-length-4
-same-length-4 c = search needs
-
 returns-2 : tie.Need-returns-2
 returns-2 c = record { reads = λ s. absurd (omega (arith, c .before .before .before .before .before .before .if1 .left)); writes = λ l. (c .write-released .ensures, c .before .before .before .write-exchange .ensures, refl, refl, refl) }
 
 pub take-spec : {M : Type 1} → statement M
 take-spec =
     tie.close
-    (tie.spec
-    read-requires
-    same-length
-    same-length-2
-    returns
-    write-exchange-requires
-    write-released-requires
-    same-length-3
-    same-length-4
-    returns-2)
+    (tie.spec read-requires (λ c. search needs) (λ c. search needs) returns write-exchange-requires write-released-requires (λ c. search needs)
+    (λ c. search needs) returns-2)

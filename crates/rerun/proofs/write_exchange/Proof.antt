@@ -15,12 +15,6 @@ use Rattle.rerun.proofs.write_exchange.Tie as tie
 add-e : tie.Need-add-e
 add-e c = record { fits = omega (arith, stretch-inside _ (c .before .before .before .before .before .pre .0 .ready) (c .before .before .before .before .before .pre .1)) }
 
-sub-publish-all : tie.Need-sub-publish-all
-sub-publish-all c = search needs
-
-part-publish-all-start : tie.Need-part-publish-all-start
-part-publish-all-start c = search needs
-
 part-publish-all-end : tie.Need-part-publish-all-end
 part-publish-all-end c = omega (arith, stretch-inside _ (c .before .before .before .before .before .pre .0 .ready) (c .before .before .before .before .before .pre .1))
 
@@ -35,9 +29,6 @@ publish-all-requires c κs =
       start .pre .0 .shared,
     )
 
-same-length : tie.Need-same-length
-same-length c = search needs
-
 returns : tie.Need-returns
 returns c =
     let publish-all = c .before .before in
@@ -49,11 +40,4 @@ returns c =
 pub write-exchange-spec : {M : Type 1} → statement M
 write-exchange-spec =
     tie.close
-    (tie.spec
-    add-e
-    sub-publish-all
-    part-publish-all-start
-    part-publish-all-end
-    publish-all-requires
-    same-length
-    returns)
+    (tie.spec add-e (λ c. search needs) (λ c. search needs) part-publish-all-end publish-all-requires (λ c. search needs) returns)

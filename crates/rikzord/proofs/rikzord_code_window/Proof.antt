@@ -6,9 +6,6 @@ use Rattle.window.proofs.Laws.{call-refused, call-shown}
 use Rattle.rikzord.proofs.rikzord_code_window.Statement.{statement}
 use Rattle.rikzord.proofs.rikzord_code_window.Tie as tie
 
-find-window-requires : tie.Need-find-window-requires
-find-window-requires c κs = search needs
-
 returns : tie.Need-returns
 returns c =
     let found = c .before .before in
@@ -22,4 +19,4 @@ returns-2 c =
     call-shown (a .file .now) (length (a .buffer .now)) Code (a .core) (a .start) (a .count) (found .find-window .ensures) (a .place .now) (c .if1 .left)
 
 pub rikzord-code-window-spec : {M : Type 1} → statement M
-rikzord-code-window-spec = tie.close (tie.spec find-window-requires returns returns-2)
+rikzord-code-window-spec = tie.close (tie.spec (λ c κs. search needs) returns returns-2)

@@ -22,9 +22,6 @@ cast-order c = omega (arith, c .before .before .before .pre .0 .known, c .before
 loop-holds : tie.Need-loop-holds Inv-loop μ-loop
 loop-holds c = executes-none
 
-slice-aggregate-run-core : tie.Need-slice-aggregate-run-core Inv-loop μ-loop
-slice-aggregate-run-core c = search needs
-
 run-core-requires : tie.Need-run-core-requires Inv-loop μ-loop
 run-core-requires c κs =
     let here = c .before .before .before .before .before .before in
@@ -53,4 +50,4 @@ returns c = (c .if1 .left, c .before .before .loop .inv)
 pub run-alone-spec : {M : Type 1} → statement M
 run-alone-spec =
     tie.close
-    (tie.spec Inv-loop μ-loop cast-order loop-holds slice-aggregate-run-core run-core-requires (λ c κs. search needs) loop-less loop-again same-length returns)
+    (tie.spec Inv-loop μ-loop cast-order loop-holds (λ c. search needs) run-core-requires (λ c κs. search needs) loop-less loop-again same-length returns)

@@ -8,27 +8,6 @@ use borrow.Author.Needs.{needs}
 use Rattle.semaphore.proofs.acquired.Statement.{statement}
 use Rattle.semaphore.proofs.acquired.Tie as tie
 
-sub-waiting : tie.Need-sub-waiting
-sub-waiting c = search needs
-
-cast-t8 : tie.Need-cast-t8
-cast-t8 c = search needs
-
-add-t9 : tie.Need-add-t9
-add-t9 c = search needs
-
-element-copy-out-t12 : tie.Need-element-copy-out-t12
-element-copy-out-t12 c = search needs
-
-element-copy-out-t15 : tie.Need-element-copy-out-t15
-element-copy-out-t15 c = search needs
-
-element-copy-out-t18 : tie.Need-element-copy-out-t18
-element-copy-out-t18 c = search needs
-
-array-write-standing : tie.Need-array-write-standing
-array-write-standing c = search needs
-
 returns : tie.Need-returns
 returns c =
     let joined1 = c .before .before .before .before in
@@ -39,12 +18,5 @@ returns c =
 pub acquired-spec : {M : Type 1} → statement M
 acquired-spec =
     tie.close
-    (tie.spec
-    sub-waiting
-    cast-t8
-    add-t9
-    element-copy-out-t12
-    element-copy-out-t15
-    element-copy-out-t18
-    array-write-standing
+    (tie.spec (λ c. search needs) (λ c. search needs) (λ c. search needs) (λ c. search needs) (λ c. search needs) (λ c. search needs) (λ c. search needs)
     returns)

@@ -25,14 +25,8 @@ four-places start = search needs
 loop-holds : tie.Need-loop-holds Inv-loop μ-loop
 loop-holds c = refl
 
-cast-if1 : tie.Need-cast-if1 Inv-loop μ-loop
-cast-if1 c = search needs
-
 returns : tie.Need-returns Inv-loop μ-loop
 returns c = sym (c .before .before .loop .inv ∙ rw (line-end (c .before .before .before .args .t1 .line) (c .before .before .before .args .t1 .waiting) (c .before .before .loop .i) (c .if1 .taken)))
-
-element-copy-out-if2 : tie.Need-element-copy-out-if2 Inv-loop μ-loop
-element-copy-out-if2 c = search needs
 
 returns-2 : tie.Need-returns-2 Inv-loop μ-loop
 unfolding pick
@@ -46,12 +40,6 @@ returns-2 c =
           (omega (arith, four-places start, tested .loop-test .taken)),
       eq-eqb _ _ (c .if2 .taken),
     ))
-
-add-i : tie.Need-add-i Inv-loop μ-loop
-add-i c = search needs
-
-loop-less : tie.Need-loop-less Inv-loop μ-loop
-loop-less c = search needs
 
 loop-again : tie.Need-loop-again Inv-loop μ-loop
 unfolding pick
@@ -74,15 +62,4 @@ returns-3 c =
 pub in-line-spec : {M : Type 1} → statement M
 in-line-spec =
     tie.close
-    (tie.spec
-    Inv-loop
-    μ-loop
-    loop-holds
-    cast-if1
-    returns
-    element-copy-out-if2
-    returns-2
-    add-i
-    loop-less
-    loop-again
-    returns-3)
+    (tie.spec Inv-loop μ-loop loop-holds (λ c. search needs) returns (λ c. search needs) returns-2 (λ c. search needs) (λ c. search needs) loop-again returns-3)

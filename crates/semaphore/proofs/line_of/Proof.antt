@@ -5,33 +5,6 @@ use borrow.Author.Needs.{needs}
 use Rattle.semaphore.proofs.line_of.Statement.{statement}
 use Rattle.semaphore.proofs.line_of.Tie as tie
 
-cores-in-line-requires : tie.Need-cores-in-line-requires
-cores-in-line-requires c κs = search needs
-
-line-entry-requires : tie.Need-line-entry-requires
-line-entry-requires c κs = search needs
-
-line-entry-requires-2 : tie.Need-line-entry-requires-2
-line-entry-requires-2 c κs = search needs
-
-line-entry-requires-3 : tie.Need-line-entry-requires-3
-line-entry-requires-3 c κs = search needs
-
-line-entry-requires-4 : tie.Need-line-entry-requires-4
-line-entry-requires-4 c κs = search needs
-
-in-line-requires : tie.Need-in-line-requires
-in-line-requires c κs = search needs
-
-in-line-requires-2 : tie.Need-in-line-requires-2
-in-line-requires-2 c κs = search needs
-
-in-line-requires-3 : tie.Need-in-line-requires-3
-in-line-requires-3 c κs = search needs
-
-in-line-requires-4 : tie.Need-in-line-requires-4
-in-line-requires-4 c κs = search needs
-
 returns : tie.Need-returns
 unfolding lineOf
 returns c =
@@ -56,14 +29,5 @@ returns c =
 pub line-of-spec : {M : Type 1} → statement M
 line-of-spec =
     tie.close
-    (tie.spec
-    cores-in-line-requires
-    line-entry-requires
-    line-entry-requires-2
-    line-entry-requires-3
-    line-entry-requires-4
-    in-line-requires
-    in-line-requires-2
-    in-line-requires-3
-    in-line-requires-4
-    returns)
+    (tie.spec (λ c κs. search needs) (λ c κs. search needs) (λ c κs. search needs) (λ c κs. search needs) (λ c κs. search needs) (λ c κs. search needs)
+    (λ c κs. search needs) (λ c κs. search needs) (λ c κs. search needs) returns)

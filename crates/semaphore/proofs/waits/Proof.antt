@@ -5,9 +5,6 @@ use borrow.Author.Needs.{needs}
 use Rattle.semaphore.proofs.waits.Statement.{statement}
 use Rattle.semaphore.proofs.waits.Tie as tie
 
-array-read-if1 : tie.Need-array-read-if1
-array-read-if1 c = search needs
-
 returns : tie.Need-returns
 returns c =
     let p = c .before .before .pre in
@@ -18,12 +15,6 @@ returns-2 c =
     let p = c .before .before .before .before .pre in
     waits-held (p .0) _ (p .1) (not-false _ (c .before .before .if1 .left)) (c .if2 .taken)
 
-element-copy-out-result : tie.Need-element-copy-out-result
-element-copy-out-result c = search needs
-
-cast-result : tie.Need-cast-result
-cast-result c = search needs
-
 returns-3 : tie.Need-returns-3
 returns-3 c =
     let p = c .before .before .before .before .before .pre in
@@ -32,4 +23,4 @@ returns-3 c =
 pub waits-spec : {M : Type 1} → statement M
 waits-spec =
     tie.close
-    (tie.spec array-read-if1 returns returns-2 element-copy-out-result cast-result returns-3)
+    (tie.spec (λ c. search needs) returns returns-2 (λ c. search needs) (λ c. search needs) returns-3)

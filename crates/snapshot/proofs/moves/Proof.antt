@@ -10,30 +10,12 @@ use Rattle.snapshot.specs.Snapshot.{registersIn}
 use Rattle.snapshot.proofs.moves.Statement.{statement}
 use Rattle.snapshot.proofs.moves.Tie as tie
 
-registers-in-requires : tie.Need-registers-in-requires
-registers-in-requires c κs = search needs
-
-can-move-requires : tie.Need-can-move-requires
-can-move-requires c κs = search needs
-
 returns : tie.Need-returns
 returns c =
     let a = c .before .before .before .before .args in
     c .can-move .ensures
     ∙ ap (canMove (semaphoreOf (a .t1 .semaphore)) (a .k) 0) (c .before .registers-in .ensures)
     ∙ ap (λ (n : ℕ). canMove (semaphoreOf (a .t1 .semaphore)) (a .k) n (registersIn (a .c))) (sym (pick-false _ _ _ (le-ltb (a .k) 4 (c .before .before .before .if1 .taken))))
-
-mul-count : tie.Need-mul-count
-mul-count c = search needs
-
-element-copy-out-count : tie.Need-element-copy-out-count
-element-copy-out-count c = search needs
-
-registers-in-requires-2 : tie.Need-registers-in-requires-2
-registers-in-requires-2 c κs = search needs
-
-can-move-requires-2 : tie.Need-can-move-requires-2
-can-move-requires-2 c κs = search needs
 
 returns-2 : tie.Need-returns-2
 returns-2 c =
@@ -45,12 +27,5 @@ returns-2 c =
 pub moves-spec : {M : Type 1} → statement M
 moves-spec =
     tie.close
-    (tie.spec
-    registers-in-requires
-    can-move-requires
-    returns
-    mul-count
-    element-copy-out-count
-    registers-in-requires-2
-    can-move-requires-2
+    (tie.spec (λ c κs. search needs) (λ c κs. search needs) returns (λ c. search needs) (λ c. search needs) (λ c κs. search needs) (λ c κs. search needs)
     returns-2)

@@ -12,21 +12,6 @@ use Rattle.snapshot.proofs.place_after.Tie as tie
 returns : tie.Need-returns
 returns c = sym (pick-true _ _ _ (eq-eqb _ 0 (c .if1 .taken)))
 
-cast-result : tie.Need-cast-result
-cast-result c = search needs
-
-add-result : tie.Need-add-result
-add-result c = search needs
-
-add-result-2 : tie.Need-add-result-2
-add-result-2 c = search needs
-
-cast-result-2 : tie.Need-cast-result-2
-cast-result-2 c = search needs
-
-rem-result : tie.Need-rem-result
-rem-result c = search needs
-
 cast-result-3 : tie.Need-cast-result-3
 cast-result-3 c =
     let tested = c .before .before in
@@ -40,4 +25,4 @@ returns-2 c = sym (pick-false _ _ _ (ne-eqb _ 0 (c .before .before .if1 .left)))
 pub place-after-spec : {M : Type 1} → statement M
 place-after-spec =
     tie.close
-    (tie.spec returns cast-result add-result add-result-2 cast-result-2 rem-result cast-result-3 returns-2)
+    (tie.spec returns (λ c. search needs) (λ c. search needs) (λ c. search needs) (λ c. search needs) (λ c. search needs) cast-result-3 returns-2)

@@ -5,12 +5,6 @@ use borrow.Author.Needs.{needs}
 use Rattle.snapshot.proofs.registers_of.Statement.{statement}
 use Rattle.snapshot.proofs.registers_of.Tie as tie
 
-mul-result : tie.Need-mul-result
-mul-result c = search needs
-
-element-copy-out-result : tie.Need-element-copy-out-result
-element-copy-out-result c = search needs
-
 returns : tie.Need-returns
 unfolding pick
 returns c = rw (lt-ltb _ _ (c .before .if1 .taken))
@@ -20,4 +14,4 @@ unfolding pick
 returns-2 c = rw (le-ltb _ _ (c .if1 .left))
 
 pub registers-of-spec : {M : Type 1} → statement M
-registers-of-spec = tie.close (tie.spec mul-result element-copy-out-result returns returns-2)
+registers-of-spec = tie.close (tie.spec (λ c. search needs) (λ c. search needs) returns returns-2)

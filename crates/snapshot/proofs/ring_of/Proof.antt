@@ -11,15 +11,6 @@ use Rattle.snapshot.proofs.Asked.{ring-refused, ring-whole}
 use Rattle.snapshot.proofs.ring_of.Statement.{statement}
 use Rattle.snapshot.proofs.ring_of.Tie as tie
 
-state-of-requires : tie.Need-state-of-requires
-state-of-requires c κs = search needs
-
-load-file-requires : tie.Need-load-file-requires
-load-file-requires c κs = search needs
-
-no-ring-requires : tie.Need-no-ring-requires
-no-ring-requires c κs = search needs
-
 returns : tie.Need-returns
 returns c =
     let tested = c .before in
@@ -39,9 +30,6 @@ prepare-requires c κs =
     let es = loaded .before .state-of .ensures in
     (file-accepted (a .file .now) _ (loaded .load-file .ensures) (tested .if1 .left), file-laid (a .file .now) _ (loaded .load-file .ensures) (tested .if1 .left))
 
-no-ring-requires-2 : tie.Need-no-ring-requires-2
-no-ring-requires-2 c κs = search needs
-
 returns-2 : tie.Need-returns-2
 returns-2 c =
     let passed = c .before in
@@ -54,9 +42,6 @@ returns-2 c =
     let accepted = file-accepted (a .file .now) _ (loaded .load-file .ensures) (tested .if1 .left) in
     ring-refused (a .file .now) (a .trace .now) (a .t) (a .semaphore) (a .given) s es _ _
     (next-held (a .file .now) (a .trace .now) s (a .given) accepted (held-judged (a .file .now) (a .trace .now) s _ (held .prepare .ensures)) (passed .if2 .taken)) (passed .if2 .taken) (c .no-ring2 .ensures)
-
-no-ring-requires-3 : tie.Need-no-ring-requires-3
-no-ring-requires-3 c κs = search needs
 
 returns-3 : tie.Need-returns-3
 returns-3 c =
@@ -73,18 +58,6 @@ returns-3 c =
     let fit = sym (held-judged (a .file .now) (a .trace .now) s _ (held .prepare .ensures)) ∙ passed .if2 .left in
     ring-refused (a .file .now) (a .trace .now) (a .t) (a .semaphore) (a .given) s es 20 _
     (next-named (a .file .now) (a .trace .now) s (a .given) accepted fit (omega (arith, laid, named .if3 .taken))) (λ e. absurd (omega arith)) (c .no-ring3 .ensures)
-
-element-copy-out-t13 : tie.Need-element-copy-out-t13
-element-copy-out-t13 c = search needs
-
-element-copy-out-t18 : tie.Need-element-copy-out-t18
-element-copy-out-t18 c = search needs
-
-element-copy-out-t21 : tie.Need-element-copy-out-t21
-element-copy-out-t21 c = search needs
-
-element-copy-out-t24 : tie.Need-element-copy-out-t24
-element-copy-out-t24 c = search needs
 
 cast-t25 : tie.Need-cast-t25
 cast-t25 c =
@@ -119,19 +92,5 @@ returns-4 c =
 pub ring-of-spec : {M : Type 1} → statement M
 ring-of-spec =
     tie.close
-    (tie.spec
-    state-of-requires
-    load-file-requires
-    no-ring-requires
-    returns
-    prepare-requires
-    no-ring-requires-2
-    returns-2
-    no-ring-requires-3
-    returns-3
-    element-copy-out-t13
-    element-copy-out-t18
-    element-copy-out-t21
-    element-copy-out-t24
-    cast-t25
-    returns-4)
+    (tie.spec (λ c κs. search needs) (λ c κs. search needs) (λ c κs. search needs) returns prepare-requires (λ c κs. search needs) returns-2
+    (λ c κs. search needs) returns-3 (λ c. search needs) (λ c. search needs) (λ c. search needs) (λ c. search needs) cast-t25 returns-4)

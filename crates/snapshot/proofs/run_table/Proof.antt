@@ -4,40 +4,10 @@ use Rattle.snapshot.proofs.Laws.{run-stays, run-moves}
 use Rattle.snapshot.proofs.run_table.Statement.{statement}
 use Rattle.snapshot.proofs.run_table.Tie as tie
 
-state-of-requires : tie.Need-state-of-requires
-state-of-requires c κs = search needs
-
-run-requires : tie.Need-run-requires
-run-requires c κs = search needs
-
-unchanged-requires : tie.Need-unchanged-requires
-unchanged-requires c κs = search needs
-
-same-length : tie.Need-same-length
-same-length c = search needs
-
-same-length-2 : tie.Need-same-length-2
-same-length-2 c = search needs
-
-same-length-3 : tie.Need-same-length-3
-same-length-3 c = search needs
-
 returns : tie.Need-returns
 returns c =
     let called = c .before .before .before .before .before .before .before .before .before in
     run-stays _ _ _ _ _ _ _ _ _ _ _ _ _ _ _ (called .before .before .before .before .state-of .ensures) (called .run .ensures) (c .before .if1 .taken) (c .unchanged .ensures)
-
-accepted-requires : tie.Need-accepted-requires
-accepted-requires c κs = search needs
-
-same-length-4 : tie.Need-same-length-4
-same-length-4 c = search needs
-
-same-length-5 : tie.Need-same-length-5
-same-length-5 c = search needs
-
-same-length-6 : tie.Need-same-length-6
-same-length-6 c = search needs
 
 returns-2 : tie.Need-returns-2
 returns-2 c =
@@ -47,16 +17,5 @@ returns-2 c =
 pub run-table-spec : {M : Type 1} → statement M
 run-table-spec =
     tie.close
-    (tie.spec
-    state-of-requires
-    run-requires
-    unchanged-requires
-    same-length
-    same-length-2
-    same-length-3
-    returns
-    accepted-requires
-    same-length-4
-    same-length-5
-    same-length-6
-    returns-2)
+    (tie.spec (λ c κs. search needs) (λ c κs. search needs) (λ c κs. search needs) (λ c. search needs) (λ c. search needs) (λ c. search needs) returns
+    (λ c κs. search needs) (λ c. search needs) (λ c. search needs) (λ c. search needs) returns-2)

@@ -8,17 +8,8 @@ use Rattle.snapshot.proofs.set_registers.Tie as tie
 use Rattle.snapshot.proofs.set_registers.Reads as reads
 use Rattle.snapshot.proofs.set_registers.Lts as lts
 
-mul-l : tie.Need-mul-l
-mul-l c = search needs
-
-array-set-from-l : tie.Need-array-set-from-l
-array-set-from-l c = search needs
-
-returns : tie.Need-returns
-returns c = search needs
-
 returns-2 : tie.Need-returns-2
 returns-2 c = sym (set-out _ _ _ (omega (arith, c .if1 .left)))
 
 pub set-registers-spec : {M : Type 1} → statement M
-set-registers-spec = tie.close (tie.spec mul-l array-set-from-l returns returns-2)
+set-registers-spec = tie.close (tie.spec (λ c. search needs) (λ c. search needs) (λ c. search needs) returns-2)

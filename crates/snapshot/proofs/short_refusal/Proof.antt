@@ -5,9 +5,6 @@ use borrow.Author.Needs.{needs}
 use Rattle.snapshot.proofs.short_refusal.Statement.{statement}
 use Rattle.snapshot.proofs.short_refusal.Tie as tie
 
-judge-file-for-requires : tie.Need-judge-file-for-requires
-judge-file-for-requires c κs = search needs
-
 returns : tie.Need-returns
 returns c = stop 21 (c .before .judge-file-for .ensures) (c .if1 .taken)
 
@@ -15,4 +12,4 @@ returns-2 : tie.Need-returns-2
 returns-2 c = skip (sym (c .before .judge-file-for .ensures) ∙ c .if1 .left) refl
 
 pub short-refusal-spec : {M : Type 1} → statement M
-short-refusal-spec = tie.close (tie.spec judge-file-for-requires returns returns-2)
+short-refusal-spec = tie.close (tie.spec (λ c κs. search needs) returns returns-2)

@@ -5,9 +5,6 @@ use borrow.Author.Needs.{needs}
 use Rattle.snapshot.proofs.table_count.Statement.{statement}
 use Rattle.snapshot.proofs.table_count.Tie as tie
 
-cast-result : tie.Need-cast-result
-cast-result c = search needs
-
 returns : tie.Need-returns
 unfolding pick
 returns c = rw (lt-ltb _ _ (c .if1 .taken))
@@ -17,4 +14,4 @@ unfolding pick
 returns-2 c = rw (le-ltb _ _ (c .if1 .left))
 
 pub table-count-spec : {M : Type 1} → statement M
-table-count-spec = tie.close (tie.spec cast-result returns returns-2)
+table-count-spec = tie.close (tie.spec (λ c. search needs) returns returns-2)

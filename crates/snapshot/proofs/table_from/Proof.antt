@@ -7,11 +7,8 @@ use Rattle.snapshot.proofs.table_from.Reads as reads
 use Rattle.snapshot.proofs.table_from.Lts as lts
 use Rattle.snapshot.proofs.table_count.Reads as table-count-reads
 
-table-count-requires : tie.Need-table-count-requires
-table-count-requires c κs = search needs
-
 returns : tie.Need-returns
 returns c = rw (c .table-count .ensures) refl
 
 pub table-from-spec : {M : Type 1} → statement M
-table-from-spec = tie.close (tie.spec table-count-requires returns)
+table-from-spec = tie.close (tie.spec (λ c κs. search needs) returns)

@@ -8,12 +8,9 @@ use Rattle.snapshot.proofs.with_registers.Reads as reads
 use Rattle.snapshot.proofs.with_registers.Lts as lts
 use Rattle.snapshot.proofs.set_registers.Reads as set-registers-reads
 
-set-registers-requires : tie.Need-set-registers-requires
-set-registers-requires c κs = search needs
-
 returns : tie.Need-returns
 unfolding withRegisters
 returns c = rw (c .before .before .before .set-registers .ensures) refl
 
 pub with-registers-spec : {M : Type 1} → statement M
-with-registers-spec = tie.close (tie.spec set-registers-requires returns)
+with-registers-spec = tie.close (tie.spec (λ c κs. search needs) returns)

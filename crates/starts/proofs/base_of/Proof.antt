@@ -11,14 +11,8 @@ use Rattle.starts.proofs.base_of.Tie as tie
 use Rattle.starts.proofs.base_of.Reads as reads
 use Rattle.starts.proofs.base_of.Lts as lts
 
-mul-c : tie.Need-mul-c
-mul-c c = search needs
-
-element-copy-out-c : tie.Need-element-copy-out-c
-element-copy-out-c c = search needs
-
 returns : tie.Need-returns
 returns c = let a = c .before .args in ap (λ (x : CoreLayout). x .base) (ap (λ (l : Layout). getD (l .core) (a .k) noCore) (c .before .pre .0) ∙ core-of (a .f .now) (a .k) (c .before .pre .1))
 
 pub base-of-spec : {M : Type 1} → statement M
-base-of-spec = tie.close (tie.spec mul-c element-copy-out-c returns)
+base-of-spec = tie.close (tie.spec (λ c. search needs) (λ c. search needs) returns)

@@ -17,12 +17,6 @@ use Rattle.starts.proofs.write_shared.Reads as write-shared-reads
 use Rattle.starts.proofs.write_data.Reads as write-data-reads
 use Rattle.taskset.proofs.is_new.Reads as is-new-reads
 
-zero-requires : tie.Need-zero-requires
-zero-requires c κs = search needs
-
-zero-requires-2 : tie.Need-zero-requires-2
-zero-requires-2 c κs = search needs
-
 is-new-requires : tie.Need-is-new-requires
 is-new-requires c κs =
     let start = c .before .before .before .before .before .before .before .before .before .before .before in
@@ -35,15 +29,6 @@ write-data-requires c κs =
     let start = after-zero .before .before .before .before .before in
     (start .pre .0, sym (c .before .before .is-new .ensures) ∙ c .before .if1 .taken, after-zero .zero .ensures ∙ ap zeros (start .pre .2))
 
-write-shared-requires : tie.Need-write-shared-requires
-write-shared-requires c κs = search needs
-
-same-length : tie.Need-same-length
-same-length c = search needs
-
-same-length-2 : tie.Need-same-length-2
-same-length-2 c = search needs
-
 returns : tie.Need-returns
 unfolding startShared
 returns c =
@@ -54,12 +39,6 @@ returns c =
       after-write-data .write-data .ensures,
       c .before .before .write-shared .ensures ∙ ap (withWritten (startData f) (variablesOf f)) (after-zero2 .zero2 .ensures ∙ ap zeros (start .pre .3)),
     )
-
-same-length-3 : tie.Need-same-length-3
-same-length-3 c = search needs
-
-same-length-4 : tie.Need-same-length-4
-same-length-4 c = search needs
 
 returns-2 : tie.Need-returns-2
 returns-2 c =
@@ -75,15 +54,5 @@ returns-2 c =
 pub fill-spec : {M : Type 1} → statement M
 fill-spec =
     tie.close
-    (tie.spec
-    zero-requires
-    zero-requires-2
-    is-new-requires
-    write-data-requires
-    write-shared-requires
-    same-length
-    same-length-2
-    returns
-    same-length-3
-    same-length-4
-    returns-2)
+    (tie.spec (λ c κs. search needs) (λ c κs. search needs) is-new-requires write-data-requires (λ c κs. search needs) (λ c. search needs) (λ c. search needs)
+    returns (λ c. search needs) (λ c. search needs) returns-2)

@@ -23,12 +23,6 @@ Inv-loop f buffer₀ n p₀ a₀ k₀ buffer p a k = Filling f buffer p a k
 abbrev μ-loop : tie.MeasureT-loop
 μ-loop f buffer₀ n p₀ a₀ k₀ buffer p a k = n - k
 
-byte-at-requires : tie.Need-byte-at-requires Inv-loop μ-loop
-byte-at-requires c κs = search needs
-
-cast-n : tie.Need-cast-n Inv-loop μ-loop
-cast-n c = search needs
-
 code-place-requires : tie.Need-code-place-requires Inv-loop μ-loop
 code-place-requires c κs = omega (arith, keeps-rules (c .before .before .before .args .f .now) (c .before .before .before .pre .0) .most-cores, c .byte-at .ensures)
 
@@ -40,9 +34,6 @@ mul-word-at c = omega (arith, keeps-rules (c .before .before .before .before .be
 
 add-word-at : tie.Need-add-word-at Inv-loop μ-loop
 add-word-at c = omega (arith, keeps-rules (c .before .before .before .before .before .before .args .f .now) (c .before .before .before .before .before .before .pre .0) .most-cores, c .before .before .before .byte-at .ensures)
-
-word-at-requires : tie.Need-word-at-requires Inv-loop μ-loop
-word-at-requires c κs = search needs
 
 add-e : tie.Need-add-e Inv-loop μ-loop
 add-e c =
@@ -58,9 +49,6 @@ add-e c =
       ap length (start .pre .2),
       length-replicate {A = ℕ} (total (sizesOf f)) 0,
     )
-
-word-at-requires-2 : tie.Need-word-at-requires-2 Inv-loop μ-loop
-word-at-requires-2 c κs = search needs
 
 -- the start values of core k lie in the file, and the stretch of its data in the buffer
 pairs-here : (c : tie.After-word-at2 Inv-loop μ-loop)
@@ -152,28 +140,6 @@ returns c = filling-done (c .before .before .before .before .before .before .arg
 pub write-data-spec : {M : Type 1} → statement M
 write-data-spec =
     tie.close
-    (tie.spec
-    Inv-loop
-    μ-loop
-    byte-at-requires
-    cast-n
-    code-place-requires
-    loop-holds
-    mul-word-at
-    add-word-at
-    word-at-requires
-    add-e
-    word-at-requires-2
-    add-write-pairs
-    sub-write-pairs
-    part-write-pairs-start
-    part-write-pairs-end
-    write-pairs-requires
-    add-p
-    mul-p
-    add-p-2
-    add-k
-    loop-less
-    loop-again
-    same-length
-    returns)
+    (tie.spec Inv-loop μ-loop (λ c κs. search needs) (λ c. search needs) code-place-requires loop-holds mul-word-at add-word-at (λ c κs. search needs) add-e
+    (λ c κs. search needs) add-write-pairs sub-write-pairs part-write-pairs-start part-write-pairs-end write-pairs-requires add-p mul-p add-p-2 add-k loop-less
+    loop-again same-length returns)

@@ -19,9 +19,6 @@ abbrev μ-loop : tie.MeasureT-loop
 loop-holds : tie.Need-loop-holds Inv-loop μ-loop
 loop-holds c = pairing-none _ _ _ _
 
-word-at-requires : tie.Need-word-at-requires Inv-loop μ-loop
-word-at-requires c κs = search needs
-
 add-d : tie.Need-add-d Inv-loop μ-loop
 add-d c = omega (arith, c .before .before .loop .inv .here, c .before .before .before .before .before .pre .0)
 
@@ -52,17 +49,4 @@ returns c = pairing-done _ _ _ _ _ _ _ (c .before .loop .inv) (c .loop-test .lef
 pub write-pairs-spec : {M : Type 1} → statement M
 write-pairs-spec =
     tie.close
-    (tie.spec
-    Inv-loop
-    μ-loop
-    loop-holds
-    word-at-requires
-    add-d
-    shared-slice-read-d
-    slice-write-d
-    add-at
-    add-i
-    loop-less
-    loop-again
-    same-length
-    returns)
+    (tie.spec Inv-loop μ-loop loop-holds (λ c κs. search needs) add-d shared-slice-read-d slice-write-d add-at add-i loop-less loop-again same-length returns)

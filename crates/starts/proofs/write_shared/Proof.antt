@@ -43,9 +43,6 @@ base-of-requires c κs = (c .before .before .before .before .before .before .pre
 local-place-requires : tie.Need-local-place-requires Inv-loop μ-loop
 local-place-requires c κs = (record-here (c .before .before), c .before .writer .ensures .1)
 
-cast-from : tie.Need-cast-from Inv-loop μ-loop
-cast-from c = search needs
-
 add-from : tie.Need-add-from Inv-loop μ-loop
 add-from c =
     let tested = c .before .before .before in
@@ -64,14 +61,8 @@ add-from c =
 shared-place-requires : tie.Need-shared-place-requires Inv-loop μ-loop
 shared-place-requires c κs = record-here (c .before .before .before)
 
-cast-to : tie.Need-cast-to Inv-loop μ-loop
-cast-to c = search needs
-
 width-requires : tie.Need-width-requires Inv-loop μ-loop
 width-requires c κs = record-here (c .before .before .before .before .before)
-
-cast-copy : tie.Need-cast-copy Inv-loop μ-loop
-cast-copy c = search needs
 
 copy-requires : tie.Need-copy-requires Inv-loop μ-loop
 copy-requires c κs =
@@ -133,23 +124,5 @@ returns c = publishing-done _ _ _ _ _ _ (c .before .loop .inv) (c .loop-test .le
 pub write-shared-spec : {M : Type 1} → statement M
 write-shared-spec =
     tie.close
-    (tie.spec
-    Inv-loop
-    μ-loop
-    loop-holds
-    writer-requires
-    base-of-requires
-    local-place-requires
-    cast-from
-    add-from
-    shared-place-requires
-    cast-to
-    width-requires
-    cast-copy
-    copy-requires
-    add-p
-    add-i
-    loop-less
-    loop-again
-    same-length
-    returns)
+    (tie.spec Inv-loop μ-loop loop-holds writer-requires base-of-requires local-place-requires (λ c. search needs) add-from shared-place-requires
+    (λ c. search needs) width-requires (λ c. search needs) copy-requires add-p add-i loop-less loop-again same-length returns)

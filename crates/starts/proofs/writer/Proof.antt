@@ -10,22 +10,13 @@ use Rattle.starts.proofs.writer.Reads as reads
 use Rattle.starts.proofs.writer.Lts as lts
 use Rattle.records.proofs.writes.Reads as writes-reads
 
-writes-requires : tie.Need-writes-requires
-writes-requires c κs = search needs
-
 returns : tie.Need-returns
 unfolding writerOf pick
 returns c = (rw (sym (c .before .writes .ensures) ∙ c .if1 .taken), omega arith)
 
-writes-requires-2 : tie.Need-writes-requires-2
-writes-requires-2 c κs = search needs
-
 returns-2 : tie.Need-returns-2
 unfolding writerOf pick
 returns-2 c = (rw (sym (c .before .before .before .writes .ensures) ∙ c .before .before .if1 .left, sym (c .before .writes2 .ensures) ∙ c .if2 .taken), omega arith)
-
-writes-requires-3 : tie.Need-writes-requires-3
-writes-requires-3 c κs = search needs
 
 returns-3 : tie.Need-returns-3
 unfolding writerOf pick
@@ -38,11 +29,4 @@ returns-4 c = (rw (sym (c .before .before .before .before .before .writes .ensur
 pub writer-spec : {M : Type 1} → statement M
 writer-spec =
     tie.close
-    (tie.spec
-    writes-requires
-    returns
-    writes-requires-2
-    returns-2
-    writes-requires-3
-    returns-3
-    returns-4)
+    (tie.spec (λ c κs. search needs) returns (λ c κs. search needs) returns-2 (λ c κs. search needs) returns-3 returns-4)

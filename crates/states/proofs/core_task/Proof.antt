@@ -21,41 +21,17 @@ asked {f} ok e h =
     let b = ap (λ (m : Layout). m .variables) e in
     (ok .laid, a, rw (a, b) (omega arith), h)
 
-mul-core : tie.Need-mul-core
-mul-core c = search needs
-
-element-copy-out-core : tie.Need-element-copy-out-core
-element-copy-out-core c = search needs
-
 mul-end : tie.Need-mul-end
 mul-end c = record { fits = omega (arith, ap (λ (l : Layout). l .variables) (c .before .before .before .pre .1), c .before .before .before .pre .0 .laid .few) }
 
 add-end : tie.Need-add-end
 add-end c = record { fits = omega (arith, ap (λ (l : Layout). l .variables) (c .before .before .before .pre .1), ap (λ (l : Layout). l .first) (c .before .before .before .pre .1), c .before .before .before .pre .0 .laid .few, c .before .before .before .pre .0 .few) }
 
-cast-t11 : tie.Need-cast-t11
-cast-t11 c = search needs
-
-add-bytes : tie.Need-add-bytes
-add-bytes c = search needs
-
 bytes-requires : tie.Need-bytes-requires
 bytes-requires c κs = asked (c .before .before .before .before .pre .0) (c .before .before .before .before .pre .1) (omega (arith, c .before .before .before .before .pre .3, c .before .before .before .before .pre .0 .few))
 
 bytes-requires-2 : tie.Need-bytes-requires-2
 bytes-requires-2 c κs = asked (c .before .before .before .before .before .pre .0) (c .before .before .before .before .before .pre .1) (omega (arith, c .before .before .before .before .before .pre .3, c .before .before .before .before .before .pre .0 .few))
-
-mul-t18 : tie.Need-mul-t18
-mul-t18 c = search needs
-
-element-copy-out-t21 : tie.Need-element-copy-out-t21
-element-copy-out-t21 c = search needs
-
-mul-t22 : tie.Need-mul-t22
-mul-t22 c = search needs
-
-element-copy-out-t25 : tie.Need-element-copy-out-t25
-element-copy-out-t25 c = search needs
 
 cast-t26 : tie.Need-cast-t26
 cast-t26 c =
@@ -72,18 +48,5 @@ returns c =
 pub core-task-spec : {M : Type 1} → statement M
 core-task-spec =
     tie.close
-    (tie.spec
-    mul-core
-    element-copy-out-core
-    mul-end
-    add-end
-    cast-t11
-    add-bytes
-    bytes-requires
-    bytes-requires-2
-    mul-t18
-    element-copy-out-t21
-    mul-t22
-    element-copy-out-t25
-    cast-t26
-    returns)
+    (tie.spec (λ c. search needs) (λ c. search needs) mul-end add-end (λ c. search needs) (λ c. search needs) bytes-requires bytes-requires-2
+    (λ c. search needs) (λ c. search needs) (λ c. search needs) (λ c. search needs) cast-t26 returns)

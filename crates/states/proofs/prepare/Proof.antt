@@ -8,12 +8,6 @@ use Rattle.states.proofs.Preparing.{trace-sound, trace-laid, prepared-r
 use Rattle.states.proofs.prepare.Statement.{statement}
 use Rattle.states.proofs.prepare.Tie as tie
 
-load-trace-requires : tie.Need-load-trace-requires
-load-trace-requires c κs = search needs
-
-no-task-requires : tie.Need-no-task-requires
-no-task-requires c κs = search needs
-
 returns : tie.Need-returns
 returns c =
     let after-load-trace = c .before .before .before in
@@ -57,4 +51,4 @@ returns-2 c =
     (c .state-refusal .ensures) (c .before .core-tasks .ensures)
 
 pub prepare-spec : {M : Type 1} → statement M
-prepare-spec = tie.close (tie.spec load-trace-requires no-task-requires returns core-tasks-requires state-refusal-requires returns-2)
+prepare-spec = tie.close (tie.spec (λ c κs. search needs) (λ c κs. search needs) returns core-tasks-requires state-refusal-requires returns-2)

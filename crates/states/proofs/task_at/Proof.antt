@@ -8,9 +8,6 @@ use borrow.Author.Needs.{needs}
 use Rattle.states.proofs.task_at.Statement.{statement}
 use Rattle.states.proofs.task_at.Tie as tie
 
-no-task-requires : tie.Need-no-task-requires
-no-task-requires c κs = search needs
-
 returns : tie.Need-returns
 unfolding taskAt
 returns c =
@@ -29,4 +26,4 @@ returns-2 c =
     c .core-task .ensures ∙ sym (pick-true _ _ _ (lt-ltb _ _ (rw e at (c .before .if1 .left))))
 
 pub task-at-spec : {M : Type 1} → statement M
-task-at-spec = tie.close (tie.spec no-task-requires returns core-task-requires returns-2)
+task-at-spec = tie.close (tie.spec (λ c κs. search needs) returns core-task-requires returns-2)

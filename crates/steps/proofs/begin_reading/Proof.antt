@@ -7,9 +7,6 @@ use borrow.Author.Needs.{needs}
 use Rattle.steps.proofs.begin_reading.Statement.{statement}
 use Rattle.steps.proofs.begin_reading.Tie as tie
 
-cast-cycles : tie.Need-cast-cycles
-cast-cycles c = search needs
-
 returns : tie.Need-returns
 returns c = λ sh. ((λ m u. spent (c .before .before .before .before .before .before .pre .0) m (c .before .before .before .before .before .before .pre .1) (c .if1 .taken) sh), tt)
 
@@ -18,9 +15,6 @@ returns-2 c = λ sh. ((λ m u. joined (c .before .before .before .before .before
 
 take-record-requires : tie.Need-take-record-requires
 take-record-requires c κs = (c .before .before .before .before .before .before .before .before .pre .0, omega (arith, c .before .before .if1 .left))
-
-same-length : tie.Need-same-length
-same-length c = search needs
 
 returns-3 : tie.Need-returns-3
 returns-3 c =
@@ -35,4 +29,4 @@ returns-3 c =
     )
 
 pub begin-reading-spec : {M : Type 1} → statement M
-begin-reading-spec = tie.close (tie.spec cast-cycles returns returns-2 take-record-requires same-length returns-3)
+begin-reading-spec = tie.close (tie.spec (λ c. search needs) returns returns-2 take-record-requires (λ c. search needs) returns-3)

@@ -5,20 +5,8 @@ use borrow.Author.Needs.{needs}
 use Rattle.steps.proofs.bytes_ahead.Statement.{statement}
 use Rattle.steps.proofs.bytes_ahead.Tie as tie
 
-cast-next : tie.Need-cast-next
-cast-next c = search needs
-
-add-next : tie.Need-add-next
-add-next c = search needs
-
-sub-result : tie.Need-sub-result
-sub-result c = search needs
-
 returns : tie.Need-returns
 returns c = λ h. inl (c .before .before .before .if1 .taken, omega (arith, c .before .if2 .taken))
-
-sub-result-2 : tie.Need-sub-result-2
-sub-result-2 c = search needs
 
 returns-2 : tie.Need-returns-2
 returns-2 c = λ h. inr (c .before .before .before .if3 .taken, omega (arith, c .before .if4 .taken))
@@ -35,13 +23,4 @@ returns-5 c = λ h. absurd (omega arith)
 pub bytes-ahead-spec : {M : Type 1} → statement M
 bytes-ahead-spec =
     tie.close
-    (tie.spec
-    cast-next
-    add-next
-    sub-result
-    returns
-    sub-result-2
-    returns-2
-    returns-3
-    returns-4
-    returns-5)
+    (tie.spec (λ c. search needs) (λ c. search needs) (λ c. search needs) returns (λ c. search needs) returns-2 returns-3 returns-4 returns-5)

@@ -25,10 +25,4 @@ returns c =
 pub command-of-spec : {M : Type 1} → statement M
 command-of-spec =
     tie.close
-    (tie.spec
-    add-e
-    (λ c. search needs)
-    (λ c. search needs)
-    part-command-at-end
-    command-at-requires
-    returns)
+    (tie.spec add-e (λ c. search needs) (λ c. search needs) part-command-at-end command-at-requires returns)

@@ -5,9 +5,6 @@ use borrow.Author.Needs.{needs}
 use Rattle.steps.proofs.exchange_in.Statement.{statement}
 use Rattle.steps.proofs.exchange_in.Tie as tie
 
-begin-reading-requires : tie.Need-begin-reading-requires
-begin-reading-requires c κs = search needs
-
 read-byte-requires : tie.Need-read-byte-requires
 read-byte-requires c κs =
     let matched = c .before .before in
@@ -20,32 +17,14 @@ write-byte-requires c κs =
     let start = matched .before .before .before .before .before in
     (start .pre .0, matched .match .keys4, start .pre .2, start .pre .3 .writing (matched .match .keys4), start .pre .4)
 
-begin-writing-requires : tie.Need-begin-writing-requires
-begin-writing-requires c κs = search needs
-
-same-length : tie.Need-same-length
-same-length c = search needs
-
 returns : tie.Need-returns
 returns c = c .before .before .begin-reading .ensures _
-
-same-length-2 : tie.Need-same-length-2
-same-length-2 c = search needs
-
-same-length-3 : tie.Need-same-length-3
-same-length-3 c = search needs
 
 returns-2 : tie.Need-returns-2
 returns-2 c = c .before .before .read-byte .ensures _
 
 returns-3 : tie.Need-returns-3
 returns-3 c = begins-writing _ _ _ _ _ _ _ _ (c .begin-writing .ensures) (c .before .match .keys3)
-
-same-length-4 : tie.Need-same-length-4
-same-length-4 c = search needs
-
-same-length-5 : tie.Need-same-length-5
-same-length-5 c = search needs
 
 returns-4 : tie.Need-returns-4
 returns-4 c = c .before .before .write-byte .ensures _
@@ -56,18 +35,5 @@ returns-5 c = ((λ h z. does-stopped _ _ _ _ _ h (omega (arith, c .before .befor
 pub exchange-in-spec : {M : Type 1} → statement M
 exchange-in-spec =
     tie.close
-    (tie.spec
-    begin-reading-requires
-    read-byte-requires
-    begin-writing-requires
-    write-byte-requires
-    same-length
-    returns
-    same-length-2
-    same-length-3
-    returns-2
-    returns-3
-    same-length-4
-    same-length-5
-    returns-4
-    returns-5)
+    (tie.spec (λ c κs. search needs) read-byte-requires (λ c κs. search needs) write-byte-requires (λ c. search needs) returns (λ c. search needs)
+    (λ c. search needs) returns-2 returns-3 (λ c. search needs) (λ c. search needs) returns-4 returns-5)

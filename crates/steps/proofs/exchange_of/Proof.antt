@@ -10,12 +10,6 @@ use Rattle.steps.proofs.exchange_of.Tie as tie
 add-e : tie.Need-add-e
 add-e c = record { fits = omega (arith, stretch-inside _ (c .before .before .before .before .before .pre .0 .ready) (c .before .before .before .before .before .pre .0 .buffer)) }
 
-sub-exchange-in : tie.Need-sub-exchange-in
-sub-exchange-in c = search needs
-
-part-exchange-in-start : tie.Need-part-exchange-in-start
-part-exchange-in-start c = search needs
-
 part-exchange-in-end : tie.Need-part-exchange-in-end
 part-exchange-in-end c = omega (arith, stretch-inside _ (c .before .before .before .before .before .pre .0 .ready) (c .before .before .before .before .before .pre .0 .buffer))
 
@@ -29,12 +23,6 @@ exchange-in-requires c κs =
       start .pre .0 .upto,
     )
 
-same-length : tie.Need-same-length
-same-length c = search needs
-
-same-length-2 : tie.Need-same-length-2
-same-length-2 c = search needs
-
 returns : tie.Need-returns
 returns c =
     let after-exchange-in = c .before .before .before .before in
@@ -47,12 +35,4 @@ returns c =
 pub exchange-of-spec : {M : Type 1} → statement M
 exchange-of-spec =
     tie.close
-    (tie.spec
-    add-e
-    sub-exchange-in
-    part-exchange-in-start
-    part-exchange-in-end
-    exchange-in-requires
-    same-length
-    same-length-2
-    returns)
+    (tie.spec add-e (λ c. search needs) (λ c. search needs) part-exchange-in-end exchange-in-requires (λ c. search needs) (λ c. search needs) returns)

@@ -14,12 +14,6 @@ add-e c =
     let p = c .before .before .before .before .before .pre .0 in
     record { fits = omega (arith, stretch-inside _ (p .ready) (p .buffer)) }
 
-sub-bring-bytes : tie.Need-sub-bring-bytes
-sub-bring-bytes c = search needs
-
-part-bring-bytes-start : tie.Need-part-bring-bytes-start
-part-bring-bytes-start c = search needs
-
 part-bring-bytes-end : tie.Need-part-bring-bytes-end
 part-bring-bytes-end c =
     let p = c .before .before .before .before .before .before .before .pre .0 in
@@ -32,12 +26,6 @@ bring-bytes-requires c κs =
     let m = c .before .before .if1 .taken in
     (p .ready .accepted .laid, p .ready .known, p .upto, p .aimed .reading m, reading-ahead (p .ready) _ (q .1) m, ap (λ (l : List ℕ). length l) (stretch-is _ (p .ready) (p .buffer) _ refl) ∙ p .ready .fit .size, p .shared)
 
-same-length : tie.Need-same-length
-same-length c = search needs
-
-same-length-2 : tie.Need-same-length-2
-same-length-2 c = search needs
-
 returns : tie.Need-returns
 returns c =
     let a = c .before .before .before .before .before .before .before .before .before .before .before .before .args in
@@ -47,12 +35,6 @@ returns c =
       reading = λ e. (c .before .before .bring-bytes .ensures .0, bytes-read-in _ (p .ready) (p .buffer) _ refl (a .r .exchange) (a .count) _ (a .shared .now) (c .before .before .bring-bytes .ensures .1) (c .before .before .bring-bytes .kept .1 .1 .1 .1 .1 .1 .0), refl);
       writing = λ e. absurd (omega (arith, m, e));
     }
-
-sub-publish-bytes : tie.Need-sub-publish-bytes
-sub-publish-bytes c = search needs
-
-part-publish-bytes-start : tie.Need-part-publish-bytes-start
-part-publish-bytes-start c = search needs
 
 part-publish-bytes-end : tie.Need-part-publish-bytes-end
 part-publish-bytes-end c =
@@ -66,12 +48,6 @@ publish-bytes-requires c κs =
     let m = writing-ahead (p .ready) _ (q .1) (c .before .before .before .if1 .left) in
     (p .ready .accepted .laid, p .ready .known, p .upto, p .aimed .writing (m .0), m .1, ap (λ (l : List ℕ). length l) (stretch-is _ (p .ready) (p .buffer) _ refl) ∙ p .ready .fit .size, p .shared)
 
-same-length-3 : tie.Need-same-length-3
-same-length-3 c = search needs
-
-same-length-4 : tie.Need-same-length-4
-same-length-4 c = search needs
-
 returns-2 : tie.Need-returns-2
 returns-2 c =
     let a = c .before .before .before .before .before .before .before .before .before .before .before .before .before .args in
@@ -84,19 +60,5 @@ returns-2 c =
 pub move-bytes-spec : {M : Type 1} → statement M
 move-bytes-spec =
     tie.close
-    (tie.spec
-    add-e
-    sub-bring-bytes
-    part-bring-bytes-start
-    part-bring-bytes-end
-    bring-bytes-requires
-    same-length
-    same-length-2
-    returns
-    sub-publish-bytes
-    part-publish-bytes-start
-    part-publish-bytes-end
-    publish-bytes-requires
-    same-length-3
-    same-length-4
-    returns-2)
+    (tie.spec add-e (λ c. search needs) (λ c. search needs) part-bring-bytes-end bring-bytes-requires (λ c. search needs) (λ c. search needs) returns
+    (λ c. search needs) (λ c. search needs) part-publish-bytes-end publish-bytes-requires (λ c. search needs) (λ c. search needs) returns-2)

@@ -32,15 +32,5 @@ returns c =
 pub other-of-spec : {M : Type 1} → statement M
 other-of-spec =
     tie.close
-    (tie.spec
-    add-e
-    add-f
-    (λ c. search needs)
-    (λ c. search needs)
-    part-execute-other-end
-    (λ c. search needs)
-    (λ c. search needs)
-    part-execute-other-end-2
-    execute-other-requires
-    (λ c. search needs)
-    returns)
+    (tie.spec add-e add-f (λ c. search needs) (λ c. search needs) part-execute-other-end (λ c. search needs) (λ c. search needs) part-execute-other-end-2
+    execute-other-requires (λ c. search needs) returns)

@@ -5,9 +5,6 @@ use borrow.Author.Needs.{needs}
 use Rattle.steps.proofs.read_byte.Statement.{statement}
 use Rattle.steps.proofs.read_byte.Tie as tie
 
-cast-x : tie.Need-cast-x
-cast-x c = search needs
-
 returns : tie.Need-returns
 returns c = λ b. ((λ h z. read-none (c .before .before .before .before .before .before .before .pre .0) _ h (c .before .before .before .before .before .before .before .pre .1) (c .if1 .taken)), tt)
 
@@ -22,29 +19,17 @@ bring-requires c κs =
       start .pre .2,
     )
 
-add-if2 : tie.Need-add-if2
-add-if2 c = search needs
-
-same-length : tie.Need-same-length
-same-length c = search needs
-
 returns-2 : tie.Need-returns-2
 returns-2 c =
     let after-bring = c .before .before .before .before in
     let start = after-bring .before .before .before .before .before .before .before .before .before in
     λ b. ((λ h z. read-last (start .pre .0) _ h _ (start .pre .1) (c .if2 .taken) (after-bring .bring .ensures)), tt)
 
-add-onward : tie.Need-add-onward
-add-onward c = search needs
-
 onward-requires : tie.Need-onward-requires
 onward-requires c κs =
     let else1 = c .before .before .before .before .before .before in
     let start = else1 .before .before .before .before .before .before .before in
     (start .pre .0 .accepted .laid, start .pre .4, omega (arith, core-few (start .pre .0)), start .pre .3, reads-left (start .pre .0) (else1 .if1 .left))
-
-same-length-2 : tie.Need-same-length-2
-same-length-2 c = search needs
 
 returns-3 : tie.Need-returns-3
 returns-3 c =
@@ -55,14 +40,5 @@ returns-3 c =
 pub read-byte-spec : {M : Type 1} → statement M
 read-byte-spec =
     tie.close
-    (tie.spec
-    cast-x
-    returns
-    bring-requires
-    add-if2
-    same-length
-    returns-2
-    add-onward
-    onward-requires
-    same-length-2
-    returns-3)
+    (tie.spec (λ c. search needs) returns bring-requires (λ c. search needs) (λ c. search needs) returns-2 (λ c. search needs) onward-requires
+    (λ c. search needs) returns-3)

@@ -9,17 +9,11 @@ use Rattle.steps.proofs.take_record.Tie as tie
 clear-requires : tie.Need-clear-requires
 clear-requires c κs = omega (arith, inputs-inside (c .before .before .before .before .before .pre .0))
 
-same-length : tie.Need-same-length
-same-length c = search needs
-
 returns : tie.Need-returns
 returns c =
     let then1 = c .before .before .before .before in
     let start = then1 .before .before .before .before in
     (blank-time (start .pre .0) (then1 .if1 .taken), blank-input (start .pre .0) (then1 .if1 .taken) _ (c .before .before .clear .ensures))
-
-cast-place : tie.Need-cast-place
-cast-place c = search needs
 
 add-place : tie.Need-add-place
 add-place c = record { fits = omega (arith, record-inside (c .before .before .before .before .before .before .pre .0) (c .before .before .if1 .left) (c .before .before .before .before .before .before .pre .1)) }
@@ -45,12 +39,6 @@ load-requires c κs =
     let start = else1 .before .before .before .before in
     (omega (arith, record-inside (start .pre .0) (else1 .if1 .left) (start .pre .1)), omega arith)
 
-cast-result : tie.Need-cast-result
-cast-result c = search needs
-
-same-length-2 : tie.Need-same-length-2
-same-length-2 c = search needs
-
 returns-2 : tie.Need-returns-2
 returns-2 c =
     let after-copy = c .before .before .before in
@@ -63,17 +51,5 @@ returns-2 c =
 pub take-record-spec : {M : Type 1} → statement M
 take-record-spec =
     tie.close
-    (tie.spec
-    clear-requires
-    same-length
-    returns
-    cast-place
-    add-place
-    mul-place
-    add-place-2
-    add-copy
-    copy-requires
-    load-requires
-    cast-result
-    same-length-2
-    returns-2)
+    (tie.spec clear-requires (λ c. search needs) returns (λ c. search needs) add-place mul-place add-place-2 add-copy copy-requires load-requires
+    (λ c. search needs) (λ c. search needs) returns-2)

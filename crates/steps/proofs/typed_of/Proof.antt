@@ -32,15 +32,5 @@ returns c =
 pub typed-of-spec : {M : Type 1} → statement M
 typed-of-spec =
     tie.close
-    (tie.spec
-    add-e
-    add-f
-    (λ c. search needs)
-    (λ c. search needs)
-    part-execute-typed-end
-    (λ c. search needs)
-    (λ c. search needs)
-    part-execute-typed-end-2
-    execute-typed-requires
-    (λ c. search needs)
-    returns)
+    (tie.spec add-e add-f (λ c. search needs) (λ c. search needs) part-execute-typed-end (λ c. search needs) (λ c. search needs) part-execute-typed-end-2
+    execute-typed-requires (λ c. search needs) returns)

@@ -5,9 +5,6 @@ use borrow.Author.Needs.{needs}
 use Rattle.steps.proofs.write_byte.Statement.{statement}
 use Rattle.steps.proofs.write_byte.Tie as tie
 
-cast-x : tie.Need-cast-x
-cast-x c = search needs
-
 returns : tie.Need-returns
 returns c = λ b. ((λ h z. write-none (c .before .before .before .before .before .before .before .pre .0) _ h (c .before .before .before .before .before .before .before .pre .1) (c .if1 .taken)), tt)
 
@@ -22,12 +19,6 @@ publish-requires c κs =
       start .pre .2,
     )
 
-add-if2 : tie.Need-add-if2
-add-if2 c = search needs
-
-same-length : tie.Need-same-length
-same-length c = search needs
-
 returns-2 : tie.Need-returns-2
 returns-2 c =
     let after-publish = c .before .before .before .before in
@@ -39,9 +30,6 @@ onward-requires c κs =
     let else1 = c .before .before .before .before .before .before in
     let start = else1 .before .before .before .before .before .before .before in
     (start .pre .0 .accepted .laid, start .pre .4, omega (arith, core-few (start .pre .0)), start .pre .3, writes-left (start .pre .0) (else1 .if1 .left))
-
-same-length-2 : tie.Need-same-length-2
-same-length-2 c = search needs
 
 returns-3 : tie.Need-returns-3
 returns-3 c =
@@ -55,13 +43,4 @@ returns-3 c =
 pub write-byte-spec : {M : Type 1} → statement M
 write-byte-spec =
     tie.close
-    (tie.spec
-    cast-x
-    returns
-    publish-requires
-    add-if2
-    same-length
-    returns-2
-    onward-requires
-    same-length-2
-    returns-3)
+    (tie.spec (λ c. search needs) returns publish-requires (λ c. search needs) (λ c. search needs) returns-2 onward-requires (λ c. search needs) returns-3)

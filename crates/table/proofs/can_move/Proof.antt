@@ -11,22 +11,13 @@ use borrow.Author.Needs.{needs}
 use Rattle.table.proofs.can_move.Statement.{statement}
 use Rattle.table.proofs.can_move.Tie as tie
 
-cast-if2 : tie.Need-cast-if2
-cast-if2 c = search needs
-
 returns : tie.Need-returns
 unfolding canMove pick
 returns c = rw (c .before .before .if1 .taken, le-ltb _ _ (c .if2 .taken)) (both-swap false (servedOrJoins (semaphoreOf (c .before .before .before .before .args .m)) (c .before .before .before .before .args .k)))
 
-goes-on-requires : tie.Need-goes-on-requires
-goes-on-requires c κs = search needs
-
 returns-2 : tie.Need-returns-2
 unfolding canMove pick
 returns-2 c = rw (c .before .before .before .if1 .taken, lt-ltb _ _ (c .before .if2 .left)) (c .goes-on .ensures ∙ both-swap true (servedOrJoins (semaphoreOf (c .before .before .before .before .before .args .m)) (c .before .before .before .before .before .args .k)))
-
-goes-on-requires-2 : tie.Need-goes-on-requires-2
-goes-on-requires-2 c κs = search needs
 
 returns-3 : tie.Need-returns-3
 unfolding canMove pick
@@ -43,4 +34,4 @@ returns-4 c =
 pub can-move-spec : {M : Type 1} → statement M
 can-move-spec =
     tie.close
-    (tie.spec cast-if2 returns goes-on-requires returns-2 goes-on-requires-2 returns-3 returns-4)
+    (tie.spec (λ c. search needs) returns (λ c κs. search needs) returns-2 (λ c κs. search needs) returns-3 returns-4)

@@ -37,9 +37,6 @@ mul-can-move-2 c = omega (arith, inside-four _ _ (c .before .before .before .bef
 element-copy-out-can-move-2 : tie.Need-element-copy-out-can-move-2 Inv-loop μ-loop
 element-copy-out-can-move-2 c = inside-four _ _ (c .before .before .before .before .before .args .t5) _ _ _ (c .before .before .before .before .before .pre) (c .before .loop .i)
 
-can-move-requires : tie.Need-can-move-requires Inv-loop μ-loop
-can-move-requires c κs = search needs
-
 cast-t23 : tie.Need-cast-t23 Inv-loop μ-loop
 cast-t23 c = omega (arith, inside-four _ _ (c .before .before .before .before .before .before .before .before .args .t5) _ _ _ (c .before .before .before .before .before .before .before .before .pre) (c .before .before .before .before .loop .i))
 
@@ -71,21 +68,5 @@ returns-2 c = scan-none _ _ (c .before .before .before .before .before .args .t5
 pub next-moving-spec : {M : Type 1} → statement M
 next-moving-spec =
     tie.close
-    (tie.spec
-    Inv-loop
-    μ-loop
-    loop-holds
-    add-k
-    rem-k
-    mul-can-move
-    element-copy-out-can-move
-    cast-can-move
-    mul-can-move-2
-    element-copy-out-can-move-2
-    can-move-requires
-    cast-t23
-    returns
-    add-i
-    loop-less
-    loop-again
-    returns-2)
+    (tie.spec Inv-loop μ-loop loop-holds add-k rem-k mul-can-move element-copy-out-can-move cast-can-move mul-can-move-2 element-copy-out-can-move-2
+    (λ c κs. search needs) cast-t23 returns add-i loop-less loop-again returns-2)

@@ -24,9 +24,6 @@ mul-word-at c = omega arith
 add-word-at : tie.Need-add-word-at Inv-loop μ-loop
 add-word-at c = omega arith
 
-word-at-requires : tie.Need-word-at-requires Inv-loop μ-loop
-word-at-requires c κs = search needs
-
 add-b : tie.Need-add-b Inv-loop μ-loop
 add-b c = omega arith
 
@@ -45,15 +42,4 @@ returns c = let e : c .before .loop .i ≡ c .before .before .before .args .k = 
 pub base-place-spec : {M : Type 1} → statement M
 base-place-spec =
     tie.close
-    (tie.spec
-    Inv-loop
-    μ-loop
-    loop-holds
-    mul-word-at
-    add-word-at
-    word-at-requires
-    add-b
-    add-i
-    loop-less
-    loop-again
-    returns)
+    (tie.spec Inv-loop μ-loop loop-holds mul-word-at add-word-at (λ c κs. search needs) add-b add-i loop-less loop-again returns)

@@ -16,24 +16,6 @@ Inv-loop f k n m p₀ i₀ p i = (i ≤ k) × (p ≡ codePlace f i) × (p ≤ 90
 abbrev μ-loop : tie.MeasureT-loop
 μ-loop f k n m p₀ i₀ p i = k - i
 
-byte-at-requires : tie.Need-byte-at-requires Inv-loop μ-loop
-byte-at-requires c κs = search needs
-
-cast-n : tie.Need-cast-n Inv-loop μ-loop
-cast-n c = search needs
-
-mul-byte-at : tie.Need-mul-byte-at Inv-loop μ-loop
-mul-byte-at c = search needs
-
-add-byte-at : tie.Need-add-byte-at Inv-loop μ-loop
-add-byte-at c = search needs
-
-byte-at-requires-2 : tie.Need-byte-at-requires-2 Inv-loop μ-loop
-byte-at-requires-2 c κs = search needs
-
-record-place-requires : tie.Need-record-place-requires Inv-loop μ-loop
-record-place-requires c κs = search needs
-
 loop-holds : tie.Need-loop-holds Inv-loop μ-loop
 unfolding codePlace
 loop-holds c = let f = c .before .before .before .before .args .f .now in
@@ -41,9 +23,6 @@ loop-holds c = let f = c .before .before .before .before .args .f .now in
 
 add-p : tie.Need-add-p Inv-loop μ-loop
 add-p c = omega arith
-
-word-at-requires : tie.Need-word-at-requires Inv-loop μ-loop
-word-at-requires c κs = search needs
 
 add-p-2 : tie.Need-add-p-2 Inv-loop μ-loop
 add-p-2 c = omega (arith, c .word-at .ensures .1)
@@ -64,20 +43,5 @@ returns c = let e : c .before .loop .i ≡ c .before .before .before .before .be
 pub code-place-spec : {M : Type 1} → statement M
 code-place-spec =
     tie.close
-    (tie.spec
-    Inv-loop
-    μ-loop
-    byte-at-requires
-    cast-n
-    mul-byte-at
-    add-byte-at
-    byte-at-requires-2
-    record-place-requires
-    loop-holds
-    add-p
-    word-at-requires
-    add-p-2
-    add-i
-    loop-less
-    loop-again
-    returns)
+    (tie.spec Inv-loop μ-loop (λ c κs. search needs) (λ c. search needs) (λ c. search needs) (λ c. search needs) (λ c κs. search needs) (λ c κs. search needs)
+    loop-holds add-p (λ c κs. search needs) add-p-2 add-i loop-less loop-again returns)

@@ -7,54 +7,9 @@ use borrow.Author.Needs.{needs}
 use Rattle.taskset.proofs.core_layout.Statement.{statement}
 use Rattle.taskset.proofs.core_layout.Tie as tie
 
-byte-at-requires : tie.Need-byte-at-requires
-byte-at-requires c κs = search needs
-
-cast-if1 : tie.Need-cast-if1
-cast-if1 c = search needs
-
-no-core-requires : tie.Need-no-core-requires
-no-core-requires c κs = search needs
-
 returns : tie.Need-returns
 unfolding coreLayout pick
 returns c = c .no-core .ensures ∙ rw (sym (c .before .before .byte-at .ensures), le-ltb _ _ (c .before .if1 .taken))
-
-mul-q : tie.Need-mul-q
-mul-q c = search needs
-
-add-q : tie.Need-add-q
-add-q c = search needs
-
-code-place-requires : tie.Need-code-place-requires
-code-place-requires c κs = search needs
-
-word-at-requires : tie.Need-word-at-requires
-word-at-requires c κs = search needs
-
-add-word-at : tie.Need-add-word-at
-add-word-at c = search needs
-
-word-at-requires-2 : tie.Need-word-at-requires-2
-word-at-requires-2 c κs = search needs
-
-add-word-at-2 : tie.Need-add-word-at-2
-add-word-at-2 c = search needs
-
-word-at-requires-3 : tie.Need-word-at-requires-3
-word-at-requires-3 c κs = search needs
-
-cast-t12 : tie.Need-cast-t12
-cast-t12 c = search needs
-
-base-place-requires : tie.Need-base-place-requires
-base-place-requires c κs = search needs
-
-add-t14 : tie.Need-add-t14
-add-t14 c = search needs
-
-word-at-requires-4 : tie.Need-word-at-requires-4
-word-at-requires-4 c κs = search needs
 
 returns-2 : tie.Need-returns-2
 unfolding coreLayout pick
@@ -78,21 +33,6 @@ returns-2 c =
 pub core-layout-spec : {M : Type 1} → statement M
 core-layout-spec =
     tie.close
-    (tie.spec
-    byte-at-requires
-    cast-if1
-    no-core-requires
-    returns
-    mul-q
-    add-q
-    code-place-requires
-    word-at-requires
-    add-word-at
-    word-at-requires-2
-    add-word-at-2
-    word-at-requires-3
-    cast-t12
-    base-place-requires
-    add-t14
-    word-at-requires-4
-    returns-2)
+    (tie.spec (λ c κs. search needs) (λ c. search needs) (λ c κs. search needs) returns (λ c. search needs) (λ c. search needs) (λ c κs. search needs)
+    (λ c κs. search needs) (λ c. search needs) (λ c κs. search needs) (λ c. search needs) (λ c κs. search needs) (λ c. search needs) (λ c κs. search needs)
+    (λ c. search needs) (λ c κs. search needs) returns-2)

@@ -8,21 +8,9 @@ use borrow.Author.Needs.{needs}
 use Rattle.taskset.proofs.first_of.Statement.{statement}
 use Rattle.taskset.proofs.first_of.Tie as tie
 
-byte-at-requires : tie.Need-byte-at-requires
-byte-at-requires c κs = search needs
-
-cast-if1 : tie.Need-cast-if1
-cast-if1 c = search needs
-
 returns : tie.Need-returns
 unfolding firstOf pick
 returns c = rw (sym (c .before .byte-at .ensures), le-ltb _ _ (c .if1 .taken))
-
-trace-place-requires : tie.Need-trace-place-requires
-trace-place-requires c κs = search needs
-
-add-result : tie.Need-add-result
-add-result c = search needs
 
 returns-2 : tie.Need-returns-2
 unfolding firstOf pick
@@ -31,4 +19,4 @@ returns-2 c = rw (sym (c .before .before .byte-at .ensures), lt-ltb _ _ (c .befo
 pub first-of-spec : {M : Type 1} → statement M
 first-of-spec =
     tie.close
-    (tie.spec byte-at-requires cast-if1 returns trace-place-requires add-result returns-2)
+    (tie.spec (λ c κs. search needs) (λ c. search needs) returns (λ c κs. search needs) (λ c. search needs) returns-2)

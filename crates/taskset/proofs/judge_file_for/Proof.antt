@@ -11,37 +11,13 @@ use borrow.Author.Needs.{needs}
 use Rattle.taskset.proofs.judge_file_for.Statement.{statement}
 use Rattle.taskset.proofs.judge_file_for.Tie as tie
 
-head-refusal-requires : tie.Need-head-refusal-requires
-head-refusal-requires c κs = search needs
-
 returns : tie.Need-returns
 unfolding judgeFor
 returns c = stop _ (c .before .head-refusal .ensures) (c .if1 .taken)
 
-variable-section-refusal-requires : tie.Need-variable-section-refusal-requires
-variable-section-refusal-requires c κs = search needs
-
 returns-2 : tie.Need-returns-2
 unfolding judgeFor
 returns-2 c = skip (sym (c .before .before .before .head-refusal .ensures) ∙ c .before .before .if1 .left) (stop _ (c .before .variable-section-refusal .ensures) (c .if2 .taken))
-
-byte-at-requires : tie.Need-byte-at-requires
-byte-at-requires c κs = search needs
-
-cast-n : tie.Need-cast-n
-cast-n c = search needs
-
-mul-byte-at : tie.Need-mul-byte-at
-mul-byte-at c = search needs
-
-add-byte-at : tie.Need-add-byte-at
-add-byte-at c = search needs
-
-byte-at-requires-2 : tie.Need-byte-at-requires-2
-byte-at-requires-2 c κs = search needs
-
-record-place-requires : tie.Need-record-place-requires
-record-place-requires c κs = search needs
 
 codes-refusal-requires : tie.Need-codes-refusal-requires
 unfolding codePlace
@@ -73,16 +49,5 @@ returns-3 c =
 pub judge-file-for-spec : {M : Type 1} → statement M
 judge-file-for-spec =
     tie.close
-    (tie.spec
-    head-refusal-requires
-    returns
-    variable-section-refusal-requires
-    returns-2
-    byte-at-requires
-    cast-n
-    mul-byte-at
-    add-byte-at
-    byte-at-requires-2
-    record-place-requires
-    codes-refusal-requires
-    returns-3)
+    (tie.spec (λ c κs. search needs) returns (λ c κs. search needs) returns-2 (λ c κs. search needs) (λ c. search needs) (λ c. search needs) (λ c. search needs)
+    (λ c κs. search needs) (λ c κs. search needs) codes-refusal-requires returns-3)

@@ -5,20 +5,8 @@ use borrow.Author.Needs.{needs}
 use Rattle.taskset.proofs.judge_trace.Statement.{statement}
 use Rattle.taskset.proofs.judge_trace.Tie as tie
 
-is-blank-requires : tie.Need-is-blank-requires
-is-blank-requires c κs = search needs
-
 returns : tie.Need-returns
 returns c = judged-blank _ _ (sym (c .before .is-blank .ensures) ∙ c .if1 .taken)
-
-byte-at-requires : tie.Need-byte-at-requires
-byte-at-requires c κs = search needs
-
-cast-trace-place : tie.Need-cast-trace-place
-cast-trace-place c = search needs
-
-trace-place-requires : tie.Need-trace-place-requires
-trace-place-requires c κs = search needs
 
 returns-2 : tie.Need-returns-2
 returns-2 c = judged-end _ _ _ _ (sym (c .before .before .before .before .is-blank .ensures) ∙ c .before .before .before .if1 .left) (c .before .trace-place .ensures .0) (c .before .before .byte-at .ensures) (c .if2 .taken)
@@ -27,4 +15,4 @@ returns-3 : tie.Need-returns-3
 returns-3 c = judged-elsewhere _ _ _ _ (sym (c .before .before .before .before .is-blank .ensures) ∙ c .before .before .before .if1 .left) (c .before .trace-place .ensures .0) (c .before .before .byte-at .ensures) (c .if2 .left)
 
 pub judge-trace-spec : {M : Type 1} → statement M
-judge-trace-spec = tie.close (tie.spec is-blank-requires returns byte-at-requires cast-trace-place trace-place-requires returns-2 returns-3)
+judge-trace-spec = tie.close (tie.spec (λ c κs. search needs) returns (λ c κs. search needs) (λ c. search needs) (λ c κs. search needs) returns-2 returns-3)

@@ -3,39 +3,6 @@ use borrow.Author.Needs.{needs}
 use Rattle.taskset.proofs.layout_of.Statement.{statement}
 use Rattle.taskset.proofs.layout_of.Tie as tie
 
-byte-at-requires : tie.Need-byte-at-requires
-byte-at-requires c κs = search needs
-
-cast-n : tie.Need-cast-n
-cast-n c = search needs
-
-core-layout-requires : tie.Need-core-layout-requires
-core-layout-requires c κs = search needs
-
-core-layout-requires-2 : tie.Need-core-layout-requires-2
-core-layout-requires-2 c κs = search needs
-
-core-layout-requires-3 : tie.Need-core-layout-requires-3
-core-layout-requires-3 c κs = search needs
-
-core-layout-requires-4 : tie.Need-core-layout-requires-4
-core-layout-requires-4 c κs = search needs
-
-mul-byte-at : tie.Need-mul-byte-at
-mul-byte-at c = search needs
-
-add-byte-at : tie.Need-add-byte-at
-add-byte-at c = search needs
-
-byte-at-requires-2 : tie.Need-byte-at-requires-2
-byte-at-requires-2 c κs = search needs
-
-cast-t11 : tie.Need-cast-t11
-cast-t11 c = search needs
-
-record-place-requires : tie.Need-record-place-requires
-record-place-requires c κs = search needs
-
 returns : tie.Need-returns
 returns c =
     let after-core-layout3 = c .before .before .before in
@@ -55,16 +22,5 @@ returns c =
 pub layout-of-spec : {M : Type 1} → statement M
 layout-of-spec =
     tie.close
-    (tie.spec
-    byte-at-requires
-    cast-n
-    core-layout-requires
-    core-layout-requires-2
-    core-layout-requires-3
-    core-layout-requires-4
-    mul-byte-at
-    add-byte-at
-    byte-at-requires-2
-    cast-t11
-    record-place-requires
-    returns)
+    (tie.spec (λ c κs. search needs) (λ c. search needs) (λ c κs. search needs) (λ c κs. search needs) (λ c κs. search needs) (λ c κs. search needs)
+    (λ c. search needs) (λ c. search needs) (λ c κs. search needs) (λ c. search needs) (λ c κs. search needs) returns)

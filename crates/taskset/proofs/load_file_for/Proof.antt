@@ -7,18 +7,9 @@ use borrow.Author.Needs.{needs}
 use Rattle.taskset.proofs.load_file_for.Statement.{statement}
 use Rattle.taskset.proofs.load_file_for.Tie as tie
 
-judge-file-for-requires : tie.Need-judge-file-for-requires
-judge-file-for-requires c κs = search needs
-
-layout-of-requires : tie.Need-layout-of-requires
-layout-of-requires c κs = search needs
-
 returns : tie.Need-returns
 unfolding loadFor pick
 returns c = rw (sym (c .before .before .judge-file-for .ensures), eq-eqb _ _ (c .before .if1 .taken), c .before .if1 .taken, c .layout-of .ensures)
-
-no-layout-requires : tie.Need-no-layout-requires
-no-layout-requires c κs = search needs
 
 returns-2 : tie.Need-returns-2
 unfolding loadFor pick
@@ -27,4 +18,4 @@ returns-2 c = rw (sym (c .before .before .judge-file-for .ensures), ne-eqb _ _ (
 pub load-file-for-spec : {M : Type 1} → statement M
 load-file-for-spec =
     tie.close
-    (tie.spec judge-file-for-requires layout-of-requires returns no-layout-requires returns-2)
+    (tie.spec (λ c κs. search needs) (λ c κs. search needs) returns (λ c κs. search needs) returns-2)

@@ -6,25 +6,13 @@ use Rattle.taskset.proofs.Sizes.{sizes-added, size-small}
 use Rattle.taskset.proofs.sum_of_sizes.Statement.{statement}
 use Rattle.taskset.proofs.sum_of_sizes.Tie as tie
 
-element-copy-out-result : tie.Need-element-copy-out-result
-element-copy-out-result c = search needs
-
-element-copy-out-result-2 : tie.Need-element-copy-out-result-2
-element-copy-out-result-2 c = search needs
-
 add-result : tie.Need-add-result
 add-result c =
     rw (c .before .pre .1) (omega (arith, size-small (c .before .args .f .now) (c .before .pre .0) 0, size-small (c .before .args .f .now) (c .before .pre .0) 1))
 
-element-copy-out-result-3 : tie.Need-element-copy-out-result-3
-element-copy-out-result-3 c = search needs
-
 add-result-2 : tie.Need-add-result-2
 add-result-2 c =
     rw (c .before .pre .1) (omega (arith, size-small (c .before .args .f .now) (c .before .pre .0) 0, size-small (c .before .args .f .now) (c .before .pre .0) 1, size-small (c .before .args .f .now) (c .before .pre .0) 2))
-
-element-copy-out-result-4 : tie.Need-element-copy-out-result-4
-element-copy-out-result-4 c = search needs
 
 add-result-3 : tie.Need-add-result-3
 add-result-3 c =
@@ -41,4 +29,4 @@ returns c =
 
 pub sum-of-sizes-spec : {M : Type 1} → statement M
 sum-of-sizes-spec =
-    tie.close (tie.spec element-copy-out-result element-copy-out-result-2 add-result element-copy-out-result-3 add-result-2 element-copy-out-result-4 add-result-3 returns)
+    tie.close (tie.spec (λ c. search needs) (λ c. search needs) add-result (λ c. search needs) add-result-2 (λ c. search needs) add-result-3 returns)

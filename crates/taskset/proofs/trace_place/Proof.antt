@@ -18,9 +18,6 @@ loop-holds : tie.Need-loop-holds Inv-loop μ-loop
 unfolding tracePlace
 loop-holds c = (omega arith, refl, omega arith)
 
-word-at-requires : tie.Need-word-at-requires Inv-loop μ-loop
-word-at-requires c κs = search needs
-
 add-p : tie.Need-add-p Inv-loop μ-loop
 add-p c = omega arith
 
@@ -32,9 +29,6 @@ add-word-at c = omega arith
 
 add-word-at-2 : tie.Need-add-word-at-2 Inv-loop μ-loop
 add-word-at-2 c = omega arith
-
-word-at-requires-2 : tie.Need-word-at-requires-2 Inv-loop μ-loop
-word-at-requires-2 c κs = search needs
 
 add-p-2 : tie.Need-add-p-2 Inv-loop μ-loop
 add-p-2 c = omega (arith, c .word-at2 .ensures .1)
@@ -61,20 +55,5 @@ returns c = let e : c .before .loop .i ≡ c .before .before .before .before .ar
 pub trace-place-spec : {M : Type 1} → statement M
 trace-place-spec =
     tie.close
-    (tie.spec
-    Inv-loop
-    μ-loop
-    loop-holds
-    word-at-requires
-    add-p
-    mul-word-at
-    add-word-at
-    add-word-at-2
-    word-at-requires-2
-    add-p-2
-    mul-p
-    add-p-3
-    add-i
-    loop-less
-    loop-again
-    returns)
+    (tie.spec Inv-loop μ-loop loop-holds (λ c κs. search needs) add-p mul-word-at add-word-at add-word-at-2 (λ c κs. search needs) add-p-2 mul-p add-p-3 add-i
+    loop-less loop-again returns)

@@ -20,14 +20,5 @@ returns-4 c = rw (c .enum-told4 .given .1) (zero-by-zero binary64)
 pub lreal-in-spec : {M : Type 1} → statement M
 lreal-in-spec =
     tie.close
-    (tie.spec
-    (λ c. search needs)
-    (λ c. search needs)
-    (λ c. search needs)
-    (λ c. search needs)
-    (λ c. search needs)
-    returns
-    returns-2
-    returns-3
-    returns-4
+    (tie.spec (λ c. search needs) (λ c. search needs) (λ c. search needs) (λ c. search needs) (λ c. search needs) returns returns-2 returns-3 returns-4
     (λ c. search needs))

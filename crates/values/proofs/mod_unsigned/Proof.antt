@@ -7,9 +7,6 @@ use Rattle.values.specs.Width.{unsignedRemainder}
 use Rattle.values.proofs.mod_unsigned.Statement.{statement}
 use Rattle.values.proofs.mod_unsigned.Tie as tie
 
-rem-result : tie.Need-rem-result
-rem-result c = search needs
-
 returns : tie.Need-returns
 unfolding unsignedRemainder
 returns c = sym (pick-true _ _ _ (eq-eqb _ _ (c .if1 .taken)))
@@ -19,4 +16,4 @@ unfolding unsignedRemainder
 returns-2 c = sym (pick-false _ _ _ (ne-eqb _ _ (c .if1 .left)))
 
 pub mod-unsigned-spec : {M : Type 1} → statement M
-mod-unsigned-spec = tie.close (tie.spec rem-result returns returns-2)
+mod-unsigned-spec = tie.close (tie.spec (λ c. search needs) returns returns-2)

@@ -31,9 +31,4 @@ returns c =
 pub neg-signed-spec : {M : Type 1} → statement M
 neg-signed-spec =
     tie.close
-    (tie.spec
-    (λ c κs. search needs)
-    (λ c κs. search needs)
-    low-bytes-requires
-    signed-of-requires
-    returns)
+    (tie.spec (λ c κs. search needs) (λ c κs. search needs) low-bytes-requires signed-of-requires returns)

@@ -110,36 +110,7 @@ returns-12 c = ap Signed (read64 _ (c .signed-of5 .ok) ∙ c .signed-of5 .ensure
 pub read-value-spec : {M : Type 1} → statement M
 read-value-spec =
     tie.close
-    (tie.spec
-    load-requires
-    load-requires-2
-    (λ c κs. search needs)
-    load-requires-3
-    load-requires-4
-    (λ c κs. search needs)
-    load-requires-5
-    load-requires-6
-    (λ c κs. search needs)
-    load-requires-7
-    load-requires-8
-    (λ c κs. search needs)
-    load-requires-9
-    load-requires-10
-    (λ c. search needs)
-    (λ c κs. search needs)
-    load-requires-11
-    (λ c κs. search needs)
-    load-requires-12
-    (λ c κs. search needs)
-    returns
-    returns-2
-    returns-3
-    returns-4
-    returns-5
-    returns-6
-    returns-7
-    returns-8
-    returns-9
-    returns-10
-    returns-11
-    returns-12)
+    (tie.spec load-requires load-requires-2 (λ c κs. search needs) load-requires-3 load-requires-4 (λ c κs. search needs) load-requires-5 load-requires-6
+    (λ c κs. search needs) load-requires-7 load-requires-8 (λ c κs. search needs) load-requires-9 load-requires-10 (λ c. search needs) (λ c κs. search needs)
+    load-requires-11 (λ c κs. search needs) load-requires-12 (λ c κs. search needs) returns returns-2 returns-3 returns-4 returns-5 returns-6 returns-7
+    returns-8 returns-9 returns-10 returns-11 returns-12)

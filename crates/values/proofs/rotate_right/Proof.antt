@@ -25,12 +25,4 @@ returns-2 c = c .rotated .ensures
 pub rotate-right-spec : {M : Type 1} → statement M
 rotate-right-spec =
     tie.close
-    (tie.spec
-    (λ c. search needs)
-    (λ c. search needs)
-    (λ c κs. search needs)
-    returns
-    (λ c. search needs)
-    sub-rotated
-    rotated-requires
-    returns-2)
+    (tie.spec (λ c. search needs) (λ c. search needs) (λ c κs. search needs) returns (λ c. search needs) sub-rotated rotated-requires returns-2)

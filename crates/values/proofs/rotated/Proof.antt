@@ -21,14 +21,5 @@ returns c = turn-is (8 * c .args .w) (c .args .x) (c .args .places) (omega arith
 pub rotated-spec : {M : Type 1} → statement M
 rotated-spec =
     tie.close
-    (tie.spec
-    (λ c. search needs)
-    (λ c. search needs)
-    (λ c. search needs)
-    rem-low
-    (λ c. search needs)
-    (λ c. search needs)
-    rem-high
-    (λ c. search needs)
-    add-result
-    returns)
+    (tie.spec (λ c. search needs) (λ c. search needs) (λ c. search needs) rem-low (λ c. search needs) (λ c. search needs) rem-high (λ c. search needs)
+    add-result returns)

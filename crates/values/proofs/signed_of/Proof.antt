@@ -59,17 +59,5 @@ returns-3 c =
 pub signed-of-spec : {M : Type 1} → statement M
 signed-of-spec =
     tie.close
-    (tie.spec
-    (λ c κs. search needs)
-    add-low-bytes
-    (λ c κs. search needs)
-    cast-result
-    cast-result-2
-    sub-result
-    returns
-    cast-result-3
-    sub-below-zero
-    sub-below-zero-2
-    below-zero-requires
-    returns-2
-    returns-3)
+    (tie.spec (λ c κs. search needs) add-low-bytes (λ c κs. search needs) cast-result cast-result-2 sub-result returns cast-result-3 sub-below-zero
+    sub-below-zero-2 below-zero-requires returns-2 returns-3)

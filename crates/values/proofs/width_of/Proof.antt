@@ -58,16 +58,4 @@ returns-12 c = width-at {t = c .before .args .t} 11 (search (needs, last-type)) 
 pub width-of-spec : {M : Type 1} → statement M
 width-of-spec =
     tie.close
-    (tie.spec
-    returns
-    returns-2
-    returns-3
-    returns-4
-    returns-5
-    returns-6
-    returns-7
-    returns-8
-    returns-9
-    returns-10
-    returns-11
-    returns-12)
+    (tie.spec returns returns-2 returns-3 returns-4 returns-5 returns-6 returns-7 returns-8 returns-9 returns-10 returns-11 returns-12)

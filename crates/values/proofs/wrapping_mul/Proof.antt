@@ -27,11 +27,4 @@ returns c =
 pub wrapping-mul-spec : {M : Type 1} → statement M
 wrapping-mul-spec =
     tie.close
-    (tie.spec
-    mul-wrapping-add-u64
-    mul-wrapping-add-u64-2
-    (λ c κs. search needs)
-    mul-wrapping-add-u64-3
-    (λ c. search needs)
-    (λ c κs. search needs)
-    returns)
+    (tie.spec mul-wrapping-add-u64 mul-wrapping-add-u64-2 (λ c κs. search needs) mul-wrapping-add-u64-3 (λ c. search needs) (λ c κs. search needs) returns)

@@ -5,13 +5,10 @@ use borrow.Author.Needs.{needs}
 use Rattle.window.proofs.check_window.Statement.{statement}
 use Rattle.window.proofs.check_window.Tie as tie
 
-find-window-requires : tie.Need-find-window-requires
-find-window-requires c κs = search needs
-
 returns : tie.Need-returns
 returns c =
     let a = c .before .before .before .args in
     number-found (a .file .now) (length (a .buffer .now)) (a .shown) (a .core) (a .start) (a .count) (c .find-window .ensures)
 
 pub check-window-spec : {M : Type 1} → statement M
-check-window-spec = tie.close (tie.spec find-window-requires returns)
+check-window-spec = tie.close (tie.spec (λ c κs. search needs) returns)

@@ -12,12 +12,6 @@ use borrow.Author.Needs.{needs}
 use Rattle.window.proofs.find_window.Statement.{statement}
 use Rattle.window.proofs.find_window.Tie as tie
 
-load-file-requires : tie.Need-load-file-requires
-load-file-requires c κs = search needs
-
-no-stretch-requires : tie.Need-no-stretch-requires
-no-stretch-requires c κs = search needs
-
 returns : tie.Need-returns
 returns c =
     let turned = c .before in
@@ -35,9 +29,6 @@ sum-of-sizes-requires c κs =
     let laid = file-laid (a .file .now) _ (loaded .load-file .ensures) (passed .if1 .left) in
     (accepted, laid)
 
-no-stretch-requires-2 : tie.Need-no-stretch-requires-2
-no-stretch-requires-2 c κs = search needs
-
 returns-2 : tie.Need-returns-2
 returns-2 c =
     let turned = c .before in
@@ -50,9 +41,6 @@ returns-2 c =
     refused-found (a .file .now) (a .buffer) (a .shown) (a .core) (a .start) (a .count)
     (lent-number (a .file .now) (a .buffer) (a .shown) (a .core) (a .start) (a .count) accepted
     (λ e. turned .if2 .taken (e ∙ sym (summed .sum-of-sizes .ensures .0)))) (λ e. absurd (omega arith)) (c .no-stretch2 .ensures)
-
-no-stretch-requires-3 : tie.Need-no-stretch-requires-3
-no-stretch-requires-3 c κs = search needs
 
 returns-3 : tie.Need-returns-3
 returns-3 c =
@@ -83,9 +71,6 @@ place-of-requires c κs =
     let below : a .core < cores (a .file .now) = omega (arith, ap (λ (l : Layout). l .cores) laid, there .if3 .left) in
     (laid, omega (arith, keeps-rules (a .file .now) accepted .most-cores))
 
-no-stretch-requires-4 : tie.Need-no-stretch-requires-4
-no-stretch-requires-4 c κs = search needs
-
 returns-4 : tie.Need-returns-4
 returns-4 c =
     let turned = c .before in
@@ -102,9 +87,6 @@ returns-4 c =
     let below : a .core < cores (a .file .now) = omega (arith, ap (λ (l : Layout). l .cores) laid, there .if3 .left) in
     let place = ap (λ (p : Place). p .size) (placed .place-of .ensures) in
     refused-found (a .file .now) (a .buffer) (a .shown) (a .core) (a .start) (a .count) (stretch-number (a .file .now) (a .buffer) (a .shown) (a .core) (a .start) (a .count) accepted lent below (omega (arith, place, turned .if4 .taken))) (λ e. absurd (omega arith)) (c .no-stretch4 .ensures)
-
-no-stretch-requires-5 : tie.Need-no-stretch-requires-5
-no-stretch-requires-5 c κs = search needs
 
 returns-5 : tie.Need-returns-5
 returns-5 c =
@@ -189,20 +171,5 @@ returns-6 c =
 pub find-window-spec : {M : Type 1} → statement M
 find-window-spec =
     tie.close
-    (tie.spec
-    load-file-requires
-    no-stretch-requires
-    returns
-    sum-of-sizes-requires
-    no-stretch-requires-2
-    returns-2
-    no-stretch-requires-3
-    returns-3
-    place-of-requires
-    no-stretch-requires-4
-    returns-4
-    no-stretch-requires-5
-    returns-5
-    add-from
-    add-t13
-    returns-6)
+    (tie.spec (λ c κs. search needs) (λ c κs. search needs) returns sum-of-sizes-requires (λ c κs. search needs) returns-2 (λ c κs. search needs) returns-3
+    place-of-requires (λ c κs. search needs) returns-4 (λ c κs. search needs) returns-5 add-from add-t13 returns-6)

@@ -11,12 +11,6 @@ use borrow.Author.Needs.{needs}
 use Rattle.window.proofs.window.Statement.{statement}
 use Rattle.window.proofs.window.Tie as tie
 
-find-window-requires : tie.Need-find-window-requires
-find-window-requires c κs = search needs
-
-enum-told : tie.Need-enum-told
-enum-told c = search needs
-
 sub-result : tie.Need-sub-result
 sub-result c =
     let found = c .before .before in
@@ -37,9 +31,6 @@ part-result-end c =
     let a = found .before .before .before .args in
     let x = ends-at (a .file .now) (a .buffer .now) (a .shown) (a .core) (a .start) (a .count) (found .find-window .ensures) Code (c .enum-told .given .1) in
     omega (arith, x .in-source, x .ordered)
-
-enum-told-2 : tie.Need-enum-told-2
-enum-told-2 c = search needs
 
 sub-result-2 : tie.Need-sub-result-2
 sub-result-2 c =
@@ -81,15 +72,5 @@ returns-2 c =
 pub window-spec : {M : Type 1} → statement M
 window-spec =
     tie.close
-    (tie.spec
-    find-window-requires
-    enum-told
-    sub-result
-    part-result-start
-    part-result-end
-    enum-told-2
-    sub-result-2
-    part-result-start-2
-    part-result-end-2
-    returns
-    returns-2)
+    (tie.spec (λ c κs. search needs) (λ c. search needs) sub-result part-result-start part-result-end (λ c. search needs) sub-result-2 part-result-start-2
+    part-result-end-2 returns returns-2)

@@ -8,20 +8,8 @@ use Rattle.code.proofs.Laws.{constant-short, constant-cut, constant-unl
 use Rattle.code.proofs.accepted_lengths.constant_length.Statement.{statement}
 use Rattle.code.proofs.accepted_lengths.constant_length.Tie as tie
 
-sub-left : tie.Need-sub-left
-sub-left c = search needs
-
 returns : tie.Need-returns
 returns c = constant-short _ _ (c .before .before .pre .1) (omega arith)
-
-add-n : tie.Need-add-n
-add-n c = search needs
-
-shared-slice-read-n : tie.Need-shared-slice-read-n
-shared-slice-read-n c = search needs
-
-inside-requires : tie.Need-inside-requires
-inside-requires c κs = search needs
 
 returns-2 : tie.Need-returns-2
 returns-2 c = constant-unlisted _ _ (c .before .before .before .before .before .pre .1) (sym (c .before .inside .ensures) ∙ not-true _ (c .if2 .taken))
@@ -41,14 +29,4 @@ returns-4 c = constant-whole _ _ (c .before .before .before .before .before .bef
 pub constant-length-spec : {M : Type 1} → statement M
 constant-length-spec =
     tie.close
-    (tie.spec
-    sub-left
-    returns
-    add-n
-    shared-slice-read-n
-    inside-requires
-    returns-2
-    cast-all
-    add-all
-    returns-3
-    returns-4)
+    (tie.spec (λ c. search needs) returns (λ c. search needs) (λ c. search needs) (λ c κs. search needs) returns-2 cast-all add-all returns-3 returns-4)

@@ -9,26 +9,8 @@ use Rattle.code.proofs.Laws.{length-whole, length-cut, length-unlisted}
 use Rattle.code.proofs.accepted_lengths.element_length.Statement.{statement}
 use Rattle.code.proofs.accepted_lengths.element_length.Tie as tie
 
-sub-if1 : tie.Need-sub-if1
-sub-if1 c = search needs
-
 returns : tie.Need-returns
 returns c = length-cut _ _ _ (c .before .before .pre .1) (omega arith)
-
-add-element-ok : tie.Need-add-element-ok
-add-element-ok c = search needs
-
-shared-slice-read-element-ok : tie.Need-shared-slice-read-element-ok
-shared-slice-read-element-ok c = search needs
-
-add-word : tie.Need-add-word
-add-word c = search needs
-
-word-requires : tie.Need-word-requires
-word-requires c κs = search needs
-
-element-ok-requires : tie.Need-element-ok-requires
-element-ok-requires c κs = search needs
 
 returns-2 : tie.Need-returns-2
 returns-2 c =
@@ -50,13 +32,5 @@ returns-3 c =
 pub element-length-spec : {M : Type 1} → statement M
 element-length-spec =
     tie.close
-    (tie.spec
-    sub-if1
-    returns
-    add-element-ok
-    shared-slice-read-element-ok
-    add-word
-    word-requires
-    element-ok-requires
-    returns-2
+    (tie.spec (λ c. search needs) returns (λ c. search needs) (λ c. search needs) (λ c. search needs) (λ c κs. search needs) (λ c κs. search needs) returns-2
     returns-3)

@@ -18,11 +18,4 @@ returns-3 c = length-unlisted _ _ (c .before .before .before .before .before .pr
 pub packed-length-spec : {M : Type 1} → statement M
 packed-length-spec =
     tie.close
-    (tie.spec
-    (λ c. search needs)
-    returns
-    (λ c. search needs)
-    (λ c. search needs)
-    (λ c κs. search needs)
-    returns-2
-    returns-3)
+    (tie.spec (λ c. search needs) returns (λ c. search needs) (λ c. search needs) (λ c κs. search needs) returns-2 returns-3)

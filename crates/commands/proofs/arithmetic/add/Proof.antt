@@ -9,20 +9,6 @@ pub add-spec : {M : Type 1} → statement M
 unfolding ADD
 add-spec =
     tie.close
-    (tie.spec
-    (λ c. search needs)
-    (λ c. search needs)
-    (λ c κs. search needs)
-    (λ c κs. search needs)
-    (λ c. search needs)
-    (λ c κs. search needs)
-    (λ c κs. search needs)
-    (λ c. search needs)
-    (λ c κs. search needs)
-    (λ c. search needs)
-    (λ c κs. search needs)
-    (λ c. search kinds)
-    (λ c. search kinds)
-    (λ c. search kinds)
-    (λ c. search kinds)
-    (λ c. search kinds))
+    (tie.spec (λ c. search needs) (λ c. search needs) (λ c κs. search needs) (λ c κs. search needs) (λ c. search needs) (λ c κs. search needs)
+    (λ c κs. search needs) (λ c. search needs) (λ c κs. search needs) (λ c. search needs) (λ c κs. search needs) (λ c. search kinds) (λ c. search kinds)
+    (λ c. search kinds) (λ c. search kinds) (λ c. search kinds))

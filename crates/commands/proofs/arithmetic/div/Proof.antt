@@ -9,20 +9,6 @@ pub div-spec : {M : Type 1} → statement M
 unfolding DIV
 div-spec =
     tie.close
-    (tie.spec
-    (λ c. search needs)
-    (λ c. search needs)
-    (λ c κs. search needs)
-    (λ c κs. search divisors)
-    (λ c. search needs)
-    (λ c κs. search needs)
-    (λ c. search divisors)
-    (λ c. search needs)
-    (λ c κs. search needs)
-    (λ c. search needs)
-    (λ c κs. search needs)
-    (λ c. search kinds)
-    (λ c. search kinds)
-    (λ c. search kinds)
-    (λ c. search kinds)
-    (λ c. search kinds))
+    (tie.spec (λ c. search needs) (λ c. search needs) (λ c κs. search needs) (λ c κs. search divisors) (λ c. search needs) (λ c κs. search needs)
+    (λ c. search divisors) (λ c. search needs) (λ c κs. search needs) (λ c. search needs) (λ c κs. search needs) (λ c. search kinds) (λ c. search kinds)
+    (λ c. search kinds) (λ c. search kinds) (λ c. search kinds))

@@ -11,12 +11,6 @@ pub div-typed-spec : {M : Type 1} → statement M
 unfolding resultType resultWidth secondWidth widthOf pick
 div-typed-spec =
     tie.close
-    (tie.spec
-    (λ c κs. search known-divisor)
-    (λ c. search needs)
-    (λ c. search known-zero)
-    (λ c κs. search known-type)
-    (λ c κs. (search known-taken, search known-first, search known-second, search not-beyond))
-    (λ c κs. search (known-width, known-result))
-    (λ c. search needs)
+    (tie.spec (λ c κs. search known-divisor) (λ c. search needs) (λ c. search known-zero) (λ c κs. search known-type)
+    (λ c κs. (search known-taken, search known-first, search known-second, search not-beyond)) (λ c κs. search (known-width, known-result)) (λ c. search needs)
     (λ c. search (known-done, not-beyond)))

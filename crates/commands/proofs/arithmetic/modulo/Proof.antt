@@ -9,18 +9,6 @@ pub modulo-spec : {M : Type 1} → statement M
 unfolding MOD
 modulo-spec =
     tie.close
-    (tie.spec
-    (λ c. search needs)
-    (λ c. search needs)
-    (λ c κs. search needs)
-    (λ c κs. search needs)
-    (λ c. search needs)
-    (λ c κs. search needs)
-    (λ c κs. search needs)
-    (λ c. search needs)
-    (λ c. search needs)
-    (λ c. search kinds)
-    (λ c. search kinds)
-    (λ c. search kinds)
-    (λ c. search kinds)
+    (tie.spec (λ c. search needs) (λ c. search needs) (λ c κs. search needs) (λ c κs. search needs) (λ c. search needs) (λ c κs. search needs)
+    (λ c κs. search needs) (λ c. search needs) (λ c. search needs) (λ c. search kinds) (λ c. search kinds) (λ c. search kinds) (λ c. search kinds)
     (λ c. search kinds))

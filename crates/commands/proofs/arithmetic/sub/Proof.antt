@@ -9,20 +9,6 @@ pub sub-spec : {M : Type 1} → statement M
 unfolding SUB
 sub-spec =
     tie.close
-    (tie.spec
-    (λ c. search needs)
-    (λ c. search needs)
-    (λ c κs. search needs)
-    (λ c κs. search needs)
-    (λ c. search needs)
-    (λ c κs. search needs)
-    (λ c κs. search needs)
-    (λ c. search needs)
-    (λ c κs. search needs)
-    (λ c. search needs)
-    (λ c κs. search needs)
-    (λ c. search kinds)
-    (λ c. search kinds)
-    (λ c. search kinds)
-    (λ c. search kinds)
-    (λ c. search kinds))
+    (tie.spec (λ c. search needs) (λ c. search needs) (λ c κs. search needs) (λ c κs. search needs) (λ c. search needs) (λ c κs. search needs)
+    (λ c κs. search needs) (λ c. search needs) (λ c κs. search needs) (λ c. search needs) (λ c κs. search needs) (λ c. search kinds) (λ c. search kinds)
+    (λ c. search kinds) (λ c. search kinds) (λ c. search kinds))

@@ -11,24 +11,7 @@ pub not-of-spec : {M : Type 1} → statement M
 unfolding takes pick result resultType widthOf
 not-of-spec =
     tie.close
-    (tie.spec
-    (λ c κs. search (needs, place-at))
-    (λ c κs. search widths)
-    (λ c κs. search needs)
-    (λ c κs. search (needs, place-at))
-    (λ c κs. search widths)
-    (λ c κs. search needs)
-    (λ c κs. search (needs, place-at))
-    (λ c κs. search widths)
-    (λ c κs. search needs)
-    (λ c κs. search (needs, place-at))
-    (λ c κs. search widths)
-    (λ c κs. search needs)
-    (λ c κs. search (needs, place-at, last-bits))
-    (λ c κs. search widths)
-    (λ c κs. search needs)
-    (λ c. search one-pattern)
-    (λ c. search one-pattern)
-    (λ c. search one-pattern)
-    (λ c. search one-pattern)
-    (λ c. search (one-pattern, last-bits)))
+    (tie.spec (λ c κs. search (needs, place-at)) (λ c κs. search widths) (λ c κs. search needs) (λ c κs. search (needs, place-at)) (λ c κs. search widths)
+    (λ c κs. search needs) (λ c κs. search (needs, place-at)) (λ c κs. search widths) (λ c κs. search needs) (λ c κs. search (needs, place-at))
+    (λ c κs. search widths) (λ c κs. search needs) (λ c κs. search (needs, place-at, last-bits)) (λ c κs. search widths) (λ c κs. search needs)
+    (λ c. search one-pattern) (λ c. search one-pattern) (λ c. search one-pattern) (λ c. search one-pattern) (λ c. search (one-pattern, last-bits)))

@@ -12,9 +12,5 @@ pub not-typed-spec : {M : Type 1} → statement M
 unfolding resultType resultWidth secondWidth widthOf pick zeroDivisor readLE part valueLE
 not-typed-spec =
     tie.close
-    (tie.spec
-    (λ c κs. search known-type)
-    (λ c κs. (search known-taken, search known-first))
-    (λ c κs. search (known-width, known-result))
-    (λ c. search needs)
+    (tie.spec (λ c κs. search known-type) (λ c κs. (search known-taken, search known-first)) (λ c κs. search (known-width, known-result)) (λ c. search needs)
     (λ c. search known-done))

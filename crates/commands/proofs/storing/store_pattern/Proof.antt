@@ -5,56 +5,26 @@ use borrow.Author.Needs.{needs}
 use Rattle.commands.proofs.storing.store_pattern.Statement.{statement}
 use Rattle.commands.proofs.storing.store_pattern.Tie as tie
 
-slice-aggregate-store : tie.Need-slice-aggregate-store
-slice-aggregate-store c = search needs
-
-store-requires : tie.Need-store-requires
-store-requires c κs = search needs
-
-slice-aggregate-copy : tie.Need-slice-aggregate-copy
-slice-aggregate-copy c = search needs
-
 copy-requires : tie.Need-copy-requires
 copy-requires c κs = (search store-in, search needs)
-
-slice-aggregate-copy-2 : tie.Need-slice-aggregate-copy-2
-slice-aggregate-copy-2 c = search needs
 
 copy-requires-2 : tie.Need-copy-requires-2
 copy-requires-2 c κs = (search store-in, search needs)
 
-slice-aggregate-copy-3 : tie.Need-slice-aggregate-copy-3
-slice-aggregate-copy-3 c = search needs
-
 copy-requires-3 : tie.Need-copy-requires-3
 copy-requires-3 c κs = (search store-in, search needs)
-
-slice-aggregate-copy-4 : tie.Need-slice-aggregate-copy-4
-slice-aggregate-copy-4 c = search needs
 
 copy-requires-4 : tie.Need-copy-requires-4
 copy-requires-4 c κs = (search (store-in, last-width), search needs)
 
-same-length : tie.Need-same-length
-same-length c = search needs
-
 returns : tie.Need-returns
 returns c = copied-at _ _ _ _ _ _ _ (c .before .before .before .before .before .match .keys1) (first-bytes _ _ (c .before .before .before .before .before .before .before .store .ensures) .0) (c .before .before .copy .ensures)
-
-same-length-2 : tie.Need-same-length-2
-same-length-2 c = search needs
 
 returns-2 : tie.Need-returns-2
 returns-2 c = copied-at _ _ _ _ _ _ _ (c .before .before .before .before .before .match .keys2) (first-bytes _ _ (c .before .before .before .before .before .before .before .store .ensures) .1) (c .before .before .copy2 .ensures)
 
-same-length-3 : tie.Need-same-length-3
-same-length-3 c = search needs
-
 returns-3 : tie.Need-returns-3
 returns-3 c = copied-at _ _ _ _ _ _ _ (c .before .before .before .before .before .match .keys3) (first-bytes _ _ (c .before .before .before .before .before .before .before .store .ensures) .2) (c .before .before .copy3 .ensures)
-
-same-length-4 : tie.Need-same-length-4
-same-length-4 c = search needs
 
 returns-4 : tie.Need-returns-4
 returns-4 c = copied-at _ _ _ _ _ _ _ (search last-width) (first-bytes _ _ (c .before .before .before .before .before .before .before .store .ensures) .3) (c .before .before .copy4 .ensures)
@@ -62,22 +32,6 @@ returns-4 c = copied-at _ _ _ _ _ _ _ (search last-width) (first-bytes _ _ (c .b
 pub store-pattern-spec : {M : Type 1} → statement M
 store-pattern-spec =
     tie.close
-    (tie.spec
-    slice-aggregate-store
-    store-requires
-    slice-aggregate-copy
-    copy-requires
-    slice-aggregate-copy-2
-    copy-requires-2
-    slice-aggregate-copy-3
-    copy-requires-3
-    slice-aggregate-copy-4
-    copy-requires-4
-    same-length
-    returns
-    same-length-2
-    returns-2
-    same-length-3
-    returns-3
-    same-length-4
-    returns-4)
+    (tie.spec (λ c. search needs) (λ c κs. search needs) (λ c. search needs) copy-requires (λ c. search needs) copy-requires-2 (λ c. search needs)
+    copy-requires-3 (λ c. search needs) copy-requires-4 (λ c. search needs) returns (λ c. search needs) returns-2 (λ c. search needs) returns-3
+    (λ c. search needs) returns-4)

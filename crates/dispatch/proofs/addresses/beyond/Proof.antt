@@ -9,10 +9,6 @@ pub beyond-spec : {M : Type 1} → statement M
 unfolding beyond
 beyond-spec =
     tie.close
-    (tie.spec
-    (λ c. search needs)
-    (λ c. rw (lt-ltb _ _ (c .if1 .taken)))
-    (λ c. search needs)
-    (λ c. rw (le-ltb _ _ (c .before .before .if1 .left), lt-ltb _ _ (c .if2 .taken)))
-    (λ c. search needs)
+    (tie.spec (λ c. search needs) (λ c. rw (lt-ltb _ _ (c .if1 .taken))) (λ c. search needs)
+    (λ c. rw (le-ltb _ _ (c .before .before .if1 .left), lt-ltb _ _ (c .if2 .taken))) (λ c. search needs)
     (λ c. rw (le-ltb _ _ (c .before .before .before .if1 .left), le-ltb _ _ (c .before .if2 .left))))

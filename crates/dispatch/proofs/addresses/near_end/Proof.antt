@@ -7,9 +7,4 @@ use Rattle.dispatch.proofs.addresses.near_end.Tie as tie
 pub near-end-spec : {M : Type 1} → statement M
 near-end-spec =
     tie.close
-    (tie.spec
-    (λ c κs. search needs)
-    (λ c. search nearness)
-    (λ c. search nearness)
-    (λ c. search nearness)
-    (λ c. search nearness))
+    (tie.spec (λ c κs. search needs) (λ c. search nearness) (λ c. search nearness) (λ c. search nearness) (λ c. search nearness))

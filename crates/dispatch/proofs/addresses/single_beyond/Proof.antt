@@ -9,9 +9,5 @@ use Rattle.dispatch.proofs.addresses.single_beyond.Tie as tie
 pub single-beyond-spec : {M : Type 1} → statement M
 single-beyond-spec =
     tie.close
-    (tie.spec
-    (λ c κs. search needs)
-    (λ c κs. search needs)
-    (λ c κs. search (needs, place-fits))
-    (λ c. search of-widths)
+    (tie.spec (λ c κs. search needs) (λ c κs. search needs) (λ c κs. search (needs, place-fits)) (λ c. search of-widths)
     (λ c. search (none-beyond, width-room, needs)))

@@ -10,13 +10,6 @@ use Rattle.dispatch.proofs.addresses.typed_beyond.Tie as tie
 pub typed-beyond-spec : {M : Type 1} → statement M
 typed-beyond-spec =
     tie.close
-    (tie.spec
-    (λ c κs. search needs)
-    (λ c κs. search given-type)
-    (λ c κs. search (needs, place-fits))
-    (λ c. search (alike-beyond, needs))
-    (λ c κs. search (needs, place-fits))
-    (λ c. search (shifted-beyond, needs))
-    (λ c κs. search (needs, place-fits))
-    (λ c. search (compared-beyond, needs))
+    (tie.spec (λ c κs. search needs) (λ c κs. search given-type) (λ c κs. search (needs, place-fits)) (λ c. search (alike-beyond, needs))
+    (λ c κs. search (needs, place-fits)) (λ c. search (shifted-beyond, needs)) (λ c κs. search (needs, place-fits)) (λ c. search (compared-beyond, needs))
     (λ c. search (none-beyond, width-room, result-room, second-room)))

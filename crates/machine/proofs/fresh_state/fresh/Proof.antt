@@ -5,18 +5,9 @@ use Rattle.machine.proofs.Calls.{fresh-full}
 use Rattle.machine.proofs.fresh_state.fresh.Statement.{statement}
 use Rattle.machine.proofs.fresh_state.fresh.Tie as tie
 
-fresh-for-requires : tie.Need-fresh-for-requires
-fresh-for-requires c κs = search needs
-
-same-length : tie.Need-same-length
-same-length c = search needs
-
-same-length-2 : tie.Need-same-length-2
-same-length-2 c = search needs
-
 returns : tie.Need-returns
 returns c = let a = c .before .before .before .before .before .before .before .before .before .before .args in
     c .before .before .before .before .fresh-for .ensures ∙ fresh-full (a .file .now) (a .buffer .now) (a .shared .now)
 
 pub fresh-spec : {M : Type 1} → statement M
-fresh-spec = tie.close (tie.spec fresh-for-requires same-length same-length-2 returns)
+fresh-spec = tie.close (tie.spec (λ c κs. search needs) (λ c. search needs) (λ c. search needs) returns)

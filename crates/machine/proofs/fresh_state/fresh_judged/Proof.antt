@@ -19,18 +19,6 @@ cast-idle-table c =
     let given = c .before .before .before .before .before .before .before .before .before .before .before .pre in
     rw (given .laid) (omega (arith, keeps-rules _ (given .accepted) .most-cores))
 
-idle-table-requires : tie.Need-idle-table-requires
-idle-table-requires c κs = search needs
-
-answer-requires : tie.Need-answer-requires
-answer-requires c κs = search needs
-
-same-length : tie.Need-same-length
-same-length c = search needs
-
-same-length-2 : tie.Need-same-length-2
-same-length-2 c = search needs
-
 returns : tie.Need-returns
 returns c =
     let filled = c .before .before .before .before .before .before .before in
@@ -45,4 +33,4 @@ returns c =
     ∙ fresh-full (a .file .now) (a .buffer .now) (a .shared .now)
 
 pub fresh-judged-spec : {M : Type 1} → statement M
-fresh-judged-spec = tie.close (tie.spec fill-requires cast-idle-table idle-table-requires answer-requires same-length same-length-2 returns)
+fresh-judged-spec = tie.close (tie.spec fill-requires cast-idle-table (λ c κs. search needs) (λ c κs. search needs) (λ c. search needs) (λ c. search needs) returns)

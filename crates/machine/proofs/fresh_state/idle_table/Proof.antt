@@ -5,12 +5,9 @@ use Rattle.machine.specs.Calls.{tableOf}
 use Rattle.machine.proofs.fresh_state.idle_table.Statement.{statement}
 use Rattle.machine.proofs.fresh_state.idle_table.Tie as tie
 
-idle-core-requires : tie.Need-idle-core-requires
-idle-core-requires c κs = search needs
-
 returns : tie.Need-returns
 unfolding tableOf
 returns c = rw (c .idle-core .ensures) refl
 
 pub idle-table-spec : {M : Type 1} → statement M
-idle-table-spec = tie.close (tie.spec idle-core-requires returns)
+idle-table-spec = tie.close (tie.spec (λ c κs. search needs) returns)

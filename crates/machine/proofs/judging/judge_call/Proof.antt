@@ -7,28 +7,16 @@ use borrow.Author.Needs.{needs}
 use Rattle.machine.proofs.judging.judge_call.Statement.{statement}
 use Rattle.machine.proofs.judging.judge_call.Tie as tie
 
-without-tasks-requires : tie.Need-without-tasks-requires
-without-tasks-requires c κs = search needs
-
 returns : tie.Need-returns
 returns c = judge-refused _ _ _ _ _ _ (c .without-tasks .ensures) (judge-file _ _ _ _ _ refl (c .before .if1 .taken)) (c .before .if1 .taken)
 
 prepare-requires : tie.Need-prepare-requires
 prepare-requires c κs = c .before .before .before .before .before .pre (c .if1 .left)
 
-all-below-requires : tie.Need-all-below-requires
-all-below-requires c κs = search needs
-
-without-tasks-requires-2 : tie.Need-without-tasks-requires-2
-without-tasks-requires-2 c κs = search needs
-
 returns-2 : tie.Need-returns-2
 returns-2 c =
     judge-refused _ _ _ _ _ _ (c .without-tasks2 .ensures)
     (judge-held _ _ _ _ _ (c .before .before .before .before .if1 .left) (held-judged _ _ _ _ (c .before .before .before .prepare .ensures)) (c .before .if2 .taken)) (c .before .if2 .taken)
-
-without-tasks-requires-3 : tie.Need-without-tasks-requires-3
-without-tasks-requires-3 c κs = search needs
 
 returns-3 : tie.Need-returns-3
 returns-3 c =
@@ -52,13 +40,4 @@ returns-4 c =
 pub judge-call-spec : {M : Type 1} → statement M
 judge-call-spec =
     tie.close
-    (tie.spec
-    without-tasks-requires
-    returns
-    prepare-requires
-    all-below-requires
-    without-tasks-requires-2
-    returns-2
-    without-tasks-requires-3
-    returns-3
-    returns-4)
+    (tie.spec (λ c κs. search needs) returns prepare-requires (λ c κs. search needs) (λ c κs. search needs) returns-2 (λ c κs. search needs) returns-3 returns-4)

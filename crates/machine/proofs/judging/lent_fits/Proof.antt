@@ -6,9 +6,6 @@ use Rattle.machine.specs.Calls.{lentFits}
 use Rattle.machine.proofs.judging.lent_fits.Statement.{statement}
 use Rattle.machine.proofs.judging.lent_fits.Tie as tie
 
-sum-of-sizes-requires : tie.Need-sum-of-sizes-requires
-sum-of-sizes-requires c κs = search needs
-
 returns : tie.Need-returns
 unfolding lentFits
 returns c = rw (eq-eqb _ _ (c .if1 .taken ∙ c .before .sum-of-sizes .ensures .0))
@@ -18,4 +15,4 @@ unfolding lentFits
 returns-2 c = rw (ne-eqb _ _ (λ e. c .if1 .left (e ∙ sym (c .before .sum-of-sizes .ensures .0))))
 
 pub lent-fits-spec : {M : Type 1} → statement M
-lent-fits-spec = tie.close (tie.spec sum-of-sizes-requires returns returns-2)
+lent-fits-spec = tie.close (tie.spec (λ c κs. search needs) returns returns-2)

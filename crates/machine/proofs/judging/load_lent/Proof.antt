@@ -6,9 +6,6 @@ use borrow.Author.Needs.{needs}
 use Rattle.machine.proofs.judging.load_lent.Statement.{statement}
 use Rattle.machine.proofs.judging.load_lent.Tie as tie
 
-load-file-for-requires : tie.Need-load-file-for-requires
-load-file-for-requires c κs = search needs
-
 returns : tie.Need-returns
 returns c =
     let a = c .before .before .before .before .args in
@@ -36,4 +33,4 @@ returns-4 c =
 
 pub load-lent-spec : {M : Type 1} → statement M
 load-lent-spec =
-    tie.close (tie.spec load-file-for-requires returns lent-fits-requires returns-2 returns-3 returns-4)
+    tie.close (tie.spec (λ c κs. search needs) returns lent-fits-requires returns-2 returns-3 returns-4)

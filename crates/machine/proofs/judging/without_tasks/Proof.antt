@@ -4,11 +4,8 @@ use borrow.Author.Needs.{needs}
 use Rattle.machine.proofs.judging.without_tasks.Statement.{statement}
 use Rattle.machine.proofs.judging.without_tasks.Tie as tie
 
-no-task-requires : tie.Need-no-task-requires
-no-task-requires c κs = search needs
-
 returns : tie.Need-returns
 returns c = rw (c .no-task .ensures) refl
 
 pub without-tasks-spec : {M : Type 1} → statement M
-without-tasks-spec = tie.close (tie.spec no-task-requires returns)
+without-tasks-spec = tie.close (tie.spec (λ c κs. search needs) returns)

@@ -8,25 +8,10 @@ use Rattle.machine.proofs.runs.aim_of.Tie as tie
 returns : tie.Need-returns
 returns c = let start = c .before .before .before .before .before in aim-free (start .args .file .now) (start .args .s) _ (c .if1 .taken)
 
-sub-k : tie.Need-sub-k
-sub-k c = search needs
-
-cast-k : tie.Need-cast-k
-cast-k c = search needs
-
-mul-if2 : tie.Need-mul-if2
-mul-if2 c = search needs
-
 element-copy-out-if2 : tie.Need-element-copy-out-if2
 element-copy-out-if2 c =
     let free = c .before in
     omega (arith, in-table (free .before .before .before .before .before .pre) (free .if1 .left))
-
-add-locate : tie.Need-add-locate
-add-locate c = search needs
-
-mul-locate : tie.Need-mul-locate
-mul-locate c = search needs
 
 element-copy-out-locate : tie.Need-element-copy-out-locate
 element-copy-out-locate c =
@@ -42,16 +27,10 @@ locate-requires c κs =
 returns-2 : tie.Need-returns-2
 returns-2 c = let free = c .before .before .before in aim-reading (free .before .before .before .before .before .pre) (free .if1 .left) (c .before .if2 .taken) (c .locate .ensures)
 
-mul-if3 : tie.Need-mul-if3
-mul-if3 c = search needs
-
 element-copy-out-if3 : tie.Need-element-copy-out-if3
 element-copy-out-if3 c =
     let free = c .before .before in
     omega (arith, in-table (free .before .before .before .before .before .pre) (free .if1 .left))
-
-mul-locate-2 : tie.Need-mul-locate-2
-mul-locate-2 c = search needs
 
 element-copy-out-locate-2 : tie.Need-element-copy-out-locate-2
 element-copy-out-locate-2 c =
@@ -73,21 +52,6 @@ returns-4 c = let free = c .before .before .before in aim-neither (free .before 
 pub aim-of-spec : {M : Type 1} → statement M
 aim-of-spec =
     tie.close
-    (tie.spec
-    returns
-    sub-k
-    cast-k
-    mul-if2
-    element-copy-out-if2
-    add-locate
-    mul-locate
-    element-copy-out-locate
-    locate-requires
-    returns-2
-    mul-if3
-    element-copy-out-if3
-    mul-locate-2
-    element-copy-out-locate-2
-    locate-requires-2
-    returns-3
-    returns-4)
+    (tie.spec returns (λ c. search needs) (λ c. search needs) (λ c. search needs) element-copy-out-if2 (λ c. search needs) (λ c. search needs)
+    element-copy-out-locate locate-requires returns-2 (λ c. search needs) element-copy-out-if3 (λ c. search needs) element-copy-out-locate-2 locate-requires-2
+    returns-3 returns-4)

@@ -5,21 +5,6 @@ use borrow.Author.Needs.{needs}
 use Rattle.machine.proofs.runs.first_run_judged.Statement.{statement}
 use Rattle.machine.proofs.runs.first_run_judged.Tie as tie
 
-fresh-judged-requires : tie.Need-fresh-judged-requires
-fresh-judged-requires c κs = search needs
-
-judge-call-requires : tie.Need-judge-call-requires
-judge-call-requires c κs = search needs
-
-answer-requires : tie.Need-answer-requires
-answer-requires c κs = search needs
-
-same-length : tie.Need-same-length
-same-length c = search needs
-
-same-length-2 : tie.Need-same-length-2
-same-length-2 c = search needs
-
 returns : tie.Need-returns
 returns c =
     let a = c .before .before .before .before .before .before .before .before .before .before .before .before .before .before .before .before .before .args in
@@ -40,12 +25,6 @@ run-judged-requires c κs =
 same-length-3 : tie.Need-same-length-3
 same-length-3 c = search (needs, c .before .before .before .before .before .before .run-judged, c .before .before .before .before .before .before .before .before .before .before .before .before .before .before .before .before .before .before .fresh-judged)
 
-same-length-4 : tie.Need-same-length-4
-same-length-4 c = search needs
-
-same-length-5 : tie.Need-same-length-5
-same-length-5 c = search needs
-
 returns-2 : tie.Need-returns-2
 returns-2 c =
     let run-judged = c .before .before .before .before .before .before in
@@ -64,15 +43,5 @@ returns-2 c =
 pub first-run-judged-spec : {M : Type 1} → statement M
 first-run-judged-spec =
     tie.close
-    (tie.spec
-    fresh-judged-requires
-    judge-call-requires
-    answer-requires
-    same-length
-    same-length-2
-    returns
-    run-judged-requires
-    same-length-3
-    same-length-4
-    same-length-5
-    returns-2)
+    (tie.spec (λ c κs. search needs) (λ c κs. search needs) (λ c κs. search needs) (λ c. search needs) (λ c. search needs) returns run-judged-requires
+    same-length-3 (λ c. search needs) (λ c. search needs) returns-2)

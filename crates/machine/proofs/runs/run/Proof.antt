@@ -6,16 +6,10 @@ use borrow.Author.Needs.{needs}
 use Rattle.machine.proofs.runs.run.Statement.{statement}
 use Rattle.machine.proofs.runs.run.Tie as tie
 
-load-lent-requires : tie.Need-load-lent-requires
-load-lent-requires c κs = search needs
-
 judge-call-requires : tie.Need-judge-call-requires
 judge-call-requires c κs =
     let a = c .before .before .before .before .before .before .before .args in
     lent-laid Full (a .file .now) _ _ _ _ (c .load-lent .ensures)
-
-answer-requires : tie.Need-answer-requires
-answer-requires c κs = search needs
 
 returns : tie.Need-returns
 returns c =
@@ -30,15 +24,6 @@ run-judged-requires c κs =
     let judged = c .before .before .before .before .before .before .before .judge-call .ensures in
     let number = run-number (a .file .now) (a .trace .now) (a .s) (a .buffer .now) (a .shared .now) (a .order .now) (a .list .now) _ (c .before .before .before .before .before .before .before .before .load-lent .ensures) in
     (judged .laid (c .before .before .before .before .before .if1 .left), judged .tasked (c .before .before .before .before .before .if1 .left), sym (judged .number ∙ number) ∙ c .before .before .before .before .before .if1 .left)
-
-same-length : tie.Need-same-length
-same-length c = search needs
-
-same-length-2 : tie.Need-same-length-2
-same-length-2 c = search needs
-
-same-length-3 : tie.Need-same-length-3
-same-length-3 c = search needs
 
 returns-2 : tie.Need-returns-2
 returns-2 c =
@@ -55,13 +40,5 @@ returns-2 c =
 pub run-spec : {M : Type 1} → statement M
 run-spec =
     tie.close
-    (tie.spec
-    load-lent-requires
-    judge-call-requires
-    answer-requires
-    returns
-    run-judged-requires
-    same-length
-    same-length-2
-    same-length-3
-    returns-2)
+    (tie.spec (λ c κs. search needs) judge-call-requires (λ c κs. search needs) returns run-judged-requires (λ c. search needs) (λ c. search needs)
+    (λ c. search needs) returns-2)

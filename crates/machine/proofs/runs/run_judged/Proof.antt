@@ -7,12 +7,6 @@ use Rattle.machine.proofs.Judged.{few-variables, near-first, aim-given,
 use Rattle.machine.proofs.runs.run_judged.Statement.{statement}
 use Rattle.machine.proofs.runs.run_judged.Tie as tie
 
-places-of-requires : tie.Need-places-of-requires
-places-of-requires c κs = search needs
-
-offsets-of-requires : tie.Need-offsets-of-requires
-offsets-of-requires c κs = search needs
-
 mul-end : tie.Need-mul-end
 mul-end c =
     let start = c .before .before .before .before .before .before .before .before .before in
@@ -55,17 +49,5 @@ run-order-requires c κs =
     (ap length (sym (places .places-of .ensures .0)) ∙ places .places-of .ensures .1) (ap length (sym (offsets .offsets-of .ensures .0)) ∙ offsets .offsets-of .ensures .1)
     _ (start .pre .1) _ (c .before .before .before .aim-of .ensures)
 
-same-length : tie.Need-same-length
-same-length c = search needs
-
-same-length-2 : tie.Need-same-length-2
-same-length-2 c = search needs
-
-same-length-3 : tie.Need-same-length-3
-same-length-3 c = search needs
-
-returns : tie.Need-returns
-returns c = search needs
-
 pub run-judged-spec : {M : Type 1} → statement M
-run-judged-spec = tie.close (tie.spec places-of-requires offsets-of-requires mul-end add-end aim-of-requires run-order-requires same-length same-length-2 same-length-3 returns)
+run-judged-spec = tie.close (tie.spec (λ c κs. search needs) (λ c κs. search needs) mul-end add-end aim-of-requires run-order-requires (λ c. search needs) (λ c. search needs) (λ c. search needs) (λ c. search needs))

@@ -4,21 +4,6 @@ use Rattle.machine.proofs.Steps.{step-as-run}
 use Rattle.machine.proofs.runs.step.Statement.{statement}
 use Rattle.machine.proofs.runs.step.Tie as tie
 
-slice-aggregate-run : tie.Need-slice-aggregate-run
-slice-aggregate-run c = search needs
-
-slice-aggregate-run-2 : tie.Need-slice-aggregate-run-2
-slice-aggregate-run-2 c = search needs
-
-run-requires : tie.Need-run-requires
-run-requires c κs = search needs
-
-same-length : tie.Need-same-length
-same-length c = search needs
-
-same-length-2 : tie.Need-same-length-2
-same-length-2 c = search needs
-
 returns : tie.Need-returns
 returns c =
     let run = c .before .before .before .before .before in
@@ -27,4 +12,4 @@ returns c =
     step-as-run (a .file .now) (a .trace .now) (a .s) (a .buffer .now) (a .shared .now) (a .core) 0 _ _ _ _ (run .run .ensures)
 
 pub step-spec : {M : Type 1} → statement M
-step-spec = tie.close (tie.spec slice-aggregate-run slice-aggregate-run-2 run-requires same-length same-length-2 returns)
+step-spec = tie.close (tie.spec (λ c. search needs) (λ c. search needs) (λ c κs. search needs) (λ c. search needs) (λ c. search needs) returns)

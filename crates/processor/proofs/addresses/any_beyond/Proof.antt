@@ -4,17 +4,11 @@ use borrow.Author.Needs.{needs}
 use Rattle.processor.proofs.addresses.any_beyond.Tie as tie
 use Rattle.processor.proofs.addresses.any_beyond.Statement.{statement}
 
-is-beyond-requires : tie.Need-is-beyond-requires
-is-beyond-requires c κs = search needs
-
 returns : tie.Need-returns
 returns c = rw (sym (c .before .is-beyond .ensures) ∙ c .if1 .taken)
-
-is-beyond-requires-2 : tie.Need-is-beyond-requires-2
-is-beyond-requires-2 c κs = search needs
 
 returns-2 : tie.Need-returns-2
 returns-2 c = rw (sym (c .before .before .is-beyond .ensures) ∙ c .before .if1 .left) (c .is-beyond2 .ensures)
 
 pub any-beyond-spec : {M : Type 1} → statement M
-any-beyond-spec = tie.close (tie.spec is-beyond-requires returns is-beyond-requires-2 returns-2)
+any-beyond-spec = tie.close (tie.spec (λ c κs. search needs) returns (λ c κs. search needs) returns-2)

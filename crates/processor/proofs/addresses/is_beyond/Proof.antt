@@ -4,12 +4,9 @@ use Rattle.values.specs.Commands.{beyond}
 use Rattle.processor.proofs.addresses.is_beyond.Tie as tie
 use Rattle.processor.proofs.addresses.is_beyond.Statement.{statement}
 
-add-result : tie.Need-add-result
-add-result c = search needs
-
 returns : tie.Need-returns
 unfolding beyond
 returns c = search needs
 
 pub is-beyond-spec : {M : Type 1} → statement M
-is-beyond-spec = tie.close (tie.spec add-result returns)
+is-beyond-spec = tie.close (tie.spec (λ c. search needs) returns)

@@ -76,12 +76,6 @@ module _ (f t : List ℕ) (k : ℕ) (task : CoreTask) (e : task ≡ coreTask f t
   by-task : (s : Held) → both (freed s) (both (executes s) (both (exchanges s) (flagged s))) ≡ fitAt f t s k
   by-task s = third-first (executes s) (exchanges s) (freed s) (flagged s) ∙ by-rules s
 
-mul-r : tie.Need-mul-r
-mul-r c = search needs
-
-element-copy-out-r : tie.Need-element-copy-out-r
-element-copy-out-r c = search needs
-
 add-to : tie.Need-add-to
 add-to c = record { fits = omega (arith, inside _ _ _ _ (c .before .before .before .before .before .before .pre .2) (c .before .before .before .before .before .before .pre .0) (c .before .before .before .before .before .before .pre .1)) }
 
@@ -90,12 +84,6 @@ freed-fit-requires c κs = omega (arith, c .before .before .before .before .befo
 
 returns : tie.Need-returns
 returns c = rejects _ (c .before .freed-fit .ensures) (c .if1 .taken) ∙ by-task _ _ _ _ (c .before .before .before .before .before .before .before .before .before .before .pre .2) _
-
-sub-execution-fit : tie.Need-sub-execution-fit
-sub-execution-fit c = search needs
-
-part-execution-fit-start : tie.Need-part-execution-fit-start
-part-execution-fit-start c = search needs
 
 part-execution-fit-end : tie.Need-part-execution-fit-end
 part-execution-fit-end c =
@@ -132,17 +120,5 @@ returns-4 c =
 pub core-fit-spec : {M : Type 1} → statement M
 core-fit-spec =
     tie.close
-    (tie.spec
-    mul-r
-    element-copy-out-r
-    add-to
-    freed-fit-requires
-    returns
-    sub-execution-fit
-    part-execution-fit-start
-    part-execution-fit-end
-    execution-fit-requires
-    returns-2
-    exchanges-fit-requires
-    returns-3
-    returns-4)
+    (tie.spec (λ c. search needs) (λ c. search needs) add-to freed-fit-requires returns (λ c. search needs) (λ c. search needs) part-execution-fit-end
+    execution-fit-requires returns-2 exchanges-fit-requires returns-3 returns-4)

@@ -6,15 +6,9 @@ use borrow.Author.Needs.{needs}
 use Rattle.states.proofs.fitness.exchange_fit.Statement.{statement}
 use Rattle.states.proofs.fitness.exchange_fit.Tie as tie
 
-cast-result : tie.Need-cast-result
-cast-result c = search needs
-
 returns : tie.Need-returns
 unfolding exchangeFit pick
 returns c = rw (eq-eqb _ _ (c .before .if1 .taken))
-
-cast-result-2 : tie.Need-cast-result-2
-cast-result-2 c = search needs
 
 returns-2 : tie.Need-returns-2
 unfolding exchangeFit pick
@@ -25,4 +19,4 @@ unfolding exchangeFit pick
 returns-3 c = rw (ne-eqb _ _ (c .before .before .before .if1 .left), ne-eqb _ _ (c .before .if2 .left))
 
 pub exchange-fit-spec : {M : Type 1} → statement M
-exchange-fit-spec = tie.close (tie.spec cast-result returns cast-result-2 returns-2 returns-3)
+exchange-fit-spec = tie.close (tie.spec (λ c. search needs) returns (λ c. search needs) returns-2 returns-3)

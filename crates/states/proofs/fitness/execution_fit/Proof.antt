@@ -11,22 +11,13 @@ returns : tie.Need-returns
 unfolding executionFit
 returns c = fails _ (lt-leb _ _ (c .if1 .taken))
 
-places-fit-requires : tie.Need-places-fit-requires
-places-fit-requires c κs = search needs
-
 returns-2 : tie.Need-returns-2
 unfolding executionFit
 returns-2 c = passes (le-leb _ _ (c .before .before .if1 .left)) (rejects _ (c .before .places-fit .ensures) (c .if2 .taken))
 
-offsets-fit-requires : tie.Need-offsets-fit-requires
-offsets-fit-requires c κs = search needs
-
 returns-3 : tie.Need-returns-3
 unfolding executionFit
 returns-3 c = passes (le-leb _ _ (c .before .before .before .before .if1 .left)) (admits (c .before .before .before .places-fit .ensures) (c .before .before .if2 .left) (rejects _ (c .before .offsets-fit .ensures) (c .if3 .taken)))
-
-depth-fit-requires : tie.Need-depth-fit-requires
-depth-fit-requires c κs = search needs
 
 returns-4 : tie.Need-returns-4
 unfolding executionFit
@@ -37,9 +28,6 @@ returns-4 c =
     let else1 = after-places-fit .before in
     passes (le-leb _ _ (else1 .if1 .left)) (admits (after-places-fit .places-fit .ensures) (else2 .if2 .left)
     (admits (after-offsets-fit .offsets-fit .ensures) (c .before .before .if3 .left) (rejects _ (c .before .depth-fit .ensures) (c .if4 .taken))))
-
-cast-result : tie.Need-cast-result
-cast-result c = search needs
 
 returns-5 : tie.Need-returns-5
 unfolding executionFit
@@ -57,13 +45,4 @@ returns-5 c =
 pub execution-fit-spec : {M : Type 1} → statement M
 execution-fit-spec =
     tie.close
-    (tie.spec
-    returns
-    places-fit-requires
-    returns-2
-    offsets-fit-requires
-    returns-3
-    depth-fit-requires
-    returns-4
-    cast-result
-    returns-5)
+    (tie.spec returns (λ c κs. search needs) returns-2 (λ c κs. search needs) returns-3 (λ c κs. search needs) returns-4 (λ c. search needs) returns-5)

@@ -18,27 +18,6 @@ abbrev μ-loop : tie.MeasureT-loop
 loop-holds : tie.Need-loop-holds Inv-loop μ-loop
 loop-holds c = passing-none _ _
 
-mul-at : tie.Need-mul-at Inv-loop μ-loop
-mul-at c = search needs
-
-add-at : tie.Need-add-at Inv-loop μ-loop
-add-at c = search needs
-
-mul-entry-freed : tie.Need-mul-entry-freed Inv-loop μ-loop
-mul-entry-freed c = search needs
-
-element-copy-out-entry-freed : tie.Need-element-copy-out-entry-freed Inv-loop μ-loop
-element-copy-out-entry-freed c = search needs
-
-mul-entry-freed-2 : tie.Need-mul-entry-freed-2 Inv-loop μ-loop
-mul-entry-freed-2 c = search needs
-
-element-copy-out-entry-freed-2 : tie.Need-element-copy-out-entry-freed-2 Inv-loop μ-loop
-element-copy-out-entry-freed-2 c = search needs
-
-entry-freed-requires : tie.Need-entry-freed-requires Inv-loop μ-loop
-entry-freed-requires c κs = search needs
-
 returns : tie.Need-returns Inv-loop μ-loop
 unfolding freedFit
 returns c = passing-stop _ 16 _ (c .before .before .before .before .before .loop .inv) (c .before .before .before .before .loop-test .taken) (sym (c .before .entry-freed .ensures) ∙ not-true _ (c .if1 .taken))
@@ -59,19 +38,5 @@ returns-2 c = passing-end _ 16 _ (c .before .loop .inv) (c .loop-test .left)
 pub freed-fit-spec : {M : Type 1} → statement M
 freed-fit-spec =
     tie.close
-    (tie.spec
-    Inv-loop
-    μ-loop
-    loop-holds
-    mul-at
-    add-at
-    mul-entry-freed
-    element-copy-out-entry-freed
-    mul-entry-freed-2
-    element-copy-out-entry-freed-2
-    entry-freed-requires
-    returns
-    add-i
-    loop-less
-    loop-again
-    returns-2)
+    (tie.spec Inv-loop μ-loop loop-holds (λ c. search needs) (λ c. search needs) (λ c. search needs) (λ c. search needs) (λ c. search needs) (λ c. search needs)
+    (λ c κs. search needs) returns add-i loop-less loop-again returns-2)

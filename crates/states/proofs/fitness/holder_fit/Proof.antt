@@ -8,9 +8,6 @@ use borrow.Author.Needs.{needs}
 use Rattle.states.proofs.fitness.holder_fit.Statement.{statement}
 use Rattle.states.proofs.fitness.holder_fit.Tie as tie
 
-add-holds : tie.Need-add-holds
-add-holds c = search needs
-
 returns : tie.Need-returns
 unfolding holderFit
 returns c = rw (eq-eqb _ _ (c .if1 .taken))
@@ -24,4 +21,4 @@ unfolding holderFit
 returns-3 c = rw (ne-eqb _ _ (c .before .before .if1 .left), ne-eqb _ _ (c .if2 .left)) (agree-not (eqb (c .before .before .before .before .args .holder) (c .before .before .before .before .args .k + 1)))
 
 pub holder-fit-spec : {M : Type 1} → statement M
-holder-fit-spec = tie.close (tie.spec add-holds returns returns-2 returns-3)
+holder-fit-spec = tie.close (tie.spec (λ c. search needs) returns returns-2 returns-3)

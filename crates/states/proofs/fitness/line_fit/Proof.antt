@@ -18,9 +18,6 @@ Inv-loop file trace n tasks s m waiting i₀ i = Fitting file trace s i
 abbrev μ-loop : tie.MeasureT-loop
 μ-loop file trace n tasks s m waiting i₀ i = waiting - i
 
-cast-waiting : tie.Need-cast-waiting Inv-loop μ-loop
-cast-waiting c = search needs
-
 returns : tie.Need-returns Inv-loop μ-loop
 returns c = too-long _ _ _ (c .if1 .taken)
 
@@ -32,9 +29,6 @@ element-copy-out-k c = omega (arith, c .loop-test .taken, c .before .loop .inv .
 
 add-in-line : tie.Need-add-in-line Inv-loop μ-loop
 add-in-line c = record { fits = omega (arith, c .before .loop-test .taken, c .before .before .loop .inv .few) }
-
-in-line-requires : tie.Need-in-line-requires Inv-loop μ-loop
-in-line-requires c κs = search needs
 
 -- the line has four places
 four-places : (start : tie.Start Inv-loop μ-loop) → length (start .args .t5 .semaphore .line) ≡ 4
@@ -48,9 +42,6 @@ returns-2 c =
     fitting-stop _ _ _ (turn .loop .i) (turn .loop .inv) (tested .loop-test .taken) (four-places start)
     (fails _ (ap not (sym (c .before .in-line .ensures) ∙ c .if2 .taken)))
 
-cast-core : tie.Need-cast-core Inv-loop μ-loop
-cast-core c = search needs
-
 returns-3 : tie.Need-returns-3 Inv-loop μ-loop
 returns-3 c =
     let tested = c .before .before .before .before in
@@ -60,20 +51,11 @@ returns-3 c =
     (passes (ap not (sym (c .before .before .in-line .ensures) ∙ c .before .if2 .left))
     (fails _ (le-ltb _ _ (rw (start .pre .2) at (c .if3 .taken)))))
 
-mul-may-wait : tie.Need-mul-may-wait Inv-loop μ-loop
-mul-may-wait c = search needs
-
 element-copy-out-may-wait : tie.Need-element-copy-out-may-wait Inv-loop μ-loop
 element-copy-out-may-wait c = omega (arith, c .if3 .left, c .before .before .before .before .before .before .before .before .before .before .pre .0 .few, c .before .before .before .before .before .before .before .before .before .before .pre .2)
 
-mul-may-wait-2 : tie.Need-mul-may-wait-2 Inv-loop μ-loop
-mul-may-wait-2 c = search needs
-
 element-copy-out-may-wait-2 : tie.Need-element-copy-out-may-wait-2 Inv-loop μ-loop
 element-copy-out-may-wait-2 c = omega (arith, c .if3 .left, c .before .before .before .before .before .before .before .before .before .before .pre .0 .few, c .before .before .before .before .before .before .before .before .before .before .pre .2)
-
-may-wait-requires : tie.Need-may-wait-requires Inv-loop μ-loop
-may-wait-requires c κs = search needs
 
 returns-4 : tie.Need-returns-4 Inv-loop μ-loop
 returns-4 c =
@@ -117,25 +99,6 @@ returns-5 c = fitting-end _ _ _ (c .before .loop .i) (c .before .loop .inv) (c .
 pub line-fit-spec : {M : Type 1} → statement M
 line-fit-spec =
     tie.close
-    (tie.spec
-    Inv-loop
-    μ-loop
-    cast-waiting
-    returns
-    loop-holds
-    element-copy-out-k
-    add-in-line
-    in-line-requires
-    returns-2
-    cast-core
-    returns-3
-    mul-may-wait
-    element-copy-out-may-wait
-    mul-may-wait-2
-    element-copy-out-may-wait-2
-    may-wait-requires
-    returns-4
-    add-i
-    loop-less
-    loop-again
-    returns-5)
+    (tie.spec Inv-loop μ-loop (λ c. search needs) returns loop-holds element-copy-out-k add-in-line (λ c κs. search needs) returns-2 (λ c. search needs)
+    returns-3 (λ c. search needs) element-copy-out-may-wait (λ c. search needs) element-copy-out-may-wait-2 (λ c κs. search needs) returns-4 add-i loop-less
+    loop-again returns-5)

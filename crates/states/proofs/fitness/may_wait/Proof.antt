@@ -9,9 +9,6 @@ use borrow.Author.Needs.{needs}
 use Rattle.states.proofs.fitness.may_wait.Statement.{statement}
 use Rattle.states.proofs.fitness.may_wait.Tie as tie
 
-cast-if1 : tie.Need-cast-if1
-cast-if1 c = search needs
-
 returns : tie.Need-returns
 unfolding mayWait
 returns c = rw (eq-eqb _ _ (c .if2 .taken), lt-ltb _ _ (c .before .before .if1 .taken))
@@ -25,4 +22,4 @@ unfolding mayWait
 returns-3 c = rw (le-ltb _ _ (c .if1 .left)) (both-swap false (either (eqb (c .before .before .args .r .mode) 0) (eqb (c .before .before .args .r .mode) 3)))
 
 pub may-wait-spec : {M : Type 1} → statement M
-may-wait-spec = tie.close (tie.spec cast-if1 returns returns-2 returns-3)
+may-wait-spec = tie.close (tie.spec (λ c. search needs) returns returns-2 returns-3)

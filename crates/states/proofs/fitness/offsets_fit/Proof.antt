@@ -16,30 +16,12 @@ Inv-loop size offsets k i₀ i = Passing (λ j. ltb (entry offsets k j) size) 16
 abbrev μ-loop : tie.MeasureT-loop
 μ-loop size offsets k i₀ i = 16 - i
 
-below-requires : tie.Need-below-requires Inv-loop μ-loop
-below-requires c κs = search needs
-
 returns : tie.Need-returns Inv-loop μ-loop
 unfolding offsetsFit
 returns c = rejects _ (c .before .below .ensures) (c .if1 .taken)
 
 loop-holds : tie.Need-loop-holds Inv-loop μ-loop
 loop-holds c = passing-none _ _
-
-mul-below : tie.Need-mul-below Inv-loop μ-loop
-mul-below c = search needs
-
-add-below : tie.Need-add-below Inv-loop μ-loop
-add-below c = search needs
-
-mul-below-2 : tie.Need-mul-below-2 Inv-loop μ-loop
-mul-below-2 c = search needs
-
-element-copy-out-below : tie.Need-element-copy-out-below Inv-loop μ-loop
-element-copy-out-below c = search needs
-
-below-requires-2 : tie.Need-below-requires-2 Inv-loop μ-loop
-below-requires-2 c κs = search needs
 
 returns-2 : tie.Need-returns-2 Inv-loop μ-loop
 unfolding offsetsFit
@@ -67,19 +49,5 @@ returns-3 c = admits (c .before .before .before .below .ensures) (c .before .bef
 pub offsets-fit-spec : {M : Type 1} → statement M
 offsets-fit-spec =
     tie.close
-    (tie.spec
-    Inv-loop
-    μ-loop
-    below-requires
-    returns
-    loop-holds
-    mul-below
-    add-below
-    mul-below-2
-    element-copy-out-below
-    below-requires-2
-    returns-2
-    add-i
-    loop-less
-    loop-again
-    returns-3)
+    (tie.spec Inv-loop μ-loop (λ c κs. search needs) returns loop-holds (λ c. search needs) (λ c. search needs) (λ c. search needs) (λ c. search needs)
+    (λ c κs. search needs) returns-2 add-i loop-less loop-again returns-3)

@@ -26,18 +26,6 @@ returns c = rejects _ (c .before .starts-at .ensures) (c .if1 .taken)
 loop-holds : tie.Need-loop-holds Inv-loop μ-loop
 loop-holds c = passing-none _ _
 
-mul-starts-at : tie.Need-mul-starts-at Inv-loop μ-loop
-mul-starts-at c = search needs
-
-add-starts-at : tie.Need-add-starts-at Inv-loop μ-loop
-add-starts-at c = search needs
-
-mul-starts-at-2 : tie.Need-mul-starts-at-2 Inv-loop μ-loop
-mul-starts-at-2 c = search needs
-
-element-copy-out-starts-at : tie.Need-element-copy-out-starts-at Inv-loop μ-loop
-element-copy-out-starts-at c = search needs
-
 starts-at-requires-2 : tie.Need-starts-at-requires-2 Inv-loop μ-loop
 starts-at-requires-2 c κs = (c .before .before .before .before .before .before .before .pre .0, c .before .before .before .before .before .before .before .pre .1)
 
@@ -63,19 +51,5 @@ returns-3 c = admits (c .before .before .before .starts-at .ensures) (c .before 
 pub places-start-spec : {M : Type 1} → statement M
 places-start-spec =
     tie.close
-    (tie.spec
-    Inv-loop
-    μ-loop
-    starts-at-requires
-    returns
-    loop-holds
-    mul-starts-at
-    add-starts-at
-    mul-starts-at-2
-    element-copy-out-starts-at
-    starts-at-requires-2
-    returns-2
-    add-i
-    loop-less
-    loop-again
-    returns-3)
+    (tie.spec Inv-loop μ-loop starts-at-requires returns loop-holds (λ c. search needs) (λ c. search needs) (λ c. search needs) (λ c. search needs)
+    starts-at-requires-2 returns-2 add-i loop-less loop-again returns-3)

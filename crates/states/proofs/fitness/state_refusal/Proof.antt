@@ -18,15 +18,9 @@ Inv-loop file trace n s tasks k₀ k = Passing (fitAt file trace s) (cores file)
 abbrev μ-loop : tie.MeasureT-loop
 μ-loop file trace n s tasks k₀ k = n - k
 
-cast-if1 : tie.Need-cast-if1 Inv-loop μ-loop
-cast-if1 c = search needs
-
 returns : tie.Need-returns Inv-loop μ-loop
 unfolding stateRefusal stateFit
 returns c = sym (no _ 23 (sym (fails _ (ne-eqb _ _ (λ e. c .if1 .taken (e ∙ sym (c .before .before .before .before .pre .2)))))))
-
-cast-if2 : tie.Need-cast-if2 Inv-loop μ-loop
-cast-if2 c = search needs
 
 returns-2 : tie.Need-returns-2 Inv-loop μ-loop
 unfolding stateRefusal stateFit
@@ -34,9 +28,6 @@ returns-2 c = sym (no _ 23 (sym (passes (eq-eqb _ _ (c .before .before .if1 .lef
 
 loop-holds : tie.Need-loop-holds Inv-loop μ-loop
 loop-holds c = passing-none _ _
-
-mul-core-fit : tie.Need-mul-core-fit Inv-loop μ-loop
-mul-core-fit c = search needs
 
 array-copy-out-core-fit : tie.Need-array-copy-out-core-fit Inv-loop μ-loop
 array-copy-out-core-fit c = omega (arith, c .before .before .before .before .before .before .before .before .pre .2, c .before .before .before .before .before .before .before .before .pre .0 .few)
@@ -72,9 +63,6 @@ loop-less c = omega arith
 loop-again : tie.Need-loop-again Inv-loop μ-loop
 loop-again c = passing-more _ _ _ (c .before .before .before .before .loop .inv) (rw (c .before .before .before .before .before .before .before .before .before .before .before .pre .2) at (c .before .before .before .loop-test .taken)) (sym (c .before .core-fit .ensures) ∙ not-false _ (c .if3 .left))
 
-line-fit-requires : tie.Need-line-fit-requires Inv-loop μ-loop
-line-fit-requires c κs = search needs
-
 returns-4 : tie.Need-returns-4 Inv-loop μ-loop
 unfolding stateRefusal stateFit
 returns-4 c =
@@ -102,21 +90,5 @@ returns-5 c =
 pub state-refusal-spec : {M : Type 1} → statement M
 state-refusal-spec =
     tie.close
-    (tie.spec
-    Inv-loop
-    μ-loop
-    cast-if1
-    returns
-    cast-if2
-    returns-2
-    loop-holds
-    mul-core-fit
-    array-copy-out-core-fit
-    core-fit-requires
-    returns-3
-    add-k
-    loop-less
-    loop-again
-    line-fit-requires
-    returns-4
-    returns-5)
+    (tie.spec Inv-loop μ-loop (λ c. search needs) returns (λ c. search needs) returns-2 loop-holds (λ c. search needs) array-copy-out-core-fit core-fit-requires
+    returns-3 add-k loop-less loop-again (λ c κs. search needs) returns-4 returns-5)

@@ -11,29 +11,11 @@ Inv-loop places k sum₀ i₀ sum i = (sum ≤ 65535 * (i + 1)) × (i ≤ 16)
 abbrev μ-loop : tie.MeasureT-loop
 μ-loop places k sum₀ i₀ sum i = 16 - i
 
-bytes-before-requires : tie.Need-bytes-before-requires Inv-loop μ-loop
-bytes-before-requires c κs = search needs
-
 returns : tie.Need-returns Inv-loop μ-loop
 returns c = omega (arith, c .before .before .bytes-before .ensures .1)
 
 loop-holds : tie.Need-loop-holds Inv-loop μ-loop
 loop-holds c = (omega (arith, c .before .before .bytes-before .ensures .1), omega arith)
-
-mul-bytes-before : tie.Need-mul-bytes-before Inv-loop μ-loop
-mul-bytes-before c = search needs
-
-add-bytes-before : tie.Need-add-bytes-before Inv-loop μ-loop
-add-bytes-before c = search needs
-
-mul-bytes-before-2 : tie.Need-mul-bytes-before-2 Inv-loop μ-loop
-mul-bytes-before-2 c = search needs
-
-element-copy-out-bytes-before : tie.Need-element-copy-out-bytes-before Inv-loop μ-loop
-element-copy-out-bytes-before c = search needs
-
-bytes-before-requires-2 : tie.Need-bytes-before-requires-2 Inv-loop μ-loop
-bytes-before-requires-2 c κs = search needs
 
 add-sum : tie.Need-add-sum Inv-loop μ-loop
 add-sum c = omega (arith, c .bytes-before2 .ensures .1, c .before .before .before .loop .inv)
@@ -53,19 +35,5 @@ returns-2 c = omega (arith, c .before .loop .inv)
 pub walked-spec : {M : Type 1} → statement M
 walked-spec =
     tie.close
-    (tie.spec
-    Inv-loop
-    μ-loop
-    bytes-before-requires
-    returns
-    loop-holds
-    mul-bytes-before
-    add-bytes-before
-    mul-bytes-before-2
-    element-copy-out-bytes-before
-    bytes-before-requires-2
-    add-sum
-    add-i
-    loop-less
-    loop-again
-    returns-2)
+    (tie.spec Inv-loop μ-loop (λ c κs. search needs) returns loop-holds (λ c. search needs) (λ c. search needs) (λ c. search needs) (λ c. search needs)
+    (λ c κs. search needs) add-sum add-i loop-less loop-again returns-2)

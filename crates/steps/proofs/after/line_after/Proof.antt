@@ -46,5 +46,6 @@ returns-8 c = rw (c .before .enum-told8 .given .1) (c .released2 .ensures)
 pub line-after-spec : {M : Type 1} → statement M
 line-after-spec =
     tie.close
-    (tie.spec (λ c. search needs) (λ c. search needs) joined-requires (λ c. search needs) acquired-requires (λ c. search needs) (λ c. search needs) (λ c κs. search needs)
-    (λ c. search needs) acquired-requires-2 (λ c. search needs) (λ c. search needs) (λ c κs. search needs) returns returns-2 returns-3 returns-4 returns-5 returns-6 returns-7 returns-8)
+    (tie.spec (λ c. search needs) (λ c. search needs) joined-requires (λ c. search needs) acquired-requires (λ c. search needs) (λ c. search needs)
+    (λ c κs. search needs) (λ c. search needs) acquired-requires-2 (λ c. search needs) (λ c. search needs) (λ c κs. search needs) returns returns-2 returns-3
+    returns-4 returns-5 returns-6 returns-7 returns-8)

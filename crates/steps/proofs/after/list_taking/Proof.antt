@@ -31,5 +31,6 @@ returns-8 c = rw (c .enum-told8 .given .1) (none-listed _ _)
 pub list-taking-spec : {M : Type 1} → statement M
 list-taking-spec =
     tie.close
-    (tie.spec (λ c. search needs) (λ c. search needs) (λ c. search needs) (λ c. search needs) (λ c. search needs) (λ c. search needs) (λ c. search needs) (λ c. search needs) (λ c. search needs) (λ c. search needs) (λ c. search needs) (λ c. search needs) (λ c. search needs) (λ c. search needs) (λ c. search needs)
-    returns returns-2 (λ c. search needs) returns-3 returns-4 returns-5 (λ c. search needs) returns-6 returns-7 returns-8)
+    (tie.spec (λ c. search needs) (λ c. search needs) (λ c. search needs) (λ c. search needs) (λ c. search needs) (λ c. search needs) (λ c. search needs)
+    (λ c. search needs) (λ c. search needs) (λ c. search needs) (λ c. search needs) (λ c. search needs) (λ c. search needs) (λ c. search needs)
+    (λ c. search needs) returns returns-2 (λ c. search needs) returns-3 returns-4 returns-5 (λ c. search needs) returns-6 returns-7 returns-8)

@@ -41,6 +41,6 @@ returns-8 c = rw (c .before .enum-told7 .given .1) (λ core e. c .write-released
 pub registers-after-spec : {M : Type 1} → statement M
 registers-after-spec =
     tie.close
-    (tie.spec (λ c. search needs) (λ c. search needs) (λ c. search needs) (λ c κs. search needs) (λ c. search needs) byte-copied-requires
-    (λ c. search needs) (λ c κs. search needs) (λ c. search needs) (λ c κs. search needs) (λ c. search needs) byte-copied-requires-2 (λ c. search needs) write-released-requires
+    (tie.spec (λ c. search needs) (λ c. search needs) (λ c. search needs) (λ c κs. search needs) (λ c. search needs) byte-copied-requires (λ c. search needs)
+    (λ c κs. search needs) (λ c. search needs) (λ c κs. search needs) (λ c. search needs) byte-copied-requires-2 (λ c. search needs) write-released-requires
     returns returns-2 returns-3 returns-4 returns-5 returns-6 returns-7 returns-8)

@@ -40,9 +40,6 @@ returns c =
 add-p : tie.Need-add-p Inv-loop μ-loop
 add-p c = omega (arith, c .before .before .before .loop .inv .small, c .before .before .before .before .before .pre .1)
 
-word-at-requires : tie.Need-word-at-requires Inv-loop μ-loop
-word-at-requires c κs = search needs
-
 add-p-2 : tie.Need-add-p-2 Inv-loop μ-loop
 add-p-2 c = omega (arith, c .before .before .before .before .loop .inv .small, c .before .before .before .before .before .before .pre .1, c .word-at .ensures .1)
 
@@ -77,18 +74,5 @@ returns-2 c = rw (sym (c .before .before .before .before .before .pre .2))
 pub codes-refusal-spec : {M : Type 1} → statement M
 codes-refusal-spec =
     tie.close
-    (tie.spec
-    Inv-loop
-    μ-loop
-    loop-holds
-    section-refusal-requires
-    returns
-    add-p
-    word-at-requires
-    add-p-2
-    add-k
-    loop-less
-    loop-again
-    start-sections-requires
-    starts-refusal-requires
-    returns-2)
+    (tie.spec Inv-loop μ-loop loop-holds section-refusal-requires returns add-p (λ c κs. search needs) add-p-2 add-k loop-less loop-again
+    start-sections-requires starts-refusal-requires returns-2)

@@ -12,9 +12,6 @@ returns : tie.Need-returns
 unfolding headRefusal
 returns c = halt 0 _ (no _ _ (lt-leb _ _ (c .if1 .taken)))
 
-is-mark-requires : tie.Need-is-mark-requires
-is-mark-requires c κs = search needs
-
 returns-2 : tie.Need-returns-2
 unfolding headRefusal
 returns-2 c = skip (yes _ _ (le-leb _ _ (c .before .before .if1 .left))) (halt 1 _ (no _ _ (sym (c .before .is-mark .ensures) ∙ not-true _ (c .if2 .taken))))
@@ -22,9 +19,6 @@ returns-2 c = skip (yes _ _ (le-leb _ _ (c .before .before .if1 .left))) (halt 1
 returns-3 : tie.Need-returns-3
 unfolding headRefusal
 returns-3 c = skip (yes _ _ (le-leb _ _ (c .before .before .before .if1 .left))) (skip (yes _ _ (sym (c .before .before .is-mark .ensures) ∙ not-false _ (c .before .if2 .left))) (halt 0 _ (no _ _ (lt-leb _ _ (c .if3 .taken)))))
-
-shared-slice-read-n : tie.Need-shared-slice-read-n
-shared-slice-read-n c = search needs
 
 cast-n : tie.Need-cast-n
 cast-n c = omega (arith, c .before .before .before .before .before .shared-slice-known .given 4)
@@ -50,9 +44,6 @@ returns-5 c =
     (skip (yes _ _ (sym (after-is-mark .is-mark .ensures) ∙ not-false _ (else2 .if2 .left)))
     (skip (yes _ _ (le-leb _ _ (else3 .if3 .left))) (halt 2 _ (no _ _ (rw (le-leb _ _ (c .before .if4 .left), lt-leb _ _ (c .if5 .taken)))))))
 
-cores-refusal-requires : tie.Need-cores-refusal-requires
-cores-refusal-requires c κs = search needs
-
 returns-6 : tie.Need-returns-6
 unfolding headRefusal
 returns-6 c =
@@ -68,14 +59,4 @@ returns-6 c =
 pub head-refusal-spec : {M : Type 1} → statement M
 head-refusal-spec =
     tie.close
-    (tie.spec
-    returns
-    is-mark-requires
-    returns-2
-    returns-3
-    shared-slice-read-n
-    cast-n
-    returns-4
-    returns-5
-    cores-refusal-requires
-    returns-6)
+    (tie.spec returns (λ c κs. search needs) returns-2 returns-3 (λ c. search needs) cast-n returns-4 returns-5 (λ c κs. search needs) returns-6)

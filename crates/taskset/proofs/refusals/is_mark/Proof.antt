@@ -8,17 +8,11 @@ use Rattle.taskset.proofs.refusals.is_mark.Lts as lts
 use Rattle.taskset.proofs.is_new.Reads as is-new-reads
 use Rattle.taskset.proofs.is_old.Reads as is-old-reads
 
-is-old-requires : tie.Need-is-old-requires
-is-old-requires c κs = search needs
-
 returns : tie.Need-returns
 returns c = rw (sym (c .before .is-old .ensures) ∙ c .if1 .taken)
-
-is-new-requires : tie.Need-is-new-requires
-is-new-requires c κs = search needs
 
 returns-2 : tie.Need-returns-2
 returns-2 c = rw (sym (c .before .before .is-old .ensures) ∙ (c .before .if1 .left)) (c .is-new .ensures)
 
 pub is-mark-spec : {M : Type 1} → statement M
-is-mark-spec = tie.close (tie.spec is-old-requires returns is-new-requires returns-2)
+is-mark-spec = tie.close (tie.spec (λ c κs. search needs) returns (λ c κs. search needs) returns-2)

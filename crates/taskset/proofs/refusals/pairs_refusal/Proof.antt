@@ -25,9 +25,6 @@ returns : tie.Need-returns Inv-loop μ-loop
 unfolding pairsRefusal
 returns c = halt 0 _ (no _ _ (lt-leb _ _ (c .if1 .taken)))
 
-word-at-requires : tie.Need-word-at-requires Inv-loop μ-loop
-word-at-requires c κs = search needs
-
 loop-holds : tie.Need-loop-holds Inv-loop μ-loop
 loop-holds c = pairs-none _ _ _ _
 
@@ -42,9 +39,6 @@ add-if2 c = omega (arith, c .before .before .word-at .ensures .1)
 
 returns-2 : tie.Need-returns-2 Inv-loop μ-loop
 returns-2 c = pairs-stop _ _ _ _ _ _ (c .before .before .before .before .if1 .left) (c .before .before .before .word-at .ensures .0) (c .before .before .loop .inv) 1 (c .before .loop-test .taken) (pair-cut _ _ _ _ (c .if2 .taken)) (λ e. absurd (let y : ⊥ = omega arith in y))
-
-word-at-requires-2 : tie.Need-word-at-requires-2 Inv-loop μ-loop
-word-at-requires-2 c κs = search needs
 
 returns-3 : tie.Need-returns-3 Inv-loop μ-loop
 returns-3 c =
@@ -93,22 +87,5 @@ returns-5 c = pairs-end _ _ _ _ _ _ (c .before .before .before .if1 .left) (c .b
 pub pairs-refusal-spec : {M : Type 1} → statement M
 pairs-refusal-spec =
     tie.close
-    (tie.spec
-    Inv-loop
-    μ-loop
-    add-first
-    returns
-    word-at-requires
-    loop-holds
-    mul-at
-    add-at
-    add-if2
-    returns-2
-    word-at-requires-2
-    returns-3
-    returns-4
-    add-least
-    add-i
-    loop-less
-    loop-again
-    returns-5)
+    (tie.spec Inv-loop μ-loop add-first returns (λ c κs. search needs) loop-holds mul-at add-at add-if2 returns-2 (λ c κs. search needs) returns-3 returns-4
+    add-least add-i loop-less loop-again returns-5)

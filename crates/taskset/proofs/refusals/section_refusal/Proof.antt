@@ -12,15 +12,9 @@ use borrow.Author.Needs.{needs}
 use Rattle.taskset.proofs.refusals.section_refusal.Statement.{statement}
 use Rattle.taskset.proofs.refusals.section_refusal.Tie as tie
 
-add-a : tie.Need-add-a
-add-a c = search needs
-
 returns : tie.Need-returns
 unfolding sectionRefusal
 returns c = halt 0 _ (no _ _ (lt-leb _ _ (c .if1 .taken)))
-
-word-at-requires : tie.Need-word-at-requires
-word-at-requires c κs = search needs
 
 returns-2 : tie.Need-returns-2
 unfolding sectionRefusal
@@ -30,9 +24,6 @@ returns-3 : tie.Need-returns-3
 unfolding sectionRefusal
 returns-3 c = skip (yes _ _ (le-leb _ _ (c .before .before .before .if1 .left))) (halt 5 _ (no _ _ (rw (sym (c .before .before .word-at .ensures .0), le-leb _ _ (c .before .if2 .left), lt-leb _ _ (c .if3 .taken)))))
 
-add-e : tie.Need-add-e
-add-e c = search needs
-
 returns-4 : tie.Need-returns-4
 unfolding sectionRefusal
 returns-4 c =
@@ -41,18 +32,6 @@ returns-4 c =
     skip (yes _ _ (le-leb _ _ (else1 .if1 .left)))
     (skip (yes _ _ (rw (sym (after-word-at .word-at .ensures .0), le-leb _ _ (c .before .before .if2 .left), le-leb _ _ (c .before .if3 .left))))
     (halt 0 _ (no _ _ (rw (sym (after-word-at .word-at .ensures .0), lt-leb _ _ (c .if4 .taken))))))
-
-sub-judge-code-for : tie.Need-sub-judge-code-for
-sub-judge-code-for c = search needs
-
-part-judge-code-for-start : tie.Need-part-judge-code-for-start
-part-judge-code-for-start c = search needs
-
-part-judge-code-for-end : tie.Need-part-judge-code-for-end
-part-judge-code-for-end c = search needs
-
-judge-code-for-requires : tie.Need-judge-code-for-requires
-judge-code-for-requires c κs = search needs
 
 returns-5 : tie.Need-returns-5
 unfolding sectionRefusal part
@@ -66,16 +45,5 @@ returns-5 c = let s = c .before .before .before .before .before .before .before 
 pub section-refusal-spec : {M : Type 1} → statement M
 section-refusal-spec =
     tie.close
-    (tie.spec
-    add-a
-    returns
-    word-at-requires
-    returns-2
-    returns-3
-    add-e
-    returns-4
-    sub-judge-code-for
-    part-judge-code-for-start
-    part-judge-code-for-end
-    judge-code-for-requires
-    returns-5)
+    (tie.spec (λ c. search needs) returns (λ c κs. search needs) returns-2 returns-3 (λ c. search needs) returns-4 (λ c. search needs) (λ c. search needs)
+    (λ c. search needs) (λ c κs. search needs) returns-5)

@@ -9,9 +9,6 @@ use Rattle.taskset.proofs.refusals.start_sections.Reads as reads
 use Rattle.taskset.proofs.refusals.start_sections.Lts as lts
 use Rattle.taskset.proofs.is_new.Reads as is-new-reads
 
-is-new-requires : tie.Need-is-new-requires
-is-new-requires c κs = search needs
-
 returns : tie.Need-returns
 returns c = (c .before .before .before .pre .1 ∙ sym (pick-true _ _ _ (sym (c .before .is-new .ensures) ∙ c .if1 .taken)), omega arith)
 
@@ -19,4 +16,4 @@ returns-2 : tie.Need-returns-2
 returns-2 c = (sym (pick-false _ _ _ (sym (c .before .is-new .ensures) ∙ c .if1 .left)), omega arith)
 
 pub start-sections-spec : {M : Type 1} → statement M
-start-sections-spec = tie.close (tie.spec is-new-requires returns returns-2)
+start-sections-spec = tie.close (tie.spec (λ c κs. search needs) returns returns-2)

@@ -27,9 +27,6 @@ mul-word-at c = omega (arith, c .before .before .before .pre .0)
 add-word-at : tie.Need-add-word-at Inv-loop μ-loop
 add-word-at c = omega (arith, c .before .before .before .pre .0)
 
-word-at-requires : tie.Need-word-at-requires Inv-loop μ-loop
-word-at-requires c κs = search needs
-
 pairs-refusal-requires : tie.Need-pairs-refusal-requires Inv-loop μ-loop
 pairs-refusal-requires c κs = omega (arith, c .before .before .loop .inv .small, c .before .before .before .before .pre .0)
 
@@ -44,9 +41,6 @@ returns c =
 
 add-p : tie.Need-add-p Inv-loop μ-loop
 add-p c = omega (arith, c .before .before .before .before .loop .inv .small, c .before .before .before .before .before .before .pre .0)
-
-word-at-requires-2 : tie.Need-word-at-requires-2 Inv-loop μ-loop
-word-at-requires-2 c κs = search needs
 
 mul-p : tie.Need-mul-p Inv-loop μ-loop
 mul-p c = omega (arith, c .word-at2 .ensures .1)
@@ -80,21 +74,5 @@ returns-3 c = starts-followed (c .before .before .before .before .args .f .now) 
 pub starts-refusal-spec : {M : Type 1} → statement M
 starts-refusal-spec =
     tie.close
-    (tie.spec
-    Inv-loop
-    μ-loop
-    loop-holds
-    mul-word-at
-    add-word-at
-    word-at-requires
-    pairs-refusal-requires
-    returns
-    add-p
-    word-at-requires-2
-    mul-p
-    add-p-2
-    add-k
-    loop-less
-    loop-again
-    returns-2
-    returns-3)
+    (tie.spec Inv-loop μ-loop loop-holds mul-word-at add-word-at (λ c κs. search needs) pairs-refusal-requires returns add-p (λ c κs. search needs) mul-p
+    add-p-2 add-k loop-less loop-again returns-2 returns-3)

@@ -14,34 +14,13 @@ use borrow.Author.Needs.{needs}
 use Rattle.taskset.proofs.refusals.variable_section_refusal.Statement.{statement}
 use Rattle.taskset.proofs.refusals.variable_section_refusal.Tie as tie
 
-byte-at-requires : tie.Need-byte-at-requires
-byte-at-requires c κs = search needs
-
-cast-at : tie.Need-cast-at
-cast-at c = search needs
-
-mul-at : tie.Need-mul-at
-mul-at c = search needs
-
-add-at : tie.Need-add-at
-add-at c = search needs
-
-add-if1 : tie.Need-add-if1
-add-if1 c = search needs
-
 returns : tie.Need-returns
 unfolding variablesRefusal
 returns c = rw (sym (c .before .byte-at .ensures)) (halt 0 _ (no _ _ (lt-leb _ _ (c .if1 .taken))))
 
-shared-slice-read-m : tie.Need-shared-slice-read-m
-shared-slice-read-m c = search needs
-
 returns-2 : tie.Need-returns-2
 unfolding variablesRefusal
 returns-2 c = rw (sym (c .before .before .before .byte-at .ensures)) (skip (yes _ _ (le-leb _ _ (c .before .before .if1 .left))) (halt 3 _ (no _ _ (lt-leb _ _ (c .if2 .taken)))))
-
-variables-refusal-requires : tie.Need-variables-refusal-requires
-variables-refusal-requires c κs = search needs
 
 returns-3 : tie.Need-returns-3
 unfolding variablesRefusal
@@ -67,16 +46,5 @@ returns-4 c =
 pub variable-section-refusal-spec : {M : Type 1} → statement M
 variable-section-refusal-spec =
     tie.close
-    (tie.spec
-    byte-at-requires
-    cast-at
-    mul-at
-    add-at
-    add-if1
-    returns
-    shared-slice-read-m
-    returns-2
-    variables-refusal-requires
-    returns-3
-    overlaps-refusal-requires
-    returns-4)
+    (tie.spec (λ c κs. search needs) (λ c. search needs) (λ c. search needs) (λ c. search needs) (λ c. search needs) returns (λ c. search needs) returns-2
+    (λ c κs. search needs) returns-3 overlaps-refusal-requires returns-4)
