@@ -1,4 +1,4 @@
-// The order of a run: which core a step is of, and how many of the steps from one on are of the same core.
+// The order of a run: which core a step is of, and how many of the steps from one on are of the same core, or of cores that wait.
 // Not here: the steps themselves (crates steps and runner).
 use protocol::Registers;
 use semaphore::Line;

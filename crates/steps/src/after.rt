@@ -17,6 +17,7 @@ ghost use Rattle.exchange.specs.Laid.{Laid};
 ghost use Rattle.steps.specs.Effects.{exchanged, semaphoreBy, takenBy, Takes};
 ghost use Rattle.steps.specs.After.{RegistersAfter, LineTakes, CursorAfter};
 
+// The registers of its core, which were r.
 pub fn registers_after(z: Exchange, r: Registers) -> Registers
     requires { ⌜ Takes r (exchanged z) ⌝ }
     ensures { λ s. ⌜ RegistersAfter z r s ⌝ }
@@ -33,6 +34,7 @@ pub fn registers_after(z: Exchange, r: Registers) -> Registers
     }
 }
 
+// The semaphore with its line, by a step of core k.
 pub fn line_after(z: Exchange, line: Line, k: usize) -> Line
     requires { ⌜ Lined line × (k < 4) × Once (semaphoreOf (line .semaphore) .line) × LineTakes (semaphoreOf (line .semaphore)) k z ⌝ }
     ensures { λ x. ⌜ x ≡ lineOf (semaphoreBy (exchanged z) k (semaphoreOf (line .semaphore))) ⌝ }
@@ -49,6 +51,7 @@ pub fn line_after(z: Exchange, line: Line, k: usize) -> Line
     }
 }
 
+// Where the next byte of the exchange stands, after a step of core k.
 pub fn cursor_after(
     z: Exchange,
     cursor: Cursor,
