@@ -47,7 +47,7 @@ fn write_run(
     requires { ⌜ LentTo (now file) layout (now buffer) (now shared) × (length (now order) ≤ length (now list)) ⌝ }
     ensures { λ r. ⌜ textLeft r (now (out .exit)) ≡ textCall (runText (now (file .entry)) (now (trace .entry)) (now (order .entry))) (now (out .entry)) ⌝ }
 {
-    let ran = machine::first_run_judged(file, trace, layout, buffer, shared, order, list);
+    let ran = runs::first_run_judged(file, trace, layout, buffer, shared, order, list);
     if ran.refusal != 0 {
         return listing::write_refused(ran.refusal, out);
     }

@@ -106,7 +106,7 @@ fn show_run(
         refused(begun.refusal);
         return;
     }
-    let ran = machine::run(file, trace, begun.state, buffer, shared, order, list);
+    let ran = runs::run(file, trace, begun.state, buffer, shared, order, list);
     if ran.refusal != 0 {
         refused(ran.refusal);
         return;

@@ -1,15 +1,13 @@
--- What the judging of a call answers: and what the inner functions of this crate are given. In order: file and lent memory; the call; the
--- place of the exchange under way; a run from the fresh state.
+-- What the judging of a call answers, and what the inner functions of this crate are given. In order: file and lent memory; the call; a run from the fresh state.
 -- Not here: the refusal number of each public call (`Calls`).
 use mathlib.Core.Path.{_≡_}
 use mathlib.Core.Bool.{Bool, true}
 use mathlib.Core.List.{List, [], _∷_}
-use Prim.Native.Nat.{ℕ, suc, _<_}
-use lib.ListN.{length, getD}
+use Prim.Native.Nat.{ℕ}
+use lib.ListN.{length}
 use Rattle.verdict.specs.Numbers.{noSuchCore, badLengths}
 use Rattle.verdict.specs.Verdict.{both, next, unless}
-use Rattle.records.specs.File.{cores, variables, recordPlace}
-use Rattle.exchange.specs.declared.Cursor.{Cursor}
+use Rattle.records.specs.File.{cores}
 use Rattle.code.specs.declared.Profile.{Profile}
 use Rattle.taskset.specs.declared.Layout.{Layout}
 use Rattle.taskset.specs.declared.Loaded.{Loaded}
@@ -17,12 +15,8 @@ use Rattle.taskset.specs.Judge.{judgeFor, judge}
 use Rattle.taskset.specs.Layout.{layoutOf, loadFor}
 use Rattle.taskset.specs.Starts.{startShared, startBuffer}
 use Rattle.states.specs.declared.Held.{Held}
-use Rattle.states.specs.Machine.{noRegisters, stateOf}
-use Rattle.states.specs.Set.{AcceptedSet}
-use Rattle.states.specs.Fit.{Fit}
 use Rattle.states.specs.Preparing.{heldRefusal}
 use Rattle.states.specs.Tasks.{noTask, tasksOf}
-use Rattle.steps.specs.Moving.{CursorAimed}
 use Rattle.runner.specs.Runs.{allBelow, Left}
 use Rattle.machine.specs.declared.judging.Judgement.{Judgement}
 use Rattle.machine.specs.Calls.{lentFits, tableOf, runCall}
@@ -58,19 +52,6 @@ pub record JudgedAs (f t : List ℕ) (loaded : ℕ) (h : Held) (order : List ℕ
   pub number : x .refusal ≡ judgedNumber f t loaded h order
   pub laid : x .refusal ≡ 0 → x .layout ≡ layoutOf f
   pub tasked : x .refusal ≡ 0 → x .tasks ≡ tasksOf f t
-
--- ---- the place of the exchange under way
-
--- a fit state of an accepted set, with the places of the variables' records
-pub record AimGiven (f t : List ℕ) (first end : ℕ) (h : Held) (d sh : List ℕ) : Type 0 where
-  pub accepted : AcceptedSet f t
-  pub from : first ≡ recordPlace f 0
-  pub upto : end ≡ recordPlace f (variables f)
-  pub fit : Fit f t (stateOf f h d sh)
-
--- the holder's cursor, of whichever core holds the semaphore
-abbrev pub AimedAt : List ℕ → Held → Cursor → Type 0
-AimedAt f h aim = (k : ℕ) → k < cores f → h .semaphore .holder ≡ suc k → CursorAimed f k (getD (h .cores) k noRegisters) aim
 
 -- ---- a run from the fresh state of an accepted file, in memories of its sizes
 

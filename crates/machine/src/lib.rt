@@ -1,21 +1,18 @@
 // The machine that users call, by value. No call requires anything: each gives the refusal number of document 01 that fits, in the order
 // file, 21, 22, 23, 20, and then changes no lent byte. `load_lent` and `judge_call` have this order for all of them.
-// Not here: the judging of a call (src/judging.rt); the fresh state (src/fresh_state.rt); runs and steps (src/runs.rt).
+// Not here: the judging of a call (src/judging.rt); the fresh state (src/fresh_state.rt); a run and a step (crate `runs`).
 mod fresh_state;
 mod judging;
-mod runs;
 
 use code::Profile;
 pub use fresh_state::fresh;
 pub use fresh_state::fresh_for;
 pub use fresh_state::fresh_judged;
 pub use fresh_state::idle_table;
-use judging::judge_call;
+pub use judging::Judgement;
+pub use judging::judge_call;
 pub use judging::load_lent;
 use runner::RunAnswer;
-pub use runs::first_run_judged;
-pub use runs::run;
-pub use runs::step;
 use states::Held;
 use table::Moving;
 ghost use mathlib.Core.Path.{_≡_};

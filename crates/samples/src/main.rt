@@ -231,7 +231,7 @@ fn run_says(setting: &[u8], line: &[u8], file: &[u8], trace: &[u8], order: &[u8]
     let d = length_of(setting, line, b"data", &data);
     let s = length_of(setting, line, b"shared", &shared);
     let l = length_of(setting, line, b"list", &list);
-    let r = machine::run(
+    let r = runs::run(
         file,
         trace,
         before,
@@ -250,7 +250,7 @@ fn step_says(setting: &[u8], line: &[u8], file: &[u8], trace: &[u8], core: u8) -
     let mut shared = filled();
     let d = length_of(setting, line, b"data", &data);
     let s = length_of(setting, line, b"shared", &shared);
-    let r = machine::step(file, trace, before, &mut data[..d], &mut shared[..s], core);
+    let r = runs::step(file, trace, before, &mut data[..d], &mut shared[..s], core);
     let unchanged = kept(&data) && kept(&shared);
     says(r, unchanged, before, state_in_words(setting, line, LEFT))
 }

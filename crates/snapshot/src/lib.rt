@@ -72,7 +72,7 @@ pub fn step_table(
     ensures { λ r. ⌜ tableLeft r (now (buffer .exit)) (now (shared .exit)) [] ≡ stepTable (now (file .entry)) (now (trace .entry)) t semaphore (now (buffer .entry)) (now (shared .entry)) core ⌝ }
 {
     let s = state_of(t, semaphore);
-    let stepped = machine::step(file, trace, s, buffer, shared, core);
+    let stepped = runs::step(file, trace, s, buffer, shared, core);
     if stepped.refusal != 0 {
         return unchanged(t, semaphore, stepped.refusal);
     }
@@ -96,7 +96,7 @@ pub fn run_table(
         (now (list .entry)) (now (taken .entry))) ⌝ }
 {
     let s = state_of(t, semaphore);
-    let ran = machine::run(file, trace, s, buffer, shared, order, list);
+    let ran = runs::run(file, trace, s, buffer, shared, order, list);
     if ran.refusal != 0 {
         return unchanged(t, semaphore, ran.refusal);
     }
@@ -335,7 +335,7 @@ pub fn step_with(
         × (x .registers ≡ registersAfter (x .ran .state) core registers) ⌝ }
 {
     let k = core as usize;
-    let ran = machine::step(
+    let ran = runs::step(
         file,
         trace,
         with_registers(s, k, registers),

@@ -23,9 +23,9 @@ use Rattle.states.proofs.Exactly.{fit-accepted}
 use Rattle.states.proofs.Tasks.{tasks-at}
 use Rattle.runner.specs.Runs.{allBelow}
 use Rattle.runner.specs.Going.{RunGiven}
-use Rattle.machine.specs.Judging.{AimGiven, AimedAt}
+use Rattle.runs.specs.Aiming.{AimGiven, AimedAt}
 use Rattle.machine.specs.Calls.{runRefusal}
 use Rattle.machine.proofs.Calls.{Granted, granted}
 
 module _ (f t : List ℕ) (h : Held) (d sh order list : List ℕ) (e : runRefusal f t h d sh order list ≡ 0) (l : Layout) (laid : l ≡ layoutOf f) where
   known : Granted f t h (length d) (length sh) (leb (length order) (length list)) (allBelow (cores f) order)

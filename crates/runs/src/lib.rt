@@ -1,10 +1,11 @@
-// A run, and a step, which is a run of one step.
-use super::answer;
-use super::fresh_state::fresh_judged;
-use super::judging::judge_call;
-use super::judging::load_lent;
+// The calls that move the machine: a run, and a step, which is a run of one step. Each is judged whole before its first step, and a refused one changes no lent byte.
+// Not here: what a run and a step are for every input (machine/specs/Calls); the judging of a call and the fresh state (crate `machine`); the steps of an order (crate `runner`).
 use code::Profile;
 use exchange::Cursor;
+use machine::answer;
+use machine::fresh_judged;
+use machine::judge_call;
+use machine::load_lent;
 use runner::RunAnswer;
 use states::CoreTask;
 use states::Held;
@@ -17,8 +18,9 @@ ghost use lib.ListN.{length};
 ghost use Rattle.taskset.specs.Layout.{layoutOf};
 ghost use Rattle.states.specs.Tasks.{tasksOf};
 ghost use Rattle.runner.specs.Runs.{leftAs, ranCall};
-ghost use Rattle.machine.specs.Judging.{LentTo, AimGiven, AimedAt, firstRun};
+ghost use Rattle.machine.specs.Judging.{LentTo, firstRun};
+ghost use Rattle.runs.specs.Aiming.{AimGiven, AimedAt};
 ghost use Rattle.machine.specs.Calls.{runRefusal, runCall, stepCall};
 
 // The place of the exchange under way in a fit state, if there is one.
 fn aim_of(

@@ -20,7 +20,7 @@ use Rattle.states.specs.Machine.{noRegisters, coreIn, stateOf}
 use Rattle.states.specs.Fit.{FitCore, Fit}
 use Rattle.steps.specs.Moving.{CursorAimed}
 use Rattle.runner.proofs.Running.{core-in, semaphore-in}
-use Rattle.machine.specs.Judging.{AimGiven, AimedAt}
+use Rattle.runs.specs.Aiming.{AimGiven, AimedAt}
 
 module _ (f t : List ℕ) (s : Held) (d sh : List ℕ) (ok : AcceptedSet f t) (fit : Fit f t (stateOf f s d sh)) (k : ℕ) (e : s .semaphore .holder ≡ suc k) where
   holding : (mode (core (stateOf f s d sh .plant) k) ≡ 1) ⊎ (mode (core (stateOf f s d sh .plant) k) ≡ 4)

@@ -1,8 +1,8 @@
--- `machine::step` meets its contract: a step is the run of an order of one byte. Assumes nothing.
+-- `runs::step` meets its contract: a step is the run of an order of one byte. Assumes nothing.
 use borrow.Author.Needs.{needs}
-use Rattle.machine.proofs.Steps.{step-as-run}
-use Rattle.machine.proofs.runs.step.Statement.{statement}
-use Rattle.machine.proofs.runs.step.Tie as tie
+use Rattle.runs.proofs.Steps.{step-as-run}
+use Rattle.runs.proofs.step.Statement.{statement}
+use Rattle.runs.proofs.step.Tie as tie
 
 returns : tie.Need-returns
 returns c =

@@ -1,9 +1,9 @@
--- `machine::aim_of` meets its contract: a fit state's holder is within its exchange. Assumes nothing.
+-- `runs::aim_of` meets its contract: a fit state's holder is within its exchange. Assumes nothing.
 use native.Mathlib.Omega.{arith}
 use borrow.Author.Needs.{needs}
-use Rattle.machine.proofs.Aims.{aim-free, in-table, within-reads, within-writes, aim-reading, aim-writing, aim-neither}
-use Rattle.machine.proofs.runs.aim_of.Statement.{statement}
-use Rattle.machine.proofs.runs.aim_of.Tie as tie
+use Rattle.runs.proofs.Aims.{aim-free, in-table, within-reads, within-writes, aim-reading, aim-writing, aim-neither}
+use Rattle.runs.proofs.aim_of.Statement.{statement}
+use Rattle.runs.proofs.aim_of.Tie as tie
 
 returns : tie.Need-returns
 returns c = let start = c .before .before .before .before .before in aim-free (start .args .file .now) (start .args .s) _ (c .if1 .taken)

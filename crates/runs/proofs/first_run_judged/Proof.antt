@@ -1,9 +1,9 @@
--- `machine::first_run_judged` meets its contract: the state is made fresh, then the call is judged and its steps are done. Assumes nothing.
+-- `runs::first_run_judged` meets its contract: the state is made fresh, then the call is judged and its steps are done. Assumes nothing.
 use mathlib.Core.Path.{sym, _∙_}
 use Rattle.machine.proofs.Calls.{run-refused, run-granted, fresh-left, first-call, first-number}
 use borrow.Author.Needs.{needs}
-use Rattle.machine.proofs.runs.first_run_judged.Statement.{statement}
-use Rattle.machine.proofs.runs.first_run_judged.Tie as tie
+use Rattle.runs.proofs.first_run_judged.Statement.{statement}
+use Rattle.runs.proofs.first_run_judged.Tie as tie
 
 returns : tie.Need-returns
 returns c =

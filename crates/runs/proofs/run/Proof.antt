@@ -1,10 +1,10 @@
--- `machine::run` meets its contract: the call is judged, then its steps are done. Assumes nothing.
+-- `runs::run` meets its contract: the call is judged, then its steps are done. Assumes nothing.
 use mathlib.Core.Path.{sym, _∙_}
 use Rattle.code.specs.declared.Profile.the-variants.{Full}
 use Rattle.machine.proofs.Calls.{lent-laid, run-number, run-refused, run-granted}
 use borrow.Author.Needs.{needs}
-use Rattle.machine.proofs.runs.run.Statement.{statement}
-use Rattle.machine.proofs.runs.run.Tie as tie
+use Rattle.runs.proofs.run.Statement.{statement}
+use Rattle.runs.proofs.run.Tie as tie
 
 judge-call-requires : tie.Need-judge-call-requires
 judge-call-requires c κs =

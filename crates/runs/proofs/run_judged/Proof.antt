@@ -1,11 +1,11 @@
--- `machine::run_judged` meets its contract: what judging has shown is what the run of an order is given. Assumes nothing.
+-- `runs::run_judged` meets its contract: what judging has shown is what the run of an order is given. Assumes nothing.
 use mathlib.Core.Path.{sym, ap, _∙_}
 use native.Mathlib.Omega.{arith}
 use borrow.Author.Needs.{needs}
 use lib.ListN.{length}
-use Rattle.machine.proofs.Judged.{few-variables, near-first, aim-given, run-given}
-use Rattle.machine.proofs.runs.run_judged.Statement.{statement}
-use Rattle.machine.proofs.runs.run_judged.Tie as tie
+use Rattle.runs.proofs.Judged.{few-variables, near-first, aim-given, run-given}
+use Rattle.runs.proofs.run_judged.Statement.{statement}
+use Rattle.runs.proofs.run_judged.Tie as tie
 
 mul-end : tie.Need-mul-end
 mul-end c =

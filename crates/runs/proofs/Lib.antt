@@ -1,0 +1,3 @@
+mod Aims
+mod Judged
+mod Steps
