@@ -189,16 +189,16 @@ fn run_core(
             depth,
             before.count + (step - from) as u16,
         );
-        let op = steps::command_of(counter, k, c, file, trace);
+        let op = instructions::command_of(counter, k, c, file, trace);
         if processor::has_three(op) {
-            let p = steps::typed_of(op, r, k, c, file, trace, buffer);
+            let p = instructions::typed_of(op, r, k, c, file, trace, buffer);
             if let Performed::Done = p {
                 counter += TYPED;
             } else {
                 return reach(step + 1, stopped(r, p));
             }
         } else {
-            let o = steps::other_of(op, r, k, c, file, trace, buffer);
+            let o = instructions::other_of(op, r, k, c, file, trace, buffer);
             match o {
                 Outcome::Fault(bit) => {
                     return reach(step + 1, protocol::faulted(r, bit));

@@ -1,14 +1,13 @@
 // Document 01, "One step of a core": what a step of a core in each mode does to its data and to shared memory, and which change of its
 // registers goes with it.
+// Not here: an instruction (crate `instructions`).
 mod after;
 
 pub use after::cursor_after;
 pub use after::line_after;
 pub use after::list_taking;
 pub use after::registers_after;
-use commands::Performed;
 use exchange::Cursor;
-use protocol::Outcome;
 use protocol::READING;
 use protocol::Registers;
 use protocol::WRITING;
@@ -22,14 +21,11 @@ ghost use lib.ListN.{length, getD, replicate};
 ghost use Rattle.memory.specs.Memory.{byte, splice, split};
 ghost use Rattle.exchange.specs.Exchange.{At};
 ghost use Rattle.records.specs.File.{variables, recordPlace};
-ghost use Rattle.code.specs.Commands.{three};
-ghost use Rattle.taskset.specs.Judge.{codeOf};
 ghost use Rattle.taskset.specs.Task.{sizesOf, sampleAt};
-ghost use Rattle.processor.specs.Typed.{outcomeOf};
-ghost use Rattle.steps.specs.Effects.{Exchanges, ExchangesAlone, ExchangesOn, InstructsIn, ExchangesIn};
+ghost use Rattle.steps.specs.Effects.{Exchanges, ExchangesAlone, ExchangesOn, ExchangesIn};
 ghost use Rattle.steps.specs.declared.Exchange.the-variants.{Joins, WriteBegun};
 ghost use Rattle.verdict.specs.Verdict.{pick};
-ghost use Rattle.steps.specs.Moving.{StepGiven, AtInstruction, InstructionGiven, CursorAimed, ExchangeGiven};
+ghost use Rattle.steps.specs.Moving.{StepGiven, CursorAimed, ExchangeGiven};
 ghost use Rattle.steps.specs.Bytes.{Ahead, BytesMoved};
 ghost use Rattle.protocol.specs.Modes.{betweenCycles, readingExchange, executing, writingExchange};
 
@@ -201,57 +197,7 @@ fn exchange_in(
 
 // ---- the same in the data buffer of all cores, of which the step is lent the stretch of core k
 
-// The code byte of the instruction at the program counter.
-pub fn command_of(counter: u16, k: usize, c: CoreTask, file: &[u8], trace: &[u8]) -> u8
-    requires { ⌜ AtInstruction (now file) (now trace) k c counter ⌝ }
-    ensures { λ op. ⌜ (op ≡ byte (codeOf (now (file .entry)) k) counter) × (op < 64) ⌝ }
-{
-    let a = c.code;
-    let e = a + c.length;
-    processor::command_at(counter, &file[a..e])
-}
-
-// Mode 2, below the limit: a typed command with three addresses, and how it ended.
-pub fn typed_of(
-    op: u8,
-    r: Registers,
-    k: usize,
-    c: CoreTask,
-    file: &[u8],
-    trace: &[u8],
-    buffer: &mut [u8],
-) -> Performed
-    requires { ⌜ InstructionGiven (now file) (now trace) k c r (now buffer) op × (three op ≡ true) ⌝ }
-    ensures { λ p. ⌜ InstructsIn (now (file .entry)) (now (trace .entry)) k r (now (buffer .entry)) (outcomeOf (r .counter + 8) p) (now (buffer .exit)) ⌝ }
-{
-    let a = c.code;
-    let e = a + c.length;
-    let b = c.base;
-    let f = b + c.size;
-    processor::execute_typed(op, r, &file[a..e], &mut buffer[b..f])
-}
-
-// The same of any other command, and what it answers.
-pub fn other_of(
-    op: u8,
-    r: Registers,
-    k: usize,
-    c: CoreTask,
-    file: &[u8],
-    trace: &[u8],
-    buffer: &mut [u8],
-) -> Outcome
-    requires { ⌜ InstructionGiven (now file) (now trace) k c r (now buffer) op × (three op ≡ false) ⌝ }
-    ensures { λ o. ⌜ InstructsIn (now (file .entry)) (now (trace .entry)) k r (now (buffer .entry)) o (now (buffer .exit)) ⌝ }
-{
-    let a = c.code;
-    let e = a + c.length;
-    let b = c.base;
-    let f = b + c.size;
-    processor::execute_other(op, r, &file[a..e], &mut buffer[b..f])
-}
-
-// Any other step; `turn` says whether the core may take the semaphore.
+// Any step but an instruction; `turn` says whether the core may take the semaphore.
 pub fn exchange_of(
     r: Registers,
     k: usize,

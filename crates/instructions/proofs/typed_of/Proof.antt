@@ -1,10 +1,10 @@
--- `steps::typed_of` meets its contract: the code and the stretch that are lent are those of core k, and the others stay. Assumes nothing.
+-- `instructions::typed_of` meets its contract: the code and the stretch that are lent are those of core k, and the others stay. Assumes nothing.
 use mathlib.Core.Path.{refl}
 use native.Mathlib.Omega.{arith}
 use borrow.Author.Needs.{needs}
 use Rattle.steps.proofs.Given.{at-instruction, code-inside, stretch-inside, executable-in, command-in, instructs-in}
-use Rattle.steps.proofs.typed_of.Statement.{statement}
-use Rattle.steps.proofs.typed_of.Tie as tie
+use Rattle.instructions.proofs.typed_of.Statement.{statement}
+use Rattle.instructions.proofs.typed_of.Tie as tie
 
 add-e : tie.Need-add-e
 add-e c = record { fits = omega (arith, code-inside (at-instruction (c .before .before .before .before .pre .0 .ready))) }

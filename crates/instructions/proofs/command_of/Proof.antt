@@ -1,13 +1,13 @@
--- `steps::command_of` meets its contract: the code that is lent is that of core k. Assumes nothing.
+-- `instructions::command_of` meets its contract: the code that is lent is that of core k. Assumes nothing.
 use mathlib.Core.Path.{_≡_, refl, ap, _∙_}
 use mathlib.Core.List.{List}
 use Prim.Native.Nat.{ℕ}
 use native.Mathlib.Omega.{arith}
 use borrow.Author.Needs.{needs}
 use Rattle.memory.specs.Memory.{byte}
 use Rattle.steps.proofs.Given.{code-inside, code-is, start-in}
-use Rattle.steps.proofs.command_of.Statement.{statement}
-use Rattle.steps.proofs.command_of.Tie as tie
+use Rattle.instructions.proofs.command_of.Statement.{statement}
+use Rattle.instructions.proofs.command_of.Tie as tie
 
 add-e : tie.Need-add-e
 add-e c = record { fits = omega (arith, code-inside (c .before .before .before .pre)) }
