@@ -1,11 +1,10 @@
 // A typed command of an instruction: its addresses are tried, then its type leads to code for that type alone.
-mod addresses;
-
+// Not here: whether an address leads beyond the data (crate `beyond`).
 ghost use mathlib.Core.Path.{_≡_};
 ghost use Prim.Native.Nat.{_+_, _*_};
 ghost use Rattle.commands.specs.Attempts.{attempt, attempted, OperandsGiven, ThreeOperands};
-use addresses::single_beyond;
-use addresses::typed_beyond;
+use beyond::single_beyond;
+use beyond::typed_beyond;
 use commands::Operands;
 use commands::Performed;
 use commands::add_typed;

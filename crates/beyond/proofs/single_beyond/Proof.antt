@@ -1,10 +1,10 @@
--- `dispatch::addresses::single_beyond` meets its contract. Away from the end no operand is beyond (`none-beyond`); near it the width decides. Assumes nothing.
+-- `beyond::single_beyond` meets its contract. Away from the end no operand is beyond (`none-beyond`); near it the width decides. Assumes nothing.
 use Rattle.values.proofs.Commands.{width-room}
 use Rattle.commands.proofs.Attempts.{place-fits}
 use Rattle.commands.proofs.Known.{none-beyond, of-widths}
 use borrow.Author.Needs.{needs}
-use Rattle.dispatch.proofs.addresses.single_beyond.Statement.{statement}
-use Rattle.dispatch.proofs.addresses.single_beyond.Tie as tie
+use Rattle.beyond.proofs.single_beyond.Statement.{statement}
+use Rattle.beyond.proofs.single_beyond.Tie as tie
 
 pub single-beyond-spec : {M : Type 1} → statement M
 single-beyond-spec =

@@ -1,9 +1,9 @@
--- `dispatch::addresses::beyond` meets its contract. The first operand that is beyond decides. Assumes nothing.
+-- `beyond::beyond` meets its contract. The first operand that is beyond decides. Assumes nothing.
 use borrow.Author.Tests.{lt-ltb, le-ltb}
 use Rattle.values.specs.Commands.{beyond}
 use borrow.Author.Needs.{needs}
-use Rattle.dispatch.proofs.addresses.beyond.Statement.{statement}
-use Rattle.dispatch.proofs.addresses.beyond.Tie as tie
+use Rattle.beyond.proofs.beyond.Statement.{statement}
+use Rattle.beyond.proofs.beyond.Tie as tie
 
 pub beyond-spec : {M : Type 1} → statement M
 unfolding beyond
