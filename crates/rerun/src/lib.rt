@@ -335,7 +335,7 @@ pub fn rerun(
         return without_table(loaded.refusal);
     }
     let layout = loaded.layout;
-    let traces = taskset::load_trace(file, trace);
+    let traces = traces::load_trace(file, trace);
     if traces.refusal != 0 {
         return without_table(traces.refusal);
     }

@@ -116,7 +116,7 @@ pub fn prepare(file: &[u8], trace: &[u8], layout: Layout, s: Held) -> Prepared
     requires { ⌜ (judge (now file) ≡ 0) × (layout ≡ layoutOf (now file)) ⌝ }
     ensures { λ r. ⌜ r ≡ prepared (now (file .entry)) (now (trace .entry)) s ⌝ }
 {
-    let traces = taskset::load_trace(file, trace);
+    let traces = traces::load_trace(file, trace);
     if traces.refusal != 0 {
         let none = no_task();
         return Prepared {

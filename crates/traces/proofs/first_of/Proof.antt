@@ -3,10 +3,10 @@ use mathlib.Core.Path.{sym}
 use native.Mathlib.Omega.{arith}
 use borrow.Author.Tests.{lt-ltb, le-ltb}
 use Rattle.verdict.specs.Verdict.{pick}
 use Rattle.taskset.specs.Trace.{firstOf}
 use borrow.Author.Needs.{needs}
-use Rattle.taskset.proofs.first_of.Statement.{statement}
-use Rattle.taskset.proofs.first_of.Tie as tie
+use Rattle.traces.proofs.first_of.Statement.{statement}
+use Rattle.traces.proofs.first_of.Tie as tie
 
 returns : tie.Need-returns
 unfolding firstOf pick

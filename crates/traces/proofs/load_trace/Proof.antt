@@ -2,10 +2,10 @@
 use mathlib.Core.Path.{sym}
 use borrow.Author.Tests.{eq-eqb, ne-eqb}
 use Rattle.verdict.specs.Verdict.{pick}
 use Rattle.taskset.specs.Trace.{loadTraceOf}
 use borrow.Author.Needs.{needs}
-use Rattle.taskset.proofs.load_trace.Statement.{statement}
-use Rattle.taskset.proofs.load_trace.Tie as tie
+use Rattle.traces.proofs.load_trace.Statement.{statement}
+use Rattle.traces.proofs.load_trace.Tie as tie
 
 returns : tie.Need-returns
 unfolding loadTraceOf pick

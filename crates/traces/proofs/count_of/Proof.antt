@@ -2,11 +2,11 @@
 use mathlib.Core.Path.{sym, _∙_}
 use borrow.Author.Tests.{le-ltb}
 use Rattle.verdict.specs.Verdict.{pick}
 use Rattle.taskset.specs.Trace.{countOf}
 use Rattle.taskset.proofs.Records.{counted-blank, counted-stored}
 use borrow.Author.Needs.{needs}
-use Rattle.taskset.proofs.count_of.Statement.{statement}
-use Rattle.taskset.proofs.count_of.Tie as tie
+use Rattle.traces.proofs.count_of.Statement.{statement}
+use Rattle.traces.proofs.count_of.Tie as tie
 
 returns : tie.Need-returns
 unfolding countOf pick

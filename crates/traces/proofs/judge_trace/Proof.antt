@@ -1,9 +1,9 @@
 -- The trace has no bytes; or its parts end where it ends, or they do not.
 use mathlib.Core.Path.{sym, _∙_}
 use Rattle.taskset.proofs.Records.{judged-blank, judged-end, judged-elsewhere}
 use borrow.Author.Needs.{needs}
-use Rattle.taskset.proofs.judge_trace.Statement.{statement}
-use Rattle.taskset.proofs.judge_trace.Tie as tie
+use Rattle.traces.proofs.judge_trace.Statement.{statement}
+use Rattle.traces.proofs.judge_trace.Tie as tie
 
 returns : tie.Need-returns
 returns c = judged-blank _ _ (sym (c .before .is-blank .ensures) ∙ c .if1 .taken)

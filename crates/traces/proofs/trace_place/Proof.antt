@@ -3,10 +3,10 @@ use Prim.Native.Nat.{_*_, _-_, _≤_}
 use mathlib.Core.Path.{_≡_, refl, ap, _∙_}
 use native.Mathlib.Omega.{arith}
 use borrow.Author.Needs.{needs}
 use Rattle.taskset.specs.Trace.{tracePlace}
 use Rattle.taskset.proofs.Laws.{trace-next, records-small}
-use Rattle.taskset.proofs.trace_place.Statement.{statement}
-use Rattle.taskset.proofs.trace_place.Tie as tie
+use Rattle.traces.proofs.trace_place.Statement.{statement}
+use Rattle.traces.proofs.trace_place.Tie as tie
 
 abbrev Inv-loop : tie.InvT-loop
 Inv-loop f t k p₀ i₀ p i = (i ≤ k) × (p ≡ tracePlace f t i) × (p ≤ 5000000000 * i)
