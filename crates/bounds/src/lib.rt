@@ -138,7 +138,7 @@ fn measure(code: &[u8]) -> Measured
     requires { ⌜ (0 < length (now code)) × (length (now code) ≤ 8192) × (judgeCode (now code) ≡ 0) ⌝ }
     ensures { λ r. ⌜ MeasuredOf (now (code .entry)) (r .rise) (r .count) (r .depth) ⌝ }
 {
-    let starts = code::starts(code);
+    let starts = code_judging::starts(code);
     let mut counts = zeros();
     let mut depths = zeros();
     let mut count: u32 = 0;

@@ -133,7 +133,7 @@ fn run(label: &[u8], code: &[u8], data: &[u8], limit: u16) {
     if 8192 < code.len() {
         return;
     }
-    let refusal = code::judge_code_for(Profile::Full, code);
+    let refusal = code_judging::judge_code_for(Profile::Full, code);
     if refusal != 0 {
         text(b" refused");
         number(refusal as usize);

@@ -93,7 +93,7 @@ fn places_fit(code: &[u8], r: Registers, places: &[u16; 64], k: usize) -> bool
         let none = [0u8; 1];
         return places_start(code, &none[..0], r, places, k);
     }
-    let marks = code::starts(code);
+    let marks = code_judging::starts(code);
     places_start(code, &marks, r, places, k)
 }
 

@@ -82,7 +82,7 @@ fn section_refusal(profile: Profile, f: &[u8], p: usize) -> u8
     if f.len() < e {
         return 1; // cut within the code
     }
-    code::judge_code_for(profile, &f[a..e])
+    code_judging::judge_code_for(profile, &f[a..e])
 }
 
 // How many cores have start values in the file: all n, or none in a file of the old form.

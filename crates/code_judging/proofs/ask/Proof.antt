@@ -1,8 +1,8 @@
 -- A place that is no start is asked for.
 use borrow.Author.Needs.{needs}
 use Rattle.code.proofs.Laying.{asked-outside, asked-start, asked-new}
-use Rattle.code.proofs.ask.Statement.{statement}
-use Rattle.code.proofs.ask.Tie as tie
+use Rattle.code_judging.proofs.ask.Statement.{statement}
+use Rattle.code_judging.proofs.ask.Tie as tie
 
 returns : tie.Need-returns
 returns c = asked-outside _ _ (c .if1 .taken)

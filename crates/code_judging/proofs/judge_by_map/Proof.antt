@@ -2,11 +2,11 @@
 use mathlib.Core.Path.{sym, _∙_}
 use borrow.Author.Tests.{le-ltb, lt-ltb, not-true, not-false}
 use Rattle.verdict.proofs.Verdict.{skip, halt, yes, no}
 use Rattle.code.specs.Code.{judgeCodeFor}
 use Rattle.code.proofs.Laying.{targets-wanted, targets-right, first-refused, first-none}
 use borrow.Author.Needs.{needs}
-use Rattle.code.proofs.judge_by_map.Statement.{statement}
-use Rattle.code.proofs.judge_by_map.Tie as tie
+use Rattle.code_judging.proofs.judge_by_map.Statement.{statement}
+use Rattle.code_judging.proofs.judge_by_map.Tie as tie
 
 returns : tie.Need-returns
 returns c = first-refused _ _ _ _ _ (c .before .before .before .before .before .lay .ensures) _ _ (c .before .before .outside-refusal .ensures) (c .before .first-refusal .ensures) (c .if1 .taken)

@@ -2,8 +2,8 @@
 use mathlib.Core.Path.{refl}
 use Rattle.verdict.specs.Verdict.{next}
 use Rattle.verdict.proofs.Verdict.{skip, stop}
-use Rattle.code.proofs.first_refusal.Statement.{statement}
-use Rattle.code.proofs.first_refusal.Tie as tie
+use Rattle.code_judging.proofs.first_refusal.Statement.{statement}
+use Rattle.code_judging.proofs.first_refusal.Tie as tie
 
 returns : tie.Need-returns
 returns c = stop _ refl (c .if1 .taken)

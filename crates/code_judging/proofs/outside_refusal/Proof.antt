@@ -1,7 +1,7 @@
 -- By the test.
 use Rattle.verdict.specs.Verdict.{pick}
-use Rattle.code.proofs.outside_refusal.Statement.{statement}
-use Rattle.code.proofs.outside_refusal.Tie as tie
+use Rattle.code_judging.proofs.outside_refusal.Statement.{statement}
+use Rattle.code_judging.proofs.outside_refusal.Tie as tie
 
 returns : tie.Need-returns
 unfolding pick

@@ -1,10 +1,10 @@
 -- Accepted code is laid, so the marks are its starts.
 use mathlib.Core.Path.{_∙_}
 use Rattle.verdict.proofs.Verdict.{next-zero}
 use Rattle.code.specs.Code.{judgeCodeFor}
 use borrow.Author.Needs.{needs}
-use Rattle.code.proofs.starts.Statement.{statement}
-use Rattle.code.proofs.starts.Tie as tie
+use Rattle.code_judging.proofs.starts.Statement.{statement}
+use Rattle.code_judging.proofs.starts.Tie as tie
 
 returns : tie.Need-returns
 unfolding judgeCodeFor

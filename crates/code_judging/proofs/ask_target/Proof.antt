@@ -3,13 +3,13 @@ use mathlib.Core.Path.{sym}
 use native.Mathlib.Omega.{arith}
 use borrow.Author.Needs.{needs}
 use Rattle.verdict.specs.Verdict.{pick}
 use Rattle.code.specs.Flow.{kindAt, targetAt}
 use Rattle.code.specs.Commands.{rowOf, lengthOf}
 use Rattle.code.specs.Instructions.{instructionAt}
 use Rattle.code.proofs.Laws.{length-at, no-target}
 use Rattle.code.proofs.Laying.{target-asked, target-none}
-use Rattle.code.proofs.ask_target.Statement.{statement}
-use Rattle.code.proofs.ask_target.Tie as tie
+use Rattle.code_judging.proofs.ask_target.Statement.{statement}
+use Rattle.code_judging.proofs.ask_target.Tie as tie
 
 word-requires : tie.Need-word-requires
 unfolding lengthOf rowOf pick

@@ -3,9 +3,9 @@ use mathlib.Core.Logic.{⊎-elim}
 use Prim.Native.Nat.{ℕ, _-_, _≤_, _<_}
 use native.Mathlib.Omega.{arith}
 use lib.ListN.{length, getD}
 use Rattle.code.proofs.Laying.{most-more, most-end}
-use Rattle.code.proofs.all_met.Statement.{statement}
-use Rattle.code.proofs.all_met.Tie as tie
+use Rattle.code_judging.proofs.all_met.Statement.{statement}
+use Rattle.code_judging.proofs.all_met.Tie as tie
 
 abbrev Inv-loop : tie.InvT-loop
 Inv-loop marks most₀ i₀ most i =

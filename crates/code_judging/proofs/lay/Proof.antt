@@ -8,10 +8,10 @@ use borrow.Author.Tests.{not-true, not-false}
 use native.Mathlib.Omega.{arith}
 use borrow.Author.Needs.{needs}
 use Rattle.verdict.specs.Verdict.{either}
 use Rattle.code.proofs.Laws.{whole, carried-not, length-taken, length-refused}
 use Rattle.code.proofs.Laying.{Laying, laying-none, asked-size, laying-more, laying-end, laying-stop}
-use Rattle.code.proofs.lay.Statement.{statement}
-use Rattle.code.proofs.lay.Tie as tie
+use Rattle.code_judging.proofs.lay.Statement.{statement}
+use Rattle.code_judging.proofs.lay.Tie as tie
 
 abbrev Inv-loop : tie.InvT-loop
 Inv-loop profile code marks₀ last₀ outside₀ p₀ marks last outside p = Laying (length marks₀) profile code p last outside marks
