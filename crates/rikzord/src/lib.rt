@@ -200,7 +200,7 @@ pub extern "C" fn rikzord_rerun(
         (now (shared .entry)) ⌝ }
 {
     let t = load_table(table);
-    let x = snapshot::rerun_table(file, trace, list, t, *semaphore, buffer, shared);
+    let x = rerun_snapshot::rerun_table(file, trace, list, t, *semaphore, buffer, shared);
     save(table, semaphore, x)
 }
 

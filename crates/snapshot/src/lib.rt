@@ -1,5 +1,6 @@
 // The machine's calls on a snapshot of the core table: its first four records copied out, by value. The calls on a lent table (crate rikzord) copy it out,
-// call these, and store what they leave. Not here: a table as a state, and back (src/table_state.rt).
+// call these, and store what they leave.
+// Not here: a table as a state, and back (src/table_state.rt); the rerun of an order list (crate `rerun_snapshot`).
 mod table_state;
 
 ghost use mathlib.Core.Path.{_≡_};
@@ -10,17 +11,17 @@ ghost use Rattle.verdict.specs.Verdict.{next};
 ghost use Rattle.code.specs.declared.Profile.the-variants.{Small};
 ghost use Rattle.taskset.specs.Judge.{judgeFor};
 ghost use Rattle.runner.specs.Runs.{leftAs};
-ghost use Rattle.snapshot.specs.Snapshot.{noRecord, tableFrom, counted, held, tableLeft, stepTable, runTable, takenTable, freshTableFor, freshTable, rerunTable, ringOf, refusedRing, placeAfter, recordMoves, answered, ringAnswer, withRegisters, registersAfter, stepRegisters};
+ghost use Rattle.snapshot.specs.Snapshot.{noRecord, tableFrom, counted, held, tableLeft, stepTable, runTable, takenTable, freshTableFor, freshTable, ringOf, refusedRing, placeAfter, recordMoves, answered, ringAnswer, withRegisters, registersAfter, stepRegisters};
 use code::Profile;
 use protocol::Registers;
 use runner::RunAnswer;
 use semaphore::Semaphore;
 use states::Held;
-use table_state::accepted;
+pub use table_state::accepted;
 use table_state::record_of;
 use table_state::registers_in;
 use table_state::state_of;
-use table_state::unchanged;
+pub use table_state::unchanged;
 
 // A record of the core table: a core's registers and call stack, in 84 bytes of which each belongs to a field, so that what a call says of the
 // fields it says of every byte. Spare bytes are never judged, and a record that a call writes has zeros there.
@@ -151,38 +152,15 @@ pub fn fresh_small_table(
     fresh_table_for(Profile::Small, file, t, semaphore, buffer, shared)
 }
 
-// The order list, rerun from the fresh state (document 02, 2.13).
-pub fn rerun_table(
-    file: &[u8],
-    trace: &[u8],
-    list: &[u8],
-    t: Table,
-    semaphore: Semaphore,
-    buffer: &mut [u8],
-    shared: &mut [u8],
-) -> After
-    ensures { λ r. ⌜ tableLeft r (now (buffer .exit)) (now (shared .exit)) []
-        ≡ rerunTable (now (file .entry)) (now (trace .entry)) (now (list .entry)) t semaphore (now (buffer .entry)) (now (shared .entry)) ⌝ }
-{
-    if t.count < memory::byte_at(file, 4) {
-        return unchanged(t, semaphore, short_refusal(Profile::Full, file));
-    }
-    let reran = rerun::rerun(file, trace, list, buffer, shared);
-    if reran.refusal != 0 {
-        return unchanged(t, semaphore, reran.refusal);
-    }
-    accepted(t, reran.state)
-}
-
 // The refusal where the table is too short: the file is judged first.
-fn short_refusal(profile: Profile, file: &[u8]) -> u8
+pub fn short_refusal(profile: Profile, file: &[u8]) -> u8
     ensures { λ r. ⌜ r ≡ next (judgeFor profile (now (file .entry))) 21 ⌝ }
 {
     let r = taskset::judge_file_for(profile, file);
     if r != 0 {
         return r;
     }
-    21
+    verdict::BAD_LENGTHS
 }
 
 // ---- the ring of cores, and the test of one record
