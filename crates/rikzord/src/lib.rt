@@ -112,7 +112,7 @@ pub extern "C" fn rikzord_step(
         ≡ stepLent (now (file .entry)) (now (trace .entry)) (now (table .entry)) (now (semaphore .entry)) (now (buffer .entry)) (now (shared .entry)) core ⌝ }
 {
     let t = load_table(table);
-    let x = snapshot::step_table(file, trace, t, *semaphore, buffer, shared, core);
+    let x = table_runs::step_table(file, trace, t, *semaphore, buffer, shared, core);
     save(table, semaphore, x)
 }
 
@@ -136,7 +136,7 @@ pub extern "C" fn rikzord_run(
         (now (order .entry)) (now (list .entry)) (now (taken .entry))) ⌝ }
 {
     let t = load_table(table);
-    let x = snapshot::run_table(
+    let x = table_runs::run_table(
         file,
         trace,
         t,
@@ -200,7 +200,7 @@ pub extern "C" fn rikzord_rerun(
         (now (shared .entry)) ⌝ }
 {
     let t = load_table(table);
-    let x = rerun_snapshot::rerun_table(file, trace, list, t, *semaphore, buffer, shared);
+    let x = table_rerun::rerun_table(file, trace, list, t, *semaphore, buffer, shared);
     save(table, semaphore, x)
 }
 
@@ -254,7 +254,7 @@ pub fn step_registers(
         ≡ stepRegisters (now (file .entry)) (now (trace .entry)) s (now (registers .entry)) (now (buffer .entry)) (now (shared .entry)) core)
         × (now (registers .exit) ≡ registersAfter (x .state) core (now (registers .entry))) ⌝ }
 {
-    let x = snapshot::step_with(file, trace, s, *registers, buffer, shared, core);
+    let x = table_runs::step_with(file, trace, s, *registers, buffer, shared, core);
     *registers = x.registers;
     x.ran
 }

@@ -60,10 +60,10 @@ use Rattle.rikzord.proofs.load_table as load′
 use Rattle.rikzord.proofs.load_table.Symbol as load-def
 use Rattle.rikzord.proofs.load_table.Symbol.{name as #rikzord·load-table}
 use Rattle.rikzord.proofs.load_table.Met as load-thm
-use Rattle.rerun_snapshot.proofs.rerun_table as rerun-table
-use Rattle.rerun_snapshot.proofs.rerun_table.Symbol as rerun-table-def
-use Rattle.rerun_snapshot.proofs.rerun_table.Symbol.{name as #snapshot·rerun-table}
-use Rattle.rerun_snapshot.proofs.rerun_table.Met as rerun-table-thm
+use Rattle.table_rerun.proofs.rerun_table as rerun-table
+use Rattle.table_rerun.proofs.rerun_table.Symbol as rerun-table-def
+use Rattle.table_rerun.proofs.rerun_table.Symbol.{name as #snapshot·rerun-table}
+use Rattle.table_rerun.proofs.rerun_table.Met as rerun-table-thm
 use Rattle.rikzord.proofs.save as save
 use Rattle.rikzord.proofs.save.Symbol as save-def
 use Rattle.rikzord.proofs.save.Symbol.{name as #rikzord·save}

@@ -60,10 +60,10 @@ use Rattle.rikzord.proofs.load_table as load′
 use Rattle.rikzord.proofs.load_table.Symbol as load-def
 use Rattle.rikzord.proofs.load_table.Symbol.{name as #rikzord·load-table}
 use Rattle.rikzord.proofs.load_table.Met as load-thm
-use Rattle.snapshot.proofs.run_table as run-table
-use Rattle.snapshot.proofs.run_table.Symbol as run-table-def
-use Rattle.snapshot.proofs.run_table.Symbol.{name as #snapshot·run-table}
-use Rattle.snapshot.proofs.run_table.Met as run-table-thm
+use Rattle.table_runs.proofs.run_table as run-table
+use Rattle.table_runs.proofs.run_table.Symbol as run-table-def
+use Rattle.table_runs.proofs.run_table.Symbol.{name as #snapshot·run-table}
+use Rattle.table_runs.proofs.run_table.Met as run-table-thm
 use Rattle.rikzord.proofs.save as save
 use Rattle.rikzord.proofs.save.Symbol as save-def
 use Rattle.rikzord.proofs.save.Symbol.{name as #rikzord·save}

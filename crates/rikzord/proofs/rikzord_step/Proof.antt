@@ -60,10 +60,10 @@ use Rattle.rikzord.proofs.load_table as load′
 use Rattle.rikzord.proofs.load_table.Symbol as load-def
 use Rattle.rikzord.proofs.load_table.Symbol.{name as #rikzord·load-table}
 use Rattle.rikzord.proofs.load_table.Met as load-thm
-use Rattle.snapshot.proofs.step_table as step-table
-use Rattle.snapshot.proofs.step_table.Symbol as step-table-def
-use Rattle.snapshot.proofs.step_table.Symbol.{name as #snapshot·step-table}
-use Rattle.snapshot.proofs.step_table.Met as step-table-thm
+use Rattle.table_runs.proofs.step_table as step-table
+use Rattle.table_runs.proofs.step_table.Symbol as step-table-def
+use Rattle.table_runs.proofs.step_table.Symbol.{name as #snapshot·step-table}
+use Rattle.table_runs.proofs.step_table.Met as step-table-thm
 use Rattle.rikzord.proofs.save as save
 use Rattle.rikzord.proofs.save.Symbol as save-def
 use Rattle.rikzord.proofs.save.Symbol.{name as #rikzord·save}

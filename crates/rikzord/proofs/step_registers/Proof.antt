@@ -45,7 +45,7 @@ use Rattle.protocol.specs.declared.Registers.{Registers}
 use Rattle.states.specs.declared.Held.{Held}
 use Rattle.runner.specs.declared.RunAnswer.{RunAnswer}
 use Rattle.runner.specs.Runs.{leftAs}
-use Rattle.snapshot.specs.declared.Stepped.{Stepped}
+use Rattle.table_runs.specs.declared.Stepped.{Stepped}
 use Rattle.snapshot.specs.Snapshot.{registersAfter, stepRegisters}
 use Rattle.protocol.proofs.Registers as T
 use Rattle.protocol.proofs.Registers.Laws as T′
@@ -53,12 +53,12 @@ use Rattle.states.proofs.Held as S
 use Rattle.states.proofs.Held.Laws as S′
 use Rattle.runner.proofs.RunAnswer as N
 use Rattle.runner.proofs.RunAnswer.Laws as N′
-use Rattle.snapshot.proofs.Stepped as Ans
-use Rattle.snapshot.proofs.Stepped.Laws as Ans′
-use Rattle.snapshot.proofs.step_with as step-with
-use Rattle.snapshot.proofs.step_with.Symbol as step-with-def
-use Rattle.snapshot.proofs.step_with.Symbol.{name as #snapshot·step-with}
-use Rattle.snapshot.proofs.step_with.Met as step-with-thm
+use Rattle.table_runs.proofs.Stepped as Ans
+use Rattle.table_runs.proofs.Stepped.Laws as Ans′
+use Rattle.table_runs.proofs.step_with as step-with
+use Rattle.table_runs.proofs.step_with.Symbol as step-with-def
+use Rattle.table_runs.proofs.step_with.Symbol.{name as #snapshot·step-with}
+use Rattle.table_runs.proofs.step_with.Met as step-with-thm
 use Rattle.rikzord.proofs.step_registers.Key.{name as #rikzord·step-registers}
 use Rattle.rikzord.proofs.step_registers as f
 use Rattle.rikzord.proofs.step_registers.Statement as stated

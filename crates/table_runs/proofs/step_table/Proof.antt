@@ -1,8 +1,8 @@
--- `snapshot::step_table` meets its contract: the step by value, on the state that the table holds; refused, or not. Assumes nothing.
+-- `table_runs::step_table` meets its contract: the step by value, on the state that the table holds; refused, or not. Assumes nothing.
 use borrow.Author.Needs.{needs}
 use Rattle.snapshot.proofs.Laws.{step-stays, step-moves}
-use Rattle.snapshot.proofs.step_table.Statement.{statement}
-use Rattle.snapshot.proofs.step_table.Tie as tie
+use Rattle.table_runs.proofs.step_table.Statement.{statement}
+use Rattle.table_runs.proofs.step_table.Tie as tie
 
 returns : tie.Need-returns
 returns c =

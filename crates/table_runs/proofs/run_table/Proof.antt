@@ -1,8 +1,8 @@
--- `snapshot::run_table` meets its contract: the run by value, on the state that the table holds; refused, or not. Assumes nothing.
+-- `table_runs::run_table` meets its contract: the run by value, on the state that the table holds; refused, or not. Assumes nothing.
 use borrow.Author.Needs.{needs}
 use Rattle.snapshot.proofs.Laws.{run-stays, run-moves}
-use Rattle.snapshot.proofs.run_table.Statement.{statement}
-use Rattle.snapshot.proofs.run_table.Tie as tie
+use Rattle.table_runs.proofs.run_table.Statement.{statement}
+use Rattle.table_runs.proofs.run_table.Tie as tie
 
 returns : tie.Need-returns
 returns c =

@@ -1,8 +1,8 @@
--- `snapshot::step_with` meets its contract: the step by value, on the state with the lent registers. Assumes nothing.
+-- `table_runs::step_with` meets its contract: the step by value, on the state with the lent registers. Assumes nothing.
 use Rattle.snapshot.specs.Snapshot.{stepRegisters}
 use borrow.Author.Needs.{needs}
-use Rattle.snapshot.proofs.step_with.Statement.{statement}
-use Rattle.snapshot.proofs.step_with.Tie as tie
+use Rattle.table_runs.proofs.step_with.Statement.{statement}
+use Rattle.table_runs.proofs.step_with.Tie as tie
 
 returns : tie.Need-returns
 unfolding stepRegisters

@@ -1,9 +1,9 @@
--- `snapshot::registers_of` meets its contract: by the core number. Assumes nothing.
+-- `table_runs::registers_of` meets its contract: by the core number. Assumes nothing.
 use borrow.Author.Tests.{lt-ltb, le-ltb}
 use Rattle.verdict.specs.Verdict.{pick}
 use borrow.Author.Needs.{needs}
-use Rattle.snapshot.proofs.registers_of.Statement.{statement}
-use Rattle.snapshot.proofs.registers_of.Tie as tie
+use Rattle.table_runs.proofs.registers_of.Statement.{statement}
+use Rattle.table_runs.proofs.registers_of.Tie as tie
 
 returns : tie.Need-returns
 unfolding pick

@@ -1,9 +1,9 @@
--- `rerun_snapshot::rerun_table` meets its contract: a table that is too short is refused after the file is judged; else the rerun by value, refused or not.
+-- `table_rerun::rerun_table` meets its contract: a table that is too short is refused after the file is judged; else the rerun by value, refused or not.
 -- Assumes nothing.
 use borrow.Author.Needs.{needs}
 use Rattle.snapshot.proofs.Laws.{rerun-short, rerun-stays, rerun-moves}
-use Rattle.rerun_snapshot.proofs.rerun_table.Statement.{statement}
-use Rattle.rerun_snapshot.proofs.rerun_table.Tie as tie
+use Rattle.table_rerun.proofs.rerun_table.Statement.{statement}
+use Rattle.table_rerun.proofs.rerun_table.Tie as tie
 
 returns : tie.Need-returns
 returns c =
