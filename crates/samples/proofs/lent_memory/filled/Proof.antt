@@ -3,8 +3,8 @@ use Prim.Native.Nat.{_≤_, _-_}
 use mathlib.Core.Path.{_≡_}
 use lib.ListN.{length}
 use borrow.Author.Needs.{needs}
-use Rattle.samples.proofs.filled.Statement.{statement}
-use Rattle.samples.proofs.filled.Tie as tie
+use Rattle.samples.proofs.lent_memory.filled.Statement.{statement}
+use Rattle.samples.proofs.lent_memory.filled.Tie as tie
 
 abbrev Inv-loop : tie.InvT-loop
 Inv-loop all₀ i₀ all i = (i ≤ 1025) × (1025 ≡ length all)

@@ -2,8 +2,8 @@
 use Prim.Native.Nat.{_≤_, _-_}
 use lib.ListN.{length}
 use borrow.Author.Needs.{needs}
-use Rattle.samples.proofs.last_field_is.Statement.{statement}
-use Rattle.samples.proofs.last_field_is.Tie as tie
+use Rattle.samples.proofs.printing.last_field_is.Statement.{statement}
+use Rattle.samples.proofs.printing.last_field_is.Tie as tie
 
 abbrev Inv-loop : tie.InvT-loop
 Inv-loop line text from i₀ i = i ≤ length text

@@ -2,8 +2,8 @@
 -- Assumes nothing.
 use Prim.Native.Nat.{_≤_, _-_}
 use borrow.Author.Needs.{needs}
-use Rattle.samples.proofs.same_entries.Statement.{statement}
-use Rattle.samples.proofs.same_entries.Tie as tie
+use Rattle.samples.proofs.same_states.same_entries.Statement.{statement}
+use Rattle.samples.proofs.same_states.same_entries.Tie as tie
 
 abbrev Inv-loop : tie.InvT-loop
 Inv-loop x y i₀ i = i ≤ 64

@@ -1,8 +1,8 @@
 -- The index stays below the length.
 use Prim.Native.Nat.{_≤_, _-_}
 use borrow.Author.Needs.{needs}
-use Rattle.samples.proofs.kept.Statement.{statement}
-use Rattle.samples.proofs.kept.Tie as tie
+use Rattle.samples.proofs.lent_memory.kept.Statement.{statement}
+use Rattle.samples.proofs.lent_memory.kept.Tie as tie
 
 abbrev Inv-loop : tie.InvT-loop
 Inv-loop s i₀ i = i ≤ 1025
