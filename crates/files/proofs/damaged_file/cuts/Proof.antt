@@ -1,8 +1,8 @@
 -- Counts up to n.
 use Prim.Native.Nat.{_-_, _≤_}
 use borrow.Author.Needs.{needs}
-use Rattle.files.proofs.cuts.Statement.{statement}
-use Rattle.files.proofs.cuts.Tie as tie
+use Rattle.files.proofs.damaged_file.cuts.Statement.{statement}
+use Rattle.files.proofs.damaged_file.cuts.Tie as tie
 
 abbrev Inv-loop : tie.InvT-loop
 Inv-loop f n i₀ t4 i = i ≤ n

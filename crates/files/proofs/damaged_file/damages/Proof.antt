@@ -3,8 +3,8 @@ use Prim.Native.Nat.{_-_, _≤_}
 use mathlib.Core.Path.{_≡_}
 use borrow.Author.Needs.{needs}
 use lib.ListN.{length}
-use Rattle.files.proofs.damages.Statement.{statement}
-use Rattle.files.proofs.damages.Tie as tie
+use Rattle.files.proofs.damaged_file.damages.Statement.{statement}
+use Rattle.files.proofs.damaged_file.damages.Tie as tie
 
 abbrev Inv-loop : tie.InvT-loop
 Inv-loop f₀ n p₀ t4 t5 t6 f p = (p ≤ n) × (length f ≡ length f₀)
