@@ -1,10 +1,10 @@
--- `vectors::run` meets its contract. The test before the call is what the command asks of its type; the places are constants. Assumes nothing.
+-- `vectors::outcomes::run` meets its contract. The test before the call is what the command asks of its type; the places are constants. Assumes nothing.
 use borrow.Author.Tests.{not-false}
 use native.Mathlib.Omega.{arith}
 use mathlib.Core.Path.{sym, _∙_}
 use borrow.Author.Needs.{needs}
-use Rattle.vectors.proofs.run.Statement.{statement}
-use Rattle.vectors.proofs.run.Tie as tie
+use Rattle.vectors.proofs.outcomes.run.Statement.{statement}
+use Rattle.vectors.proofs.outcomes.run.Tie as tie
 
 perform-requires : tie.Need-perform-requires
 perform-requires c κs =

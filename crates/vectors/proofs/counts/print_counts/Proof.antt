@@ -1,8 +1,8 @@
--- `vectors::print_counts` meets its contract. The invariant: k is at most 64. Assumes nothing.
+-- `vectors::counts::print_counts` meets its contract. The invariant: k is at most 64. Assumes nothing.
 use Prim.Native.Nat.{_≤_, _-_}
 use borrow.Author.Needs.{needs}
-use Rattle.vectors.proofs.print_counts.Statement.{statement}
-use Rattle.vectors.proofs.print_counts.Tie as tie
+use Rattle.vectors.proofs.counts.print_counts.Statement.{statement}
+use Rattle.vectors.proofs.counts.print_counts.Tie as tie
 
 abbrev Inv-loop : tie.InvT-loop
 Inv-loop compared differed k₀ k = k ≤ 64
