@@ -5,7 +5,7 @@ use code::Profile;
 use protocol::Outcome;
 use protocol::Registers;
 ghost use mathlib.Core.Path.{_≡_};
-ghost use Prim.Native.Nat.{_≤_};
+ghost use Prim.Native.Nat.{_<_, _≤_};
 ghost use lib.ListN.{length};
 ghost use Rattle.code.specs.Code.{judgeCode};
 
@@ -57,6 +57,56 @@ fn begun() -> Registers {
     }
 }
 
+// The registers after an instruction of a cycle that goes on, or of one that has ended.
+enum After {
+    GoesOn(Registers),
+    Ended(Registers),
+}
+
+// What the answer of an instruction makes of the registers. A call keeps its return place and data offset in the entries at its depth; RETURN takes them out.
+fn followed(
+    outcome: Outcome,
+    r: Registers,
+    places: &mut [u16; 16],
+    offsets: &mut [u16; 16],
+) -> After
+    requires { ⌜ r .count < 65535 ⌝ }
+{
+    match outcome {
+        Outcome::Fault(b) => {
+            if 8 <= b {
+                return After::Ended(r);
+            }
+            After::Ended(protocol::faulted(r, b))
+        }
+        Outcome::Next(p) => After::GoesOn(protocol::advanced(r, p)),
+        Outcome::Call(next, target, offset) => {
+            let j = r.depth as usize;
+            if 16 <= j {
+                return After::Ended(r);
+            }
+            places[j] = next;
+            offsets[j] = r.offset;
+            After::GoesOn(protocol::called(r, target, offset))
+        }
+        Outcome::Return => {
+            let j = r.depth as usize;
+            if j == 0 {
+                return After::Ended(protocol::cycle_ended(r));
+            }
+            if 16 < j {
+                return After::Ended(r);
+            }
+            let k = j - 1;
+            let place = places[k];
+            let offset = offsets[k];
+            places[k] = 0;
+            offsets[k] = 0;
+            After::GoesOn(protocol::returned(r, place, offset))
+        }
+    }
+}
+
 // The instructions of one cycle, at most 2,000: the limit, then what the instruction answers. Nothing is proved here of what it keeps, so the
 // loop tests what an instruction asks.
 fn cycle(code: &[u8], d: &mut [u8], limit: u16) -> Registers
@@ -76,39 +126,12 @@ fn cycle(code: &[u8], d: &mut [u8], limit: u16) -> Registers
         if !code::is_start(code, r.counter as usize) {
             return r;
         }
-        match processor::execute(r, code, d) {
-            Outcome::Fault(b) => {
-                if 8 <= b {
-                    return r;
-                }
-                return protocol::faulted(r, b);
+        match followed(processor::execute(r, code, d), r, &mut places, &mut offsets) {
+            After::GoesOn(next) => {
+                r = next;
             }
-            Outcome::Next(p) => {
-                r = protocol::advanced(r, p);
-            }
-            Outcome::Call(next, target, offset) => {
-                let j = r.depth as usize;
-                if 16 <= j {
-                    return r;
-                }
-                places[j] = next;
-                offsets[j] = r.offset;
-                r = protocol::called(r, target, offset);
-            }
-            Outcome::Return => {
-                let j = r.depth as usize;
-                if j == 0 {
-                    return protocol::cycle_ended(r);
-                }
-                if 16 < j {
-                    return r;
-                }
-                let k = j - 1;
-                let place = places[k];
-                let offset = offsets[k];
-                places[k] = 0;
-                offsets[k] = 0;
-                r = protocol::returned(r, place, offset);
+            After::Ended(last) => {
+                return last;
             }
         }
         i += 1;
