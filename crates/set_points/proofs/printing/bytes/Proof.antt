@@ -3,8 +3,8 @@
 use Prim.Native.Nat.{_≤_, _-_}
 use borrow.Author.Needs.{needs}
 use lib.ListN.{length}
-use Rattle.set_points.proofs.bytes.Statement.{statement}
-use Rattle.set_points.proofs.bytes.Tie as tie
+use Rattle.set_points.proofs.printing.bytes.Statement.{statement}
+use Rattle.set_points.proofs.printing.bytes.Tie as tie
 
 abbrev Inv-loop : tie.InvT-loop
 Inv-loop s i₀ i = i ≤ length s
