@@ -2,8 +2,8 @@
 -- Assumes nothing.
 use Prim.Native.Nat.{_≤_, _-_}
 use borrow.Author.Needs.{needs}
-use Rattle.holdings.proofs.bytes.Statement.{statement}
-use Rattle.holdings.proofs.bytes.Tie as tie
+use Rattle.holdings.proofs.one_case.bytes.Statement.{statement}
+use Rattle.holdings.proofs.one_case.bytes.Tie as tie
 
 abbrev Inv-loop : tie.InvT-loop
 Inv-loop s i₀ t3 i = i ≤ 16
