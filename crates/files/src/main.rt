@@ -22,7 +22,7 @@ use size_bounds::bounds;
 use traces::trace;
 use traces::traced;
 
-// The file, then its layout.
+// The file of four cores with every command, then its layout.
 fn four_cores(f: &[u8]) {
     file(b"four cores", f);
     layout(f);
