@@ -1,7 +1,7 @@
 // Files and traces with known results: the samples of refusals 1..7, 22 and 24; files with two of them; the bounds of counts, sizes and lengths; each byte of a file of
 // four cores damaged in five ways; each cut of it; the largest file. A file is lent for reading, so a refusal writes nothing.
 // Not here: the samples of the table (src/refusal_samples.rt); the bounds of one core (src/size_bounds.rt); the largest file (src/largest_file.rt); damages and
-// cuts (src/damaged_file.rt); layouts (src/layouts.rt); traces (src/traces.rt); changes to a file (src/changes.rt); the refusal of a beginning (src/judging.rt); what
+// cuts (src/damaged_file.rt); layouts (src/layouts.rt); traces (src/trace_samples.rt); changes to a file (src/changes.rt); the refusal of a beginning (src/judging.rt); what
 // is printed (src/printing.rt).
 mod changes;
 mod damaged_file;
@@ -11,7 +11,7 @@ mod layouts;
 mod printing;
 mod refusal_samples;
 mod size_bounds;
-mod traces;
+mod trace_samples;
 
 use damaged_file::damaged;
 use judging::file;
@@ -19,8 +19,8 @@ use largest_file::large;
 use layouts::layout;
 use refusal_samples::samples;
 use size_bounds::bounds;
-use traces::trace;
-use traces::traced;
+use trace_samples::trace;
+use trace_samples::traced;
 
 // The file of four cores with every command, then its layout.
 fn four_cores(f: &[u8]) {

@@ -51,7 +51,7 @@ pub fn run_says(setting: &[u8], line: &[u8], file: &[u8], trace: &[u8], order: &
     let d = length_of(setting, line, b"data", &data);
     let s = length_of(setting, line, b"shared", &shared);
     let l = length_of(setting, line, b"list", &list);
-    let r = machine::run(
+    let r = runs::run(
         file,
         trace,
         before,
@@ -70,7 +70,7 @@ pub fn step_says(setting: &[u8], line: &[u8], file: &[u8], trace: &[u8], core: u
     let mut shared = filled();
     let d = length_of(setting, line, b"data", &data);
     let s = length_of(setting, line, b"shared", &shared);
-    let r = machine::step(file, trace, before, &mut data[..d], &mut shared[..s], core);
+    let r = runs::step(file, trace, before, &mut data[..d], &mut shared[..s], core);
     let unchanged = kept(&data) && kept(&shared);
     says(r, unchanged, before, state_in_words(setting, line, LEFT))
 }

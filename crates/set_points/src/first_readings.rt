@@ -10,7 +10,7 @@ fn ran(label: &[u8], order: &[u8]) {
     let mut shared = [0u8; 1024];
     let mut list = [0u8; 8];
     let made = machine::fresh(file, &mut buffer, &mut shared);
-    let done = machine::run(
+    let done = runs::run(
         file,
         b"",
         made.state,

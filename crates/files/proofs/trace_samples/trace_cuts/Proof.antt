@@ -1,8 +1,8 @@
 -- Counts up to n.
 use Prim.Native.Nat.{_-_, _≤_}
 use borrow.Author.Needs.{needs}
-use Rattle.files.proofs.traces.trace_cuts.Statement.{statement}
-use Rattle.files.proofs.traces.trace_cuts.Tie as tie
+use Rattle.files.proofs.trace_samples.trace_cuts.Statement.{statement}
+use Rattle.files.proofs.trace_samples.trace_cuts.Tie as tie
 
 abbrev Inv-loop : tie.InvT-loop
 Inv-loop f t n i₀ t5 t6 i = i ≤ n

@@ -9,7 +9,7 @@ fn begin_trace(f: &[u8], t: &[u8], n: usize) -> u8 {
         return 99;
     }
     let a = 0;
-    taskset::judge_trace(f, &t[a..n])
+    traces::judge_trace(f, &t[a..n])
 }
 
 fn trace_cuts(f: &[u8], t: &[u8], n: usize) {
@@ -28,7 +28,7 @@ fn records_of(count: u16, first: usize) {
 }
 
 pub fn trace(f: &[u8], t: &[u8]) {
-    let l = taskset::load_trace(f, t);
+    let l = traces::load_trace(f, t);
     show(b"trace", l.refusal as usize);
     let count = l.count;
     let first = l.first;

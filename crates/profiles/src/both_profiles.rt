@@ -38,7 +38,7 @@ pub fn run_under(name: &[u8], profile: Profile) {
     number(made.refusal);
     six(&d);
     text(b",");
-    let ran: RunAnswer = machine::run(file, b"", made.state, &mut d, &mut sh, &order, &mut list);
+    let ran: RunAnswer = runs::run(file, b"", made.state, &mut d, &mut sh, &order, &mut list);
     number(ran.refusal);
     six(&d);
     text(b",");
