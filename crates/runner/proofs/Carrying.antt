@@ -186,8 +186,8 @@ pub record Turn (f t order : List ℕ) (k : ℕ) (c : CoreTask) (i : ℕ) (r : R
   pub low : c .limit < 65536
 
 module _ {f t order : List ℕ} {from k : ℕ} {before : Registers} {p₀ o₀ d₀ : List ℕ} (s : RunStands f t order from k before p₀ o₀ d₀) {c : CoreTask} (task : c ≡ coreTask f t k)
-    (mode : before .mode ≡ executing) (below : before .count ≡ c .limit → ⊥) {most m : ℕ} (least : most ≡ min (c .limit - before .count) 256) (st : Stretches order from most k m)
-    {i counter offset depth : ℕ} {places offsets d : List ℕ} (l : from ≤ i) (h : i < from + m)
+    (mode : before .mode ≡ executing) (below : before .count ≡ c .limit → ⊥) {end : ℕ} (st : Stretches order from (min (c .limit - before .count) 256) k (end - from))
+    {i counter offset depth : ℕ} {places offsets d : List ℕ} (l : from ≤ i) (h : i < end)
     (w : CarriesRun f t order k from before p₀ o₀ d₀ i (executingAt before counter offset depth (before .count + (i - from))) places offsets d) where
   pub turn-of : Turn f t order k c i (executingAt before counter offset depth (before .count + (i - from))) d
   turn-of =
@@ -195,7 +195,7 @@ module _ {f t order : List ℕ} {from k : ℕ} {before : Registers} {p₀ o₀ d
       let limit = limit-low ready in
       let first = limit-low (ready-now s (carry-none f t order k from before p₀ o₀ d₀) task) in
       record {
-        on = on-stretch st l h;
+        on = on-stretch st l (omega arith);
         ready = ready;
         buffer = buffer-now s w;
         executes = mode;
@@ -209,7 +209,7 @@ module _ {f t order : List ℕ} {from k : ℕ} {before : Registers} {p₀ o₀ d
   -- its instruction
   pub doing : {x : Registers} → x ≡ executingAt before counter offset depth (before .count + (i - from)) → (o : Outcome) {d′ : List ℕ} → InstructsIn f t k x d o d′ → length d′ ≡ length d
       → Instructed f t order k from before p₀ o₀ d₀ i (executingAt before counter offset depth (before .count + (i - from))) places offsets d o d′
-  doing e o y n = record { accepted = s .accepted; on = on-stretch st l h; known = s .known; carried = w; answered = instructs-as o e y; same = n }
+  doing e o y n = record { accepted = s .accepted; on = on-stretch st l (omega arith); known = s .known; carried = w; answered = instructs-as o e y; same = n }
 
 -- what its function asks
 pub given-at : {f t order : List ℕ} {k : ℕ} {c : CoreTask} {i : ℕ} {r : Registers} {d : List ℕ} → Turn f t order k c i r d → {x : Registers} → x ≡ r → {op : ℕ} → op ≡ byte (codeOf f k) (r .counter)

@@ -20,13 +20,13 @@ use states::Held;
 ghost use mathlib.Core.Path.{_≡_};
 ghost use mathlib.Core.Bool.{true};
 ghost use mathlib.Core.Logic.{_≢_};
-ghost use Prim.Native.Nat.{_+_, _*_, _<_};
+ghost use Prim.Native.Nat.{_+_, _-_, _*_, _<_, min};
 ghost use lib.ListN.{length, getD, set};
 ghost use Rattle.commands.specs.Attempts.{flagBit};
 ghost use Rattle.records.specs.File.{cores};
 ghost use Rattle.runner.specs.Runs.{leftAs, ranAnswer, ranCall};
 ghost use Rattle.states.specs.Tasks.{coreTask};
-ghost use Rattle.order.specs.Order.{stepsOn};
+ghost use Rattle.order.specs.Order.{stepsOn, Stretches};
 ghost use Rattle.runner.specs.Going.{RunGiven};
 ghost use Rattle.runner.specs.Running.{faultedBy, executingAt, reachedOf, reachedAt, bytesOn, RunStands, Reaches};
 ghost use Rattle.runner.specs.Executing.{ExecutionGiven, Executes};
@@ -39,12 +39,15 @@ pub struct RunAnswer {
     pub state: Held,
 }
 
-// Entry `depth` of core k's call stack, in the entries of all four.
-fn entry(entries: &[u16; 64], k: usize, depth: u8) -> u16
+// Takes entry `depth` off core k's call stack, in the entries of all four: a free entry is 0.
+fn take_entry(entries: &mut [u16; 64], k: usize, depth: u8) -> u16
     requires { ⌜ (k < 4) × (depth < 16) ⌝ }
-    ensures { λ r. ⌜ r ≡ getD (now (entries .entry)) (16 * k + depth) 0 ⌝ }
+    ensures { λ r. ⌜ (r ≡ getD (now (entries .entry)) (16 * k + depth) 0) × (now (entries .exit) ≡ set (now (entries .entry)) (16 * k + depth) 0) ⌝ }
 {
-    entries[16 * k + depth as usize]
+    let at = 16 * k + depth as usize;
+    let value = entries[at];
+    entries[at] = 0;
+    value
 }
 
 fn set_entry(entries: &mut [u16; 64], k: usize, depth: u8, value: u16)
@@ -73,16 +76,17 @@ pub fn offsets_of(s: Held) -> [u16; 64]
     s.offsets
 }
 
-// The registers of a core with another place of execution. Field by field, so that a run loads only what it needs.
-fn executing_at(r: Registers, counter: u16, offset: u16, depth: u8, count: u16) -> Registers
-    ensures { λ s. ⌜ s ≡ executingAt r counter offset depth count ⌝ }
+// The registers of a core at another place of execution, `count` instructions on. Field by field, so that a run loads only what it needs.
+fn placed_at(r: Registers, counter: u16, offset: u16, depth: u8, count: usize) -> Registers
+    requires { ⌜ r .count + count < 65536 ⌝ }
+    ensures { λ s. ⌜ s ≡ executingAt r counter offset depth (r .count + count) ⌝ }
 {
     Registers {
         mode: r.mode,
         counter,
         offset,
         depth,
-        count,
+        count: r.count + count as u16,
         exchange: r.exchange,
         cycles: r.cycles,
         flags: r.flags,
@@ -153,6 +157,14 @@ fn reached_at(r: Registers, x: Reached) -> Registers
     }
 }
 
+// The first step after a stretch of core k from step `from` on: as far as the order stays with it, and at most the `left` instructions up to its limit.
+fn stretch_end(order: &[u8], from: usize, left: usize, k: usize) -> usize
+    requires { ⌜ (stepsOn (now order) from k ≡ true) × (0 < left) × (k < 4) ⌝ }
+    ensures { λ e. ⌜ (from < e) × Stretches (now (order .entry)) from (min left 256) k (e - from) ⌝ }
+{
+    from + execution_ahead(order, from, least(left, STRETCH), k)
+}
+
 // The instructions of core k with the registers `before`, from step `from` of the order on, for as long as it executes and the order stays
 // with it, up to a stretch. What an instruction changes of the registers is kept in locals; the limit and the order are tried once, before.
 fn run_core(
@@ -175,37 +187,23 @@ fn run_core(
     if before.count as usize == c.limit {
         return reach(from + 1, protocol::faulted(before, LIMIT));
     }
-    let most = least(c.limit - before.count as usize, STRETCH);
-    let end = from + execution_ahead(order, from, most, k);
+    let end = stretch_end(order, from, c.limit - before.count as usize, k);
     let mut counter = before.counter;
     let mut offset = before.offset;
     let mut depth = before.depth;
     let mut step = from;
     while step < end {
-        let r = executing_at(
-            before,
-            counter,
-            offset,
-            depth,
-            before.count + (step - from) as u16,
-        );
+        let r = placed_at(before, counter, offset, depth, step - from);
         let op = instructions::command_of(counter, k, c, file, trace);
         if processor::has_three(op) {
-            let p = instructions::typed_of(op, r, k, c, file, trace, buffer);
-            if let Performed::Done = p {
-                counter += TYPED;
-            } else {
-                return reach(step + 1, stopped(r, p));
+            match instructions::typed_of(op, r, k, c, file, trace, buffer) {
+                Performed::Done => counter += TYPED,
+                p => return reach(step + 1, stopped(r, p)),
             }
         } else {
-            let o = instructions::other_of(op, r, k, c, file, trace, buffer);
-            match o {
-                Outcome::Fault(bit) => {
-                    return reach(step + 1, protocol::faulted(r, bit));
-                }
-                Outcome::Next(place) => {
-                    counter = place;
-                }
+            match instructions::other_of(op, r, k, c, file, trace, buffer) {
+                Outcome::Fault(bit) => return reach(step + 1, protocol::faulted(r, bit)),
+                Outcome::Next(place) => counter = place,
                 Outcome::Call(next, target, instance) => {
                     set_entry(places, k, depth, next);
                     set_entry(offsets, k, depth, offset);
@@ -218,23 +216,14 @@ fn run_core(
                         return reach(step + 1, protocol::cycle_ended(r));
                     }
                     depth -= 1;
-                    counter = entry(places, k, depth);
-                    offset = entry(offsets, k, depth);
-                    set_entry(places, k, depth, 0);
-                    set_entry(offsets, k, depth, 0);
+                    counter = take_entry(places, k, depth);
+                    offset = take_entry(offsets, k, depth);
                 }
             }
         }
         step += 1;
     }
-    let r = executing_at(
-        before,
-        counter,
-        offset,
-        depth,
-        before.count + (step - from) as u16,
-    );
-    reach(step, r)
+    reach(step, placed_at(before, counter, offset, depth, step - from))
 }
 
 // The instructions of core k with the registers `before`, until it leaves mode 2, where no core exchanges.
@@ -286,7 +275,8 @@ fn ran(
     }
 }
 
-// The steps of an order, one after another; everything is judged before.
+// The steps of an order, one after another; everything is judged before. A core's registers are read again after its stretch, so that the loop over its
+// instructions keeps none of them for later.
 pub fn run_order(
     file: &[u8],
     trace: &[u8],
@@ -305,8 +295,8 @@ pub fn run_order(
         ≡ ranCall (now (file .entry)) (now (trace .entry)) s (now (buffer .entry)) (now (shared .entry)) (now (order .entry)) (now (list .entry)) ⌝ }
 {
     let mut cores = table_of(s);
-    let mut places = places_of(s);
-    let mut offsets = offsets_of(s);
+    let places = &mut places_of(s);
+    let offsets = &mut offsets_of(s);
     let mut line = semaphore::line_of(s.semaphore);
     let mut cursor = aim;
     let mut taken: usize = 0;
@@ -314,20 +304,10 @@ pub fn run_order(
     let mut i: usize = 0;
     while i < n {
         let k = core_at(file, order, i);
-        let mode = cores[k].mode;
-        if mode == EXECUTING {
-            let x = run_core(
-                file,
-                trace,
-                tasks[k],
-                order,
-                i,
-                k,
-                cores[k],
-                &mut places,
-                &mut offsets,
-                buffer,
-            );
+        if cores[k].mode == EXECUTING {
+            let c = tasks[k];
+            let r = cores[k];
+            let x = run_core(file, trace, c, order, i, k, r, places, offsets, buffer);
             cores[k] = reached_at(cores[k], x);
             i = x.step;
         } else if semaphore::waits(line, k) {
@@ -353,5 +333,5 @@ pub fn run_order(
             }
         }
     }
-    ran(s, line.semaphore, cores, places, offsets, taken)
+    ran(s, line.semaphore, cores, *places, *offsets, taken)
 }

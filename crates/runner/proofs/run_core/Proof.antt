@@ -21,16 +21,16 @@ use Rattle.runner.proofs.run_core.Statement.{statement}
 use Rattle.runner.proofs.run_core.Tie as tie
 
 abbrev Inv-loop : tie.InvT-loop
-Inv-loop file trace c order from k before places₀ offsets₀ buffer₀ most end counter₀ offset₀ depth₀ step₀ places offsets buffer counter offset depth step =
+Inv-loop file trace c order from k before places₀ offsets₀ buffer₀ end counter₀ offset₀ depth₀ step₀ places offsets buffer counter offset depth step =
     (from ≤ step) × (step ≤ end) × CarriesRun file trace order k from before places₀ offsets₀ buffer₀ step (executingAt before counter offset depth (before .count + (step - from))) places offsets buffer
 
 abbrev μ-loop : tie.MeasureT-loop
-μ-loop file trace c order from k before places₀ offsets₀ buffer₀ most end counter₀ offset₀ depth₀ step₀ places offsets buffer counter offset depth step = end - step
+μ-loop file trace c order from k before places₀ offsets₀ buffer₀ end counter₀ offset₀ depth₀ step₀ places offsets buffer counter offset depth step = end - step
 
 -- a step of the stretch
 module _ (tested : tie.In-loop Inv-loop μ-loop) where
   abbrev start : tie.Start Inv-loop μ-loop
-  start = tested .before .before .before .before .before .before .before .before .before .before .before .before .before
+  start = tested .before .before .before .before .before .before .before .before .before .before .before .before
 
   abbrev here : tie.At-loop Inv-loop μ-loop
   here = tested .before
@@ -40,33 +40,33 @@ module _ (tested : tie.In-loop Inv-loop μ-loop) where
 
   turn-here : Turn (start .args .file .now) (start .args .trace .now) (start .args .order .now) (start .args .k) (start .args .c) (here .loop .step) registers (here .loop .buffer)
   turn-here =
-      turn-of (start .pre .0) (start .pre .1) (start .pre .3) (tested .before .before .before .before .before .before .if1 .left) (tested .before .before .before .least .ensures) (tested .before .before .execution-ahead .ensures)
+      turn-of (start .pre .0) (start .pre .1) (start .pre .3) (tested .before .before .before .before .before .if1 .left) (tested .before .before .stretch-end .ensures .1)
       (here .loop .inv .0) (tested .loop-test .taken) (here .loop .inv .2)
 
 -- what its instruction has done
-module _ (stepped : tie.After-executing-at Inv-loop μ-loop) where
+module _ (stepped : tie.After-placed-at Inv-loop μ-loop) where
   abbrev now : tie.In-loop Inv-loop μ-loop
-  now = stepped .before .before
+  now = stepped .before
 
   abbrev first : tie.Start Inv-loop μ-loop
   first = start now
 
   done-here : (o : Outcome) {d : List ℕ}
-      → InstructsIn (first .args .file .now) (first .args .trace .now) (first .args .k) (stepped .executing-at .result) (here now .loop .buffer) o d
+      → InstructsIn (first .args .file .now) (first .args .trace .now) (first .args .k) (stepped .placed-at .result) (here now .loop .buffer) o d
       → length d ≡ length (here now .loop .buffer)
       → Instructed (first .args .file .now) (first .args .trace .now) (first .args .order .now) (first .args .k) (first .args .from) (first .args .before)
       (first .args .places .now) (first .args .offsets .now) (first .args .buffer .now) (here now .loop .step) (registers now) (here now .loop .places) (here now .loop .offsets)
       (here now .loop .buffer) o d
   done-here =
-      doing (first .pre .0) (first .pre .1) (first .pre .3) (now .before .before .before .before .before .before .if1 .left) (now .before .before .before .least .ensures) (now .before .before .execution-ahead .ensures)
-      (here now .loop .inv .0) (now .loop-test .taken) (here now .loop .inv .2) (stepped .executing-at .ensures)
+      doing (first .pre .0) (first .pre .1) (first .pre .3) (now .before .before .before .before .before .if1 .left) (now .before .before .stretch-end .ensures .1)
+      (here now .loop .inv .0) (now .loop-test .taken) (here now .loop .inv .2) (stepped .placed-at .ensures)
 
   reach-fits : here now .loop .step + 1 < 18446744073709551616
-  reach-fits = let good = first .good in omega (arith, now .loop-test .taken, now .before .before .execution-ahead .ensures .within)
+  reach-fits = let good = first .good in omega (arith, now .loop-test .taken, here now .loop .inv .0, now .before .before .stretch-end .ensures .1 .within)
 
 -- what a step can take whose command is none of the typed ones
 module _ (answered : tie.After-buffer2 Inv-loop μ-loop) where
-  abbrev step : tie.After-executing-at Inv-loop μ-loop
+  abbrev step : tie.After-placed-at Inv-loop μ-loop
   step = answered .before .before .before .before .before .before
 
   few-here : first step .args .k < 4
@@ -103,61 +103,53 @@ returns c =
     } in
     reaches-fault (c .reach .ensures) (omega arith) 1 (c .before .faulted .ensures) keeps-same (carry-fault done _ refl)
 
-sub-least : tie.Need-sub-least Inv-loop μ-loop
-sub-least c =
+sub-stretch-end : tie.Need-sub-stretch-end Inv-loop μ-loop
+sub-stretch-end c =
     let given = c .before .before .before .before .before .before .before .before .before .pre in
     let limit = limit-low (ready-now (given .0) (carry-none _ _ _ _ _ _ _ _ _) (given .1)) in
     omega (arith, limit .1)
 
-execution-ahead-requires : tie.Need-execution-ahead-requires Inv-loop μ-loop
-execution-ahead-requires c κs =
-    let given = c .before .before .before .before .before .before .before .before .before .before .pre in
-    (given .2, omega (arith, c .least .ensures, limit-low (ready-now (given .0) (carry-none _ _ _ _ _ _ _ _ _) (given .1)) .1, c .before .before .before .if1 .left), core-few (given .0))
-
-add-end : tie.Need-add-end Inv-loop μ-loop
-add-end c = let good = c .before .before .before .before .before .before .before .before .before .before .before .good in record { fits = omega (arith, c .execution-ahead .ensures .within) }
+stretch-end-requires : tie.Need-stretch-end-requires Inv-loop μ-loop
+stretch-end-requires c κs =
+    let given = c .before .before .before .before .before .before .before .before .before .pre in
+    (given .2, omega (arith, limit-low (ready-now (given .0) (carry-none _ _ _ _ _ _ _ _ _) (given .1)) .1, c .before .before .if1 .left), core-few (given .0))
 
 loop-holds : tie.Need-loop-holds Inv-loop μ-loop
 loop-holds c =
-    let given = c .before .before .before .before .before .before .before .before .before .before .before in
+    let given = c .before .before .before .before .before .before .before .before .before .before in
     let at : given .args .before .count + (given .args .from - given .args .from) ≡ given .args .before .count = omega arith in
     (omega arith, omega arith, carries-as (λ i. executingAt (given .args .before) (given .args .before .counter) (given .args .before .offset) (given .args .before .depth) (at i)) refl refl refl (carry-none _ _ _ _ _ _ _ _ _))
 
-sub-executing-at : tie.Need-sub-executing-at Inv-loop μ-loop
-sub-executing-at c = omega (arith, c .before .loop .inv .0)
+sub-placed-at : tie.Need-sub-placed-at Inv-loop μ-loop
+sub-placed-at c = omega (arith, c .before .loop .inv .0)
 
-cast-executing-at : tie.Need-cast-executing-at Inv-loop μ-loop
-cast-executing-at c =
+placed-at-requires : tie.Need-placed-at-requires Inv-loop μ-loop
+placed-at-requires c κs =
     let now = turn-here c in
-    record { fits = omega (arith, now .below, now .low) }
-
-add-executing-at : tie.Need-add-executing-at Inv-loop μ-loop
-add-executing-at c =
-    let now = turn-here (c .before) in
-    record { fits = omega (arith, now .below, now .low) }
+    omega (arith, now .below, now .low)
 
 command-of-requires : tie.Need-command-of-requires Inv-loop μ-loop
-command-of-requires c κs = at-instruction (turn-here (c .before .before) .ready)
+command-of-requires c κs = at-instruction (turn-here (c .before) .ready)
 
 has-three-requires : tie.Need-has-three-requires Inv-loop μ-loop
 has-three-requires c κs = c .command-of .ensures .1
 
 typed-of-requires : tie.Need-typed-of-requires Inv-loop μ-loop
 typed-of-requires c κs =
-    let now = turn-here (c .before .before .before .before .before .before) in
-    (given-at now (c .before .before .before .before .executing-at .ensures) (c .before .before .before .command-of .ensures .0), sym (c .before .before .has-three .ensures) ∙ c .before .if2 .taken)
+    let now = turn-here (c .before .before .before .before .before) in
+    (given-at now (c .before .before .before .before .placed-at .ensures) (c .before .before .before .command-of .ensures .0), sym (c .before .before .has-three .ensures) ∙ c .before .if2 .taken)
 
 add-counter : tie.Need-add-counter Inv-loop μ-loop
 add-counter c =
-    record { fits = omega (arith, counter-low (turn-here (c .before .before .before .before .before .before .before .before .before .before .before) .ready)) }
+    record { fits = omega (arith, counter-low (turn-here (c .before .before .before .before .before .before .before .before .before .before) .ready)) }
 
 add-reach-2 : tie.Need-add-reach-2 Inv-loop μ-loop
 add-reach-2 c = record { fits = omega (arith, reach-fits (c .before .before .before .before .before .before .before .before)) }
 
 same-length : tie.Need-same-length Inv-loop μ-loop
 same-length c =
-    let given = c .before .before .before .before .before .before .before .before .before .before .before .before .before .before .before .before .before .before .before .before .before .before .before .before .before .pre in
-    let here = c .before .before .before .before .before .before .before .before .before .before .before .before .before .loop in
+    let given = c .before .before .before .before .before .before .before .before .before .before .before .before .before .before .before .before .before .before .before .before .before .before .before .pre in
+    let here = c .before .before .before .before .before .before .before .before .before .before .before .before .loop in
     search (needs, length-now (given .0) (here .inv .2), c .before .before .before .before .buffer .given)
 
 returns-2 : tie.Need-returns-2 Inv-loop μ-loop
@@ -166,40 +158,40 @@ returns-2 c =
     let done = done-here step _ (c .before .before .before .before .before .typed-of .ensures) (search (needs, c .before .before .before .before .buffer .given)) in
     let wrong = stopped-by _ (c .before .before .before .before .before .typed-of .result) _ (λ e. ⊎-elim (λ z. absurd (omega arith)) (λ z. absurd (omega arith)) (rw e at (c .before .before .match .keys2))) in
     let marked = c .before .stopped .ensures ∙ wrong .marked in
-    reaches-fault (c .reach2 .ensures) (omega (arith, here (now step) .loop .inv .0)) _ (marked ∙ ap (faulted _) (step .executing-at .ensures)) keeps-executing (carry-fault done _ (wrong .failed))
+    reaches-fault (c .reach2 .ensures) (omega (arith, here (now step) .loop .inv .0)) _ (marked ∙ ap (faulted _) (step .placed-at .ensures)) keeps-executing (carry-fault done _ (wrong .failed))
 
 other-of-requires : tie.Need-other-of-requires Inv-loop μ-loop
 other-of-requires c κs =
-    let now = turn-here (c .before .before .before .before .before .before) in
-    (given-at now (c .before .before .before .before .executing-at .ensures) (c .before .before .before .command-of .ensures .0), sym (c .before .before .has-three .ensures) ∙ c .before .if2 .left)
+    let now = turn-here (c .before .before .before .before .before) in
+    (given-at now (c .before .before .before .before .placed-at .ensures) (c .before .before .before .command-of .ensures .0), sym (c .before .before .has-three .ensures) ∙ c .before .if2 .left)
 
 add-reach-3 : tie.Need-add-reach-3 Inv-loop μ-loop
 add-reach-3 c = record { fits = omega (arith, reach-fits (c .before .before .before .before .before .before .before .before .before .before)) }
 
 faulted-requires-2 : tie.Need-faulted-requires-2 Inv-loop μ-loop
-faulted-requires-2 c κs = takes-here (c .before .before .before .before) _ (c .before .o .given .1)
+faulted-requires-2 c κs = takes-here (c .before .before .before .before) _ (c .before .bit .given .1)
 
 same-length-2 : tie.Need-same-length-2 Inv-loop μ-loop
 same-length-2 c =
-    let given = c .before .before .before .before .before .before .before .before .before .before .before .before .before .before .before .before .before .before .before .before .before .before .before .before .before .before .before .pre in
-    let here = c .before .before .before .before .before .before .before .before .before .before .before .before .before .before .before .loop in
+    let given = c .before .before .before .before .before .before .before .before .before .before .before .before .before .before .before .before .before .before .before .before .before .before .before .before .before .pre in
+    let here = c .before .before .before .before .before .before .before .before .before .before .before .before .before .before .loop in
     search (needs, length-now (given .0) (here .inv .2), c .before .before .before .before .before .before .buffer2 .given)
 
 returns-3 : tie.Need-returns-3 Inv-loop μ-loop
 returns-3 c =
     let step = c .before .before .before .before .before .before .before .before .before .before .before .before in
     let done = done-here step _ (c .before .before .before .before .before .before .before .other-of .ensures) (search (needs, c .before .before .before .before .before .before .buffer2 .given)) in
-    let marked = c .before .faulted2 .ensures ∙ ap (faulted _) (step .executing-at .ensures) in
-    reaches-fault (c .reach3 .ensures) (omega (arith, here (now step) .loop .inv .0)) _ marked keeps-executing (carry-fault done _ (c .before .before .before .o .given .1))
+    let marked = c .before .faulted2 .ensures ∙ ap (faulted _) (step .placed-at .ensures) in
+    reaches-fault (c .reach3 .ensures) (omega (arith, here (now step) .loop .inv .0)) _ marked keeps-executing (carry-fault done _ (c .before .before .before .bit .given .1))
 
 set-entry-requires : tie.Need-set-entry-requires Inv-loop μ-loop
-set-entry-requires c κs = (few-here (c .before .before .before .before .before), takes-here (c .before .before .before .before .before) _ (c .before .before .o3 .given .1) .1)
+set-entry-requires c κs = (few-here (c .before .before .before .before .before), takes-here (c .before .before .before .before .before) _ (c .before .before .next .given .1) .1)
 
 set-entry-requires-2 : tie.Need-set-entry-requires-2 Inv-loop μ-loop
-set-entry-requires-2 c κs = (few-here (c .before .before .before .before .before .before .before), takes-here (c .before .before .before .before .before .before .before) _ (c .before .before .before .before .o3 .given .1) .1)
+set-entry-requires-2 c κs = (few-here (c .before .before .before .before .before .before .before), takes-here (c .before .before .before .before .before .before .before) _ (c .before .before .before .before .next .given .1) .1)
 
 add-depth : tie.Need-add-depth Inv-loop μ-loop
-add-depth c = record { fits = omega (arith, takes-here (c .before .before .before .before .before .before .before .before) _ (c .before .before .before .before .before .o3 .given .1) .1) }
+add-depth c = record { fits = omega (arith, takes-here (c .before .before .before .before .before .before .before .before) _ (c .before .before .before .before .before .next .given .1) .1) }
 
 add-reach-4 : tie.Need-add-reach-4 Inv-loop μ-loop
 add-reach-4 c = record { fits = omega (arith, reach-fits (c .before .before .before .before .before .before .before .before .before .before)) }
@@ -207,57 +199,47 @@ add-reach-4 c = record { fits = omega (arith, reach-fits (c .before .before .bef
 cycle-ended-requires : tie.Need-cycle-ended-requires Inv-loop μ-loop
 cycle-ended-requires c κs =
     let done = done-here (c .before .before .before .before .before .before .before .before .before .before) _ (c .before .before .before .before .before .other-of .ensures) (search (needs, c .before .before .before .before .buffer2 .given)) in
-    rw (c .before .before .before .before .before .before .before .before .before .before .executing-at .ensures) (ended-takes done (c .before .enum-told2 .given .1) (c .if3 .taken))
+    rw (c .before .before .before .before .before .before .before .before .before .before .placed-at .ensures) (ended-takes done (c .before .enum-told2 .given .1) (c .if3 .taken))
 
 same-length-3 : tie.Need-same-length-3 Inv-loop μ-loop
 same-length-3 c =
-    let given = c .before .before .before .before .before .before .before .before .before .before .before .before .before .before .before .before .before .before .before .before .before .before .before .before .before .before .before .pre in
-    let here = c .before .before .before .before .before .before .before .before .before .before .before .before .before .before .before .loop in
+    let given = c .before .before .before .before .before .before .before .before .before .before .before .before .before .before .before .before .before .before .before .before .before .before .before .before .before .pre in
+    let here = c .before .before .before .before .before .before .before .before .before .before .before .before .before .before .loop in
     search (needs, length-now (given .0) (here .inv .2), c .before .before .before .before .before .before .buffer2 .given)
 
 returns-4 : tie.Need-returns-4 Inv-loop μ-loop
 returns-4 c =
     let step = c .before .before .before .before .before .before .before .before .before .before .before .before in
     let done = done-here step _ (c .before .before .before .before .before .before .before .other-of .ensures) (search (needs, c .before .before .before .before .before .before .buffer2 .given)) in
-    let ended = c .before .cycle-ended .ensures ∙ ap cycleEnded (step .executing-at .ensures) in
+    let ended = c .before .cycle-ended .ensures ∙ ap cycleEnded (step .placed-at .ensures) in
     reaches-ended (c .reach4 .ensures) (omega (arith, here (now step) .loop .inv .0)) ended keeps-executing (carry-ended done (c .before .before .before .enum-told2 .given .1) (c .before .before .if3 .taken))
 
-entry-requires : tie.Need-entry-requires Inv-loop μ-loop
-entry-requires c κs = (few-here (c .before .before .before .before .before), omega (arith, depth-here (c .before .before .before .before .before) (c .before .before .enum-told2 .given .1) (c .before .if3 .left)))
+take-entry-requires : tie.Need-take-entry-requires Inv-loop μ-loop
+take-entry-requires c κs = (few-here (c .before .before .before .before .before), omega (arith, depth-here (c .before .before .before .before .before) (c .before .before .enum-told2 .given .1) (c .before .if3 .left)))
 
-entry-requires-2 : tie.Need-entry-requires-2 Inv-loop μ-loop
-entry-requires-2 c κs =
+take-entry-requires-2 : tie.Need-take-entry-requires-2 Inv-loop μ-loop
+take-entry-requires-2 c κs =
     let answered = c .before .before .before .before .before .before .before in
     (few-here answered, omega (arith, depth-here answered (c .before .before .before .before .enum-told2 .given .1) (c .before .before .before .if3 .left)))
-
-set-entry-requires-3 : tie.Need-set-entry-requires-3 Inv-loop μ-loop
-set-entry-requires-3 c κs =
-    let answered = c .before .before .before .before .before .before .before .before .before in
-    (few-here answered, omega (arith, depth-here answered (c .before .before .before .before .before .before .enum-told2 .given .1) (c .before .before .before .before .before .if3 .left)))
-
-set-entry-requires-4 : tie.Need-set-entry-requires-4 Inv-loop μ-loop
-set-entry-requires-4 c κs =
-    let answered = c .before .before .before .before .before .before .before .before .before .before .before in
-    (few-here answered, omega (arith, depth-here answered (c .before .before .before .before .before .before .before .before .enum-told2 .given .1) (c .before .before .before .before .before .before .before .if3 .left)))
 
 add-step : tie.Need-add-step Inv-loop μ-loop
 add-step c = record { fits = omega (arith, reach-fits (c .before .before .before)) }
 
 loop-less : tie.Need-loop-less Inv-loop μ-loop
-loop-less c = omega (arith, c .before .before .before .before .before .loop-test .taken)
+loop-less c = omega (arith, c .before .before .before .before .loop-test .taken)
 
 loop-again : tie.Need-loop-again Inv-loop μ-loop
 loop-again c =
-    let begun = c .before .before .before .before .before .before .before .before .before .before .before .before .before .before .before .before .before .before .args in
-    let here = c .before .before .before .before .before .before .loop in
-    let below = c .before .before .before .before .before .loop-test .taken in
+    let begun = c .before .before .before .before .before .before .before .before .before .before .before .before .before .before .before .before .args in
+    let here = c .before .before .before .before .before .loop in
+    let below = c .before .before .before .before .loop-test .taken in
     let count : begun .before .count + (here .step + 1 - begun .from) ≡ begun .before .count + (here .step - begun .from) + 1 = omega (arith, here .inv .0) in
     let step = c .before .before .before in
     ⊎-elim
     (λ w. (
       omega (arith, here .inv .0),
       omega (arith, below),
-      carries-as (advanced-at (begun .before) (here .counter) (here .offset) (here .depth) _ (w .10 ∙ ap (λ (r : Registers). r .counter + 8) (sym (step .executing-at .ensures))) (w .11) (w .12) count) (w .7) (w .8) (w .9)
+      carries-as (advanced-at (begun .before) (here .counter) (here .offset) (here .depth) _ (w .10 ∙ ap (λ (r : Registers). r .counter + 8) (sym (step .placed-at .ensures))) (w .11) (w .12) count) (w .7) (w .8) (w .9)
           (carry-next (done-here step _ (w .2 .ensures) (search (needs, w .3 .given))) _ (ap (outcomeOf _) (w .6 .given .1))),
     ))
     (⊎-elim
@@ -277,48 +259,37 @@ loop-again c =
     (λ w. (
       omega (arith, here .inv .0),
       omega (arith, below),
-      carries-as (returned-at (begun .before) (here .counter) (here .offset) (here .depth) _ (w .19 ∙ w .9 .ensures) (w .20 ∙ w .11 .ensures) (w .21) count) (w .16 ∙ w .13 .ensures) (w .17 ∙ w .15 .ensures) (w .18)
+      carries-as (returned-at (begun .before) (here .counter) (here .offset) (here .depth) _ (w .15 ∙ w .9 .ensures .0) (w .16 ∙ w .11 .ensures .0) (w .17) count) (w .12 ∙ w .9 .ensures .1) (w .13 ∙ w .11 .ensures .1) (w .14)
           (carry-return (done-here step _ (w .2 .ensures) (search (needs, w .3 .given))) (here .depth - 1) (w .6 .given .1) (omega (arith, w .7 .left))),
     ))))
     (c .if2 .came)
 
-sub-executing-at-2 : tie.Need-sub-executing-at-2 Inv-loop μ-loop
-sub-executing-at-2 c = omega (arith, c .before .loop .inv .0)
+sub-placed-at-2 : tie.Need-sub-placed-at-2 Inv-loop μ-loop
+sub-placed-at-2 c = omega (arith, c .before .loop .inv .0)
 
-cast-executing-at-2 : tie.Need-cast-executing-at-2 Inv-loop μ-loop
-cast-executing-at-2 c =
-    let given = c .before .before .before .before .before .before .before .before .before .before .before .before .before .pre in
+placed-at-requires-2 : tie.Need-placed-at-requires-2 Inv-loop μ-loop
+placed-at-requires-2 c κs =
+    let given = c .before .before .before .before .before .before .before .before .before .before .before .before .pre in
     let limit = limit-low (ready-now (given .0) (carry-none _ _ _ _ _ _ _ _ _) (given .1)) in
     let here = c .before .loop in
-    let st = c .before .before .execution-ahead .ensures in
-    record { fits = omega (arith, here .inv .1, st .few, c .before .before .before .least .ensures, limit .0, limit .1) }
-
-add-executing-at-2 : tie.Need-add-executing-at-2 Inv-loop μ-loop
-add-executing-at-2 c =
-    let given = c .before .before .before .before .before .before .before .before .before .before .before .before .before .before .pre in
-    let limit = limit-low (ready-now (given .0) (carry-none _ _ _ _ _ _ _ _ _) (given .1)) in
-    let here = c .before .before .loop in
-    let st = c .before .before .before .execution-ahead .ensures in
-    record { fits = omega (arith, here .inv .1, st .few, c .before .before .before .before .least .ensures, limit .0, limit .1) }
+    omega (arith, here .inv .0, here .inv .1, c .before .before .stretch-end .ensures .1 .few, limit .0, limit .1)
 
 same-length-4 : tie.Need-same-length-4 Inv-loop μ-loop
-same-length-4 c = length-now (c .before .before .before .before .before .before .before .before .before .before .before .before .before .before .before .before .pre .0) (c .before .before .before .before .loop .inv .2)
+same-length-4 c = length-now (c .before .before .before .before .before .before .before .before .before .before .before .before .before .before .pre .0) (c .before .before .before .loop .inv .2)
 
 returns-5 : tie.Need-returns-5 Inv-loop μ-loop
 returns-5 c =
-    let given = c .before .before .before .before .before .before .before .before .before .before .before .before .before .before .before .before .pre in
-    let here = c .before .before .before .before .loop in
-    let limit = limit-low (ready-now (given .0) (carry-none _ _ _ _ _ _ _ _ _) (given .1)) .1 in
-    let more = c .before .before .before .before .before .execution-ahead .ensures .some (given .2) (omega (arith, c .before .before .before .before .before .before .least .ensures, limit, c .before .before .before .before .before .before .before .before .before .if1 .left)) in
-    reaches-on (c .reach5 .ensures) (omega (arith, more, c .before .before .before .loop-test .left)) (c .before .executing-at2 .ensures) (here .inv .2) (omega (arith, here .inv .0))
+    let here = c .before .before .before .loop in
+    let more = c .before .before .before .before .stretch-end .ensures .0 in
+    reaches-on (c .reach5 .ensures) (omega (arith, more, c .before .before .loop-test .left)) (c .before .placed-at2 .ensures) (here .inv .2) (omega (arith, here .inv .0))
 
 pub run-core-spec : {M : Type 1} → statement M
 run-core-spec =
     tie.close
-    (tie.spec Inv-loop μ-loop (λ c. search needs) add-reach faulted-requires (λ c κs. search needs) returns (λ c. search needs) sub-least (λ c κs. search needs)
-    execution-ahead-requires add-end loop-holds sub-executing-at cast-executing-at add-executing-at (λ c κs. search needs) command-of-requires
+    (tie.spec Inv-loop μ-loop (λ c. search needs) add-reach faulted-requires (λ c κs. search needs) returns (λ c. search needs) sub-stretch-end
+    stretch-end-requires loop-holds sub-placed-at placed-at-requires command-of-requires
     has-three-requires typed-of-requires (λ c. search needs) add-counter add-reach-2 (λ c κs. search needs) (λ c κs. search needs) same-length returns-2
     other-of-requires (λ c. search needs) add-reach-3 faulted-requires-2 (λ c κs. search needs) same-length-2 returns-3 (λ c. search needs) (λ c. search needs)
     set-entry-requires set-entry-requires-2 add-depth (λ c. search needs) add-reach-4 cycle-ended-requires (λ c κs. search needs) same-length-3 returns-4
-    (λ c. search needs) entry-requires entry-requires-2 set-entry-requires-3 set-entry-requires-4 add-step loop-less loop-again sub-executing-at-2
-    cast-executing-at-2 add-executing-at-2 (λ c κs. search needs) (λ c κs. search needs) same-length-4 returns-5)
+    (λ c. search needs) take-entry-requires take-entry-requires-2 add-step loop-less loop-again sub-placed-at-2
+    placed-at-requires-2 (λ c κs. search needs) same-length-4 returns-5)

@@ -35,7 +35,7 @@ module _ (known : tie.After-core-at Inv-loop μ-loop) where
   turn = known .before .before
 
   abbrev start : tie.Start Inv-loop μ-loop
-  start = known .before .before .before .before .before .before .before .before .before .before .before .before .before
+  start = known .before .before .before .before .before .before .before .before .before .before .before .before .before .before .before
 
   abbrev registers : Registers
   registers = getD (turn .loop .cores) (known .core-at .result) noRegisters
@@ -50,14 +50,14 @@ module _ (known : tie.After-core-at Inv-loop μ-loop) where
 
 loop-holds : tie.Need-loop-holds Inv-loop μ-loop
 loop-holds c =
-    let at-places-of = c .before .before in
+    let at-places-of = c .before .before .before .before in
     let at-table-of = at-places-of .before in
     let entered = at-table-of .before .before .before .before .before .before .before in
-    looping-start (entered .pre) (at-table-of .table-of .ensures) (at-places-of .places-of .ensures) (c .before .offsets-of .ensures) (c .line-of .ensures)
+    looping-start (entered .pre) (at-table-of .table-of .ensures) (at-places-of .places-of .ensures) (c .before .before .offsets-of .ensures) (c .line-of .ensures)
 
 core-at-requires : tie.Need-core-at-requires Inv-loop μ-loop
 core-at-requires c κs =
-    let start = c .before .before .before .before .before .before .before .before .before .before .before .before in
+    let start = c .before .before .before .before .before .before .before .before .before .before .before .before .before .before in
     (c .loop-test .taken, below-at (coreCount (start .args .file .now)) (start .args .order .now) (c .before .loop .i) (start .pre .below) (c .loop-test .taken), start .pre .accepted .few)
 
 run-core-requires : tie.Need-run-core-requires Inv-loop μ-loop
@@ -87,14 +87,14 @@ waits-requires c κs = (c .before .before .before .loop .inv .1, c .before .core
 add-past-waiting : tie.Need-add-past-waiting Inv-loop μ-loop
 add-past-waiting c =
     let at-test = c .before .before .before .before in
-    let entered = at-test .before .before .before .before .before .before .before .before .before .before .before .before in
+    let entered = at-test .before .before .before .before .before .before .before .before .before .before .before .before .before .before in
     let good = entered .good in omega (arith, at-test .loop-test .taken)
 
 past-waiting-requires : tie.Need-past-waiting-requires Inv-loop μ-loop
 past-waiting-requires c κs =
     let at-test = c .before .before .before .before in
     let at-turn = at-test .before in
-    let at-core = at-turn .before .before .before .before .before .before .before .before .before .before .before in
+    let at-core = at-turn .before .before .before .before .before .before .before .before .before .before .before .before .before in
     let start = at-core in
     let here = at-turn .loop .inv in
     (omega (arith, at-test .loop-test .taken), (λ j. below-at (coreCount (start .args .file .now)) (start .args .order .now) j (start .pre .below)), start .pre .accepted .few, here .1)
@@ -108,7 +108,7 @@ loop-again-2 c =
     let at-core = at-waits .before .before in
     let at-test = at-core .before in
     let at-turn = at-test .before in
-    let entered = at-turn .before .before .before .before .before .before .before .before .before .before .before in
+    let entered = at-turn .before .before .before .before .before .before .before .before .before .before .before .before .before in
     let here = at-turn .loop .inv in
     let passed = c .past-waiting .ensures in
     let waits = ap (waitsAt (semaphoreOf (at-turn .loop .line .semaphore))) (sym (at-core .core-at .ensures .0)) ∙ sym (at-waits .waits .ensures) ∙ c .before .if2 .taken in
@@ -134,7 +134,7 @@ bytes-on-requires c κs =
 add-i : tie.Need-add-i Inv-loop μ-loop
 add-i c =
     let at-steps-ahead = c .before .before .before .before .before .before .before .before .before .before in
-    let entered = at-steps-ahead .before .before .before .before .before .before .before .before .before .before .before .before .before .before .before .before .before .before .before in
+    let entered = at-steps-ahead .before .before .before .before .before .before .before .before .before .before .before .before .before .before .before .before .before .before .before .before .before in
     let good = entered .good in omega (arith, at-steps-ahead .steps-ahead .ensures .1)
 
 loop-less-3 : tie.Need-loop-less-3 Inv-loop μ-loop
@@ -151,7 +151,7 @@ loop-again-3 c =
     let at-steps-ahead = at-if3 .before in
     let at-core = at-steps-ahead .before .before .before .before .before .before in
     let at-turn = at-core .before .before in
-    let entered = at-turn .before .before .before .before .before .before .before .before .before .before .before in
+    let entered = at-turn .before .before .before .before .before .before .before .before .before .before .before .before .before in
     let ahead = at-steps-ahead .steps-ahead .ensures in
     let core-in = at-core .core-at .ensures .1 in
     let given = entered .pre in
@@ -194,7 +194,7 @@ line-after-requires c κs =
 cursor-after-requires : tie.Need-cursor-after-requires Inv-loop μ-loop
 cursor-after-requires c κs =
     let at-core = c .before .before .before .before .before .before .before .before .before .before .before .before .before .before .before .before .before .before in
-    let entered = at-core .before .before .before .before .before .before .before .before .before .before .before .before .before in
+    let entered = at-core .before .before .before .before .before .before .before .before .before .before .before .before .before .before .before in
     let given = entered .pre in (given .accepted .laid, given .from, given .upto, at-core .core-at .ensures .2)
 
 list-taking-requires : tie.Need-list-taking-requires Inv-loop μ-loop
@@ -205,7 +205,7 @@ list-taking-requires c κs =
 add-i-2 : tie.Need-add-i-2 Inv-loop μ-loop
 add-i-2 c =
     let at-test = c .before .before .before .before .before .before .before .before .before .before .before .before .before .before .before .before .before .before .before .before .before .before .before .before in
-    let entered = at-test .before .before .before .before .before .before .before .before .before .before .before .before in
+    let entered = at-test .before .before .before .before .before .before .before .before .before .before .before .before .before .before in
     let good = entered .good in omega (arith, at-test .loop-test .taken)
 
 loop-less-4 : tie.Need-loop-less-4 Inv-loop μ-loop
@@ -237,19 +237,19 @@ loop-again-4 c =
     (search (needs, at-buffer3 .buffer3 .given)) (at-turn .turn .result) (answered .1) ready (at-registers-after .registers-after .ensures) refl (at-line-after .line-after .ensures) (at-cursor-after .cursor-after .ensures) (at-list-taking .list-taking .ensures)
 
 same-length : tie.Need-same-length Inv-loop μ-loop
-same-length c = c .before .before .loop .inv .0 .running .buffer ∙ sym (c .before .before .before .before .before .before .before .before .before .before .before .before .before .pre .buffer)
+same-length c = c .before .before .before .before .loop .inv .0 .running .buffer ∙ sym (c .before .before .before .before .before .before .before .before .before .before .before .before .before .before .before .before .before .pre .buffer)
 
 same-length-2 : tie.Need-same-length-2 Inv-loop μ-loop
-same-length-2 c = shared-length (c .before .before .before .before .before .before .before .before .before .before .before .before .before .pre) (c .before .before .loop .inv .0)
+same-length-2 c = shared-length (c .before .before .before .before .before .before .before .before .before .before .before .before .before .before .before .before .before .pre) (c .before .before .before .before .loop .inv .0)
 
 same-length-3 : tie.Need-same-length-3 Inv-loop μ-loop
-same-length-3 c = c .before .before .loop .inv .0 .running .list-length
+same-length-3 c = c .before .before .before .before .loop .inv .0 .running .list-length
 
 returns : tie.Need-returns Inv-loop μ-loop
 returns c =
-    let at-turn = c .before .before in
-    let entered = at-turn .before .before .before .before .before .before .before .before .before .before .before in
-    rw (c .ran .ensures) (looping-end (entered .pre) (at-turn .loop .inv .0) (at-turn .loop .inv .1) (c .before .loop-test .left))
+    let at-turn = c .before .before .before .before in
+    let entered = at-turn .before .before .before .before .before .before .before .before .before .before .before .before .before in
+    rw (c .ran .ensures) (looping-end (entered .pre) (at-turn .loop .inv .0) (at-turn .loop .inv .1) (c .before .before .before .loop-test .left))
 
 pub run-order-spec : {M : Type 1} → statement M
 run-order-spec =
