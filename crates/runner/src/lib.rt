@@ -294,7 +294,7 @@ pub fn run_order(
     ensures { λ r. ⌜ leftAs r (now (buffer .exit)) (now (shared .exit)) (now (list .exit))
         ≡ ranCall (now (file .entry)) (now (trace .entry)) s (now (buffer .entry)) (now (shared .entry)) (now (order .entry)) (now (list .entry)) ⌝ }
 {
-    let mut cores = table_of(s);
+    let mut all = table_of(s); // the registers of all cores
     let places = &mut places_of(s);
     let offsets = &mut offsets_of(s);
     let mut line = semaphore::line_of(s.semaphore);
@@ -304,28 +304,27 @@ pub fn run_order(
     let mut i: usize = 0;
     while i < n {
         let k = core_at(file, order, i);
-        if cores[k].mode == EXECUTING {
+        if all[k].mode == EXECUTING {
             let c = tasks[k];
-            let r = cores[k];
-            let x = run_core(file, trace, c, order, i, k, r, places, offsets, buffer);
-            cores[k] = reached_at(cores[k], x);
+            let x = run_core(file, trace, c, order, i, k, all[k], places, offsets, buffer);
+            all[k] = reached_at(all[k], x);
             i = x.step;
         } else if semaphore::waits(line, k) {
             i = past_waiting(file, order, i + 1, line);
         } else {
-            let r = cores[k];
+            let r = all[k];
             let m = steps_ahead(order, i, k, r, tasks[k]);
             if 0 < m {
                 // all but the last of the bytes that follow one another, in one go
                 let c = tasks[k];
                 cursor = steps::move_bytes(r, k, c, file, trace, buffer, shared, end, cursor, m);
-                cores[k] = bytes_on(r, m);
+                all[k] = bytes_on(r, m);
                 i += m;
             } else {
                 let turn = semaphore::turn(line.semaphore, k as u8);
                 let c = tasks[k];
                 let z = steps::exchange_of(r, k, c, file, trace, buffer, shared, end, cursor, turn);
-                cores[k] = steps::registers_after(z, r);
+                all[k] = steps::registers_after(z, r);
                 line = steps::line_after(z, line, k);
                 cursor = steps::cursor_after(z, cursor, file, first, end, k);
                 taken = steps::list_taking(z, list, taken, k);
@@ -333,5 +332,5 @@ pub fn run_order(
             }
         }
     }
-    ran(s, line.semaphore, cores, *places, *offsets, taken)
+    ran(s, line.semaphore, all, *places, *offsets, taken)
 }

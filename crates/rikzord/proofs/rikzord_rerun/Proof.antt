@@ -62,7 +62,7 @@ use Rattle.rikzord.proofs.load_table.Symbol.{name as #rikzord·load-tab
 use Rattle.rikzord.proofs.load_table.Met as load-thm
 use Rattle.table_rerun.proofs.rerun_table as rerun-table
 use Rattle.table_rerun.proofs.rerun_table.Symbol as rerun-table-def
-use Rattle.table_rerun.proofs.rerun_table.Symbol.{name as #snapshot·rerun-table}
+use Rattle.table_rerun.proofs.rerun_table.Symbol.{name as #table-rerun·rerun-table}
 use Rattle.table_rerun.proofs.rerun_table.Met as rerun-table-thm
 use Rattle.rikzord.proofs.save as save
 use Rattle.rikzord.proofs.save.Symbol as save-def
@@ -218,7 +218,7 @@ module _ {M : Type 1} (𝓤 : URA M) (H : Heap 𝓤) (A : Atoms 𝓤) (W : Given
   abbrev Says : Table → After → List ℕ → List ℕ → Type 0
   Says t y buffer′ shared′ = tableLeft y buffer′ shared′ [] ≡ rerunTable file trace list t semaphore buffer shared
 
-  module _ (C : Calls 𝓤 H) (Λ : Loops 𝓤 H) (fm : FmC 𝓤 H (W .laws) C) (known-load : Triple 𝓤 (C #rikzord·load-table) (Load 𝓤 H A at-mem run)) (known-callee : Triple 𝓤 (C #snapshot·rerun-table) (Callee 𝓤 H A at-mem run)) (known-save : Triple 𝓤 (C #rikzord·save) (Save 𝓤 H A at-mem run)) where
+  module _ (C : Calls 𝓤 H) (Λ : Loops 𝓤 H) (fm : FmC 𝓤 H (W .laws) C) (known-load : Triple 𝓤 (C #rikzord·load-table) (Load 𝓤 H A at-mem run)) (known-callee : Triple 𝓤 (C #table-rerun·rerun-table) (Callee 𝓤 H A at-mem run)) (known-save : Triple 𝓤 (C #rikzord·save) (Save 𝓤 H A at-mem run)) where
     walk : ent 𝓤 (onEntry 𝓤 H A f.signature (κ₀, (κ₁, (κ₂, (κ₃, (κ₄, (κ₅, (κ₆, tt))))))) (q₀, (q₁, (q₂, (q₃, (q₄, (q₅, (q₆, tt))))))) a at) (WpFn 𝓤 H C Λ code.function (file-val ∷ trace-val ∷ list-val ∷ table-val ∷ semaphore-val ∷ buffer-val ∷ shared-val ∷ []) Post)
     walk =
         qed W (tokens ∷ ‵ (owns (ShrSlice (named 0) κ₀ u8 ∷ ShrSlice (named 1) κ₁ u8 ∷ ShrSlice (named 2) κ₂ u8 ∷ MutSlice (named 3) κ₃ R ∷ MutRef (named 4) κ₄ P.the-row
@@ -310,7 +310,7 @@ module _ {M : Type 1} (𝓤 : URA M) (H : Heap 𝓤) (A : Atoms 𝓤) (W : Given
         (zs .1 .1 .1 .1 .1 .1 .0) e₁ e₂ e₃) l-table l-buffer l-shared)))))))))))))))))))))))))))))))))))))
 
 module _ {M : Type 1} (𝓤 : URA M) (H : Heap 𝓤) (A : Atoms 𝓤) (W : Given 𝓤 H A) (at-mem : Memory → SProp 𝓤) (run : Routine → Fun 𝓤) where
-  walks : (C : Calls 𝓤 H) (Λ : Loops 𝓤 H) → FmC 𝓤 H (W .laws) C → Triple 𝓤 (C #rikzord·load-table) (Load 𝓤 H A at-mem run) → Triple 𝓤 (C #snapshot·rerun-table) (Callee 𝓤 H A at-mem run) → Triple 𝓤 (C #rikzord·save) (Save 𝓤 H A at-mem run)
+  walks : (C : Calls 𝓤 H) (Λ : Loops 𝓤 H) → FmC 𝓤 H (W .laws) C → Triple 𝓤 (C #rikzord·load-table) (Load 𝓤 H A at-mem run) → Triple 𝓤 (C #table-rerun·rerun-table) (Callee 𝓤 H A at-mem run) → Triple 𝓤 (C #rikzord·save) (Save 𝓤 H A at-mem run)
       → Walks 𝓤 H A f.ended stayed (WpFn 𝓤 H C Λ code.function) (f.clauses 𝓤 H A at-mem run)
   walks C Λ fm k₁ k₂ k₃ = walked 𝓤 H A f.ended stayed (f.clauses 𝓤 H A at-mem run) (WpFn 𝓤 H C Λ code.function) (λ κs. (slice-vals, (slice-vals, (slice-vals, (slice-vals, (ptr-vals, (slice-vals, (slice-vals, tt))))))))
       (λ κs. (
@@ -345,7 +345,7 @@ module _ {M : Type 1} (𝓤 : URA M) (H : Heap 𝓤) (A : Atoms 𝓤) (W : Given
   )
 
 meets : {M : Type 1} (𝓤 : URA M) (H : Heap 𝓤) (A : Atoms 𝓤) → Given 𝓤 H A → (at-mem : Memory → SProp 𝓤) (run : Routine → Fun 𝓤) (𝓣 : Tables 𝓤 H)
-    → Triple 𝓤 (𝓣 .C #rikzord·load-table) (Load 𝓤 H A at-mem run) → Triple 𝓤 (𝓣 .C #snapshot·rerun-table) (Callee 𝓤 H A at-mem run)
+    → Triple 𝓤 (𝓣 .C #rikzord·load-table) (Load 𝓤 H A at-mem run) → Triple 𝓤 (𝓣 .C #table-rerun·rerun-table) (Callee 𝓤 H A at-mem run)
     → Triple 𝓤 (𝓣 .C #rikzord·save) (Save 𝓤 H A at-mem run)
     → Meets 𝓤 H A f.signature (WpFn 𝓤 H (𝓣 .C) (𝓣 .Λ) code.function) (f.spec 𝓤 H A at-mem run)
 meets 𝓤 H A W at-mem run 𝓣 k₁ k₂ k₃ = walk-meets 𝓤 H A f.ended stayed W (goes 𝓤 H A W at-mem run) (f.clauses 𝓤 H A at-mem run)
@@ -358,5 +358,5 @@ rikzord-rerun-spec 𝓤 H 𝓜 𝓖 𝓡 =
     (tables 𝓤 H 𝓜 𝓡 code.env .C) (tables 𝓤 H 𝓜 𝓡 code.env .Λ) #rikzord·rikzord-rerun code.function (code.unfolded 𝓤 H 𝓜 𝓡)
     (meets 𝓤 H (𝓖 .A) (givenOf 𝓤 H 𝓜 𝓖) (𝓜 .mem) (𝓡 .run) (tablesOf 𝓤 H 𝓜 (tables 𝓤 H 𝓜 𝓡 code.env))
     (cited 𝓤 H (Load 𝓤 H (𝓖 .A) (𝓜 .mem) (𝓡 .run)) 𝓜 𝓡 code.env #rikzord·load-table load-def.routine code.calls-rikzord·load-table (load-thm.met 𝓤 H 𝓜 𝓖 𝓡))
-    (cited 𝓤 H (Callee 𝓤 H (𝓖 .A) (𝓜 .mem) (𝓡 .run)) 𝓜 𝓡 code.env #snapshot·rerun-table rerun-table-def.routine code.calls-snapshot·rerun-table (rerun-table-thm.met 𝓤 H 𝓜 𝓖 𝓡))
+    (cited 𝓤 H (Callee 𝓤 H (𝓖 .A) (𝓜 .mem) (𝓡 .run)) 𝓜 𝓡 code.env #table-rerun·rerun-table rerun-table-def.routine code.calls-table-rerun·rerun-table (rerun-table-thm.met 𝓤 H 𝓜 𝓖 𝓡))
     (cited 𝓤 H (Save 𝓤 H (𝓖 .A) (𝓜 .mem) (𝓡 .run)) 𝓜 𝓡 code.env #rikzord·save save-def.routine code.calls-rikzord·save (save-thm.met 𝓤 H 𝓜 𝓖 𝓡)))

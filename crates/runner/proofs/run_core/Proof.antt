@@ -287,9 +287,8 @@ pub run-core-spec : {M : Type 1} → statement M
 run-core-spec =
     tie.close
     (tie.spec Inv-loop μ-loop (λ c. search needs) add-reach faulted-requires (λ c κs. search needs) returns (λ c. search needs) sub-stretch-end
-    stretch-end-requires loop-holds sub-placed-at placed-at-requires command-of-requires
-    has-three-requires typed-of-requires (λ c. search needs) add-counter add-reach-2 (λ c κs. search needs) (λ c κs. search needs) same-length returns-2
-    other-of-requires (λ c. search needs) add-reach-3 faulted-requires-2 (λ c κs. search needs) same-length-2 returns-3 (λ c. search needs) (λ c. search needs)
-    set-entry-requires set-entry-requires-2 add-depth (λ c. search needs) add-reach-4 cycle-ended-requires (λ c κs. search needs) same-length-3 returns-4
-    (λ c. search needs) take-entry-requires take-entry-requires-2 add-step loop-less loop-again sub-placed-at-2
-    placed-at-requires-2 (λ c κs. search needs) same-length-4 returns-5)
+    stretch-end-requires loop-holds sub-placed-at placed-at-requires command-of-requires has-three-requires typed-of-requires (λ c. search needs)
+    add-counter add-reach-2 (λ c κs. search needs) (λ c κs. search needs) same-length returns-2 other-of-requires (λ c. search needs) add-reach-3
+    faulted-requires-2 (λ c κs. search needs) same-length-2 returns-3 (λ c. search needs) (λ c. search needs) set-entry-requires set-entry-requires-2
+    add-depth (λ c. search needs) add-reach-4 cycle-ended-requires (λ c κs. search needs) same-length-3 returns-4 (λ c. search needs) take-entry-requires
+    take-entry-requires-2 add-step loop-less loop-again sub-placed-at-2 placed-at-requires-2 (λ c κs. search needs) same-length-4 returns-5)

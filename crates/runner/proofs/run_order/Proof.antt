@@ -38,7 +38,7 @@ module _ (known : tie.After-core-at Inv-loop μ-loop) where
   start = known .before .before .before .before .before .before .before .before .before .before .before .before .before .before .before
 
   abbrev registers : Registers
-  registers = getD (turn .loop .cores) (known .core-at .result) noRegisters
+  registers = getD (turn .loop .all) (known .core-at .result) noRegisters
 
   moving-here : ExchangeGiven (start .args .file .now) (start .args .trace .now) (known .core-at .result) (getD (start .args .t3) (known .core-at .result) noTask)
       registers (turn .loop .buffer) (turn .loop .shared) (start .args .end) (turn .loop .cursor)
