@@ -1,13 +1,11 @@
 // MEMCP's copy (document 02, 2.5) in three ways with one contract, for the benchmark that times them beside each other: as the machine does it, by
 // single bytes, and through an array. The machine itself calls `memory::copy_within` and none of these.
+use memory::LARGEST_DATA;
 ghost use mathlib.Core.Path.{_≡_};
 ghost use Prim.Native.Nat.{_+_, _≤_};
 ghost use lib.ListN.{length};
 ghost use Rattle.memory.specs.Memory.{splice, part, Disjoint};
 ghost use Rattle.copies.specs.Copies.{copyFits, copyAnswer, copied};
-
-// The largest data of a core.
-const LARGEST_DATA: usize = 4096;
 
 // Whether two stretches of n bytes lie within a core's data of this size.
 fn fits(size: usize, to: usize, from: usize, n: usize) -> bool

@@ -19,8 +19,8 @@ pub fn command_of(counter: u16, k: usize, c: CoreTask, file: &[u8], trace: &[u8]
     requires { ⌜ AtInstruction (now file) (now trace) k c counter ⌝ }
     ensures { λ op. ⌜ (op ≡ byte (codeOf (now (file .entry)) k) counter) × (op < 64) ⌝ }
 {
-    let a = c.code;
-    let e = a + c.length;
+    let a = c.layout.code;
+    let e = a + c.layout.length;
     processor::command_at(counter, &file[a..e])
 }
 
@@ -37,10 +37,10 @@ pub fn typed_of(
     requires { ⌜ InstructionGiven (now file) (now trace) k c r (now buffer) op × (three op ≡ true) ⌝ }
     ensures { λ p. ⌜ InstructsIn (now (file .entry)) (now (trace .entry)) k r (now (buffer .entry)) (outcomeOf (r .counter + 8) p) (now (buffer .exit)) ⌝ }
 {
-    let a = c.code;
-    let e = a + c.length;
-    let b = c.base;
-    let f = b + c.size;
+    let a = c.layout.code;
+    let e = a + c.layout.length;
+    let b = c.layout.base;
+    let f = b + c.layout.size;
     processor::execute_typed(op, r, &file[a..e], &mut buffer[b..f])
 }
 
@@ -57,9 +57,9 @@ pub fn other_of(
     requires { ⌜ InstructionGiven (now file) (now trace) k c r (now buffer) op × (three op ≡ false) ⌝ }
     ensures { λ o. ⌜ InstructsIn (now (file .entry)) (now (trace .entry)) k r (now (buffer .entry)) o (now (buffer .exit)) ⌝ }
 {
-    let a = c.code;
-    let e = a + c.length;
-    let b = c.base;
-    let f = b + c.size;
+    let a = c.layout.code;
+    let e = a + c.layout.length;
+    let b = c.layout.base;
+    let f = b + c.layout.size;
     processor::execute_other(op, r, &file[a..e], &mut buffer[b..f])
 }

@@ -6,7 +6,7 @@ use Prim.Native.Nat.{ℕ, zero, suc, _+_, _≤_, _<_, min}
 use native.Mathlib.Nat.{add-zero, add-assoc}
 use native.Mathlib.Omega.{arith}
 use native.Mathlib.Numerals.{add-one}
-use lib.ListN.{length, take, drop, getD, set, length-append, length-take, length-map, drop-of-length-le}
+use lib.ListN.{length, take, drop, getD, set, length-append, length-take, drop-of-length-le}
 use lib.Seq.{drop-cons, getD-take, set-out}
 use Rattle.memory.specs.Memory.{splice}
 use Rattle.memory.proofs.Laws.{splice-append}
@@ -59,7 +59,3 @@ next-of l n i z h =
 
 pub none-of : {A : Type 0} (l : List A) (n i : ℕ) → min n (length l) ≤ i → drop i (take n l) ≡ []
 none-of l n i h = drop-of-length-le (take n l) {i = i} (simp length-take h)
-
--- a table has its length by its records' layout
-pub length-mapped : (X Y : Type 0) (g : X → Y) (l : List X) (n : ℕ) → length (map g l) ≡ n → length l ≡ n
-length-mapped X Y g l n e = sym (length-map l g) ∙ e

@@ -9,8 +9,10 @@ ghost use lib.ListN.{length, take};
 ghost use Rattle.memory.specs.Memory.{splice, flat};
 ghost use Rattle.listing.specs.Listing.{decimal, column, coreLine, coreLines, kindLetter, takingText, head, listing, refusedText, longText};
 ghost use Rattle.listing.specs.Writers.{textLeft, textCall};
+use memory::least;
 use protocol::Registers;
 use states::Held;
+use states::table_of;
 
 const LINE_FEED: u8 = b'\n';
 
@@ -83,29 +85,13 @@ fn write_line(out: &mut [u8], at: usize, k: usize, r: Registers) -> usize
     write_column(out, fifth, r.count, LINE_FEED)
 }
 
-fn lesser(a: usize, b: usize) -> usize
-    ensures { λ r. ⌜ r ≡ min a b ⌝ }
-{
-    if a < b {
-        return a;
-    }
-    b
-}
-
-// That the table has four records is known of a result.
-fn cores_of(s: Held) -> [Registers; 4]
-    ensures { λ r. ⌜ (r ≡ s .cores) × (length r ≡ 4) ⌝ }
-{
-    s.cores
-}
-
 // The lines of the first n cores.
 fn write_lines(out: &mut [u8], at: usize, s: Held, n: usize) -> usize
     requires { ⌜ at + 120 < 18446744073709551615 ⌝ }
     ensures { λ r. ⌜ (now (out .exit) ≡ splice (now (out .entry)) at (coreLines 0 (take n (s .cores)))) × (r ≡ at + length (coreLines 0 (take n (s .cores)))) × (r ≤ at + 120) ⌝ }
 {
-    let cores = cores_of(s);
-    let lines = lesser(n, CORES);
+    let cores = table_of(s);
+    let lines = least(n, CORES);
     let mut next = at;
     let mut k = 0;
     while k < lines {
@@ -141,7 +127,7 @@ fn write_takings(out: &mut [u8], at: usize, list: &[u8], taken: usize) -> usize
     ensures { λ r. ⌜ (now (out .exit) ≡ splice (now (out .entry)) at (flat (map takingText (take taken (now (list .entry))))))
         × (r ≡ at + length (flat (map takingText (take taken (now (list .entry)))))) × (r ≡ at + 3 * min taken (length (now (list .entry)))) ⌝ }
 {
-    let takings = lesser(taken, list.len());
+    let takings = least(taken, list.len());
     let mut next = at;
     let mut i = 0;
     while i < takings {
@@ -177,7 +163,7 @@ pub fn write_listing(s: Held, n: usize, list: &[u8], taken: usize, out: &mut [u8
     if out.len() <= before {
         return Written::Refused(verdict::BAD_LENGTHS);
     }
-    let takings = lesser(taken, list.len());
+    let takings = least(taken, list.len());
     if (out.len() - before - 1) / 3 < takings {
         return Written::Refused(verdict::BAD_LENGTHS);
     }

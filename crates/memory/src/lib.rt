@@ -1,6 +1,6 @@
 // Lent bytes: numbers of any width up to eight bytes, low byte first, and copies.
 ghost use mathlib.Core.Path.{_≡_};
-ghost use Prim.Native.Nat.{_+_, _-_, _^_, _≤_, _<_};
+ghost use Prim.Native.Nat.{_+_, _-_, _^_, _≤_, _<_, min};
 ghost use lib.ListN.{length, getD, replicate};
 ghost use Rattle.memory.specs.Memory.{splice, part, Disjoint, bytesLE, readLE};
 
@@ -106,14 +106,14 @@ pub fn move_words(d: &mut [u8], to: usize, from: usize, n: usize)
 }
 
 // The largest data of a core.
-const LARGEST: usize = 4096;
+pub const LARGEST_DATA: usize = 4096;
 
 // Any stretches: all bytes out to a local array, then all back.
 pub fn move_through(d: &mut [u8], to: usize, from: usize, n: usize)
     requires { ⌜ (to + n ≤ length (now d)) × (from + n ≤ length (now d)) × (n ≤ 4096) ⌝ }
     ensures { λ _. ⌜ now (d .exit) ≡ splice (now (d .entry)) to (part (now (d .entry)) from n) ⌝ }
 {
-    let mut all: [u8; LARGEST] = [0; LARGEST];
+    let mut all: [u8; LARGEST_DATA] = [0; LARGEST_DATA];
     copy(&mut all, 0, d, from, n);
     copy(d, to, &all, 0, n);
 }
@@ -139,4 +139,14 @@ pub fn zero(d: &mut [u8])
         d[i] = 0;
         i += 1;
     }
+}
+
+// The lesser of two numbers.
+pub fn least(a: usize, b: usize) -> usize
+    ensures { λ r. ⌜ r ≡ min a b ⌝ }
+{
+    if a < b {
+        return a;
+    }
+    b
 }

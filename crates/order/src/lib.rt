@@ -1,11 +1,12 @@
 // The order of a run: which core a step is of, and how many of the steps from one on are of the same core, or of cores that wait.
 // Not here: the steps themselves (crates steps and runner).
+use memory::least;
 use protocol::Registers;
 use semaphore::Line;
 use states::CoreTask;
 ghost use mathlib.Core.Path.{_≡_};
 ghost use mathlib.Core.Bool.{true, false};
-ghost use Prim.Native.Nat.{ℕ, _+_, _*_, _<_, _≤_, min};
+ghost use Prim.Native.Nat.{ℕ, _+_, _*_, _<_, _≤_};
 ghost use lib.ListN.{length, getD};
 ghost use Rattle.records.specs.File.{cores};
 ghost use Rattle.steps.specs.Bytes.{Ahead};
@@ -42,16 +43,6 @@ fn eight_on(order: &[u8], i: usize, room: usize, k: usize) -> bool
         return false;
     }
     memory::load(order, i, 8) == k as u64 * ONES
-}
-
-// The lesser of two numbers.
-pub fn least(a: usize, b: usize) -> usize
-    ensures { λ r. ⌜ r ≡ min a b ⌝ }
-{
-    if a < b {
-        return a;
-    }
-    b
 }
 
 // How many of the steps from i on are of core k, one after another, `most` of them at most.

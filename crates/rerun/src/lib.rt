@@ -91,8 +91,8 @@ fn read_exchange(
     requires { ⌜ Exchanging (now file) (now trace) k c first end r (dataIn (now file) k (now buffer)) (now shared) × (r .cycles < c .count) × (length (now buffer) ≡ total (sizesOf (now file))) ⌝ }
     ensures { λ x. ⌜ BroughtIn (now (file .entry)) (now (trace .entry)) k r (now (shared .entry)) (now (buffer .entry)) x (now (buffer .exit)) ⌝ }
 {
-    let a = c.base;
-    let e = a + c.size;
+    let a = c.layout.base;
+    let e = a + c.layout.size;
     read_data(r, k, c, file, trace, first, end, &mut buffer[a..e], shared)
 }
 
@@ -136,8 +136,8 @@ fn write_exchange(
     requires { ⌜ Exchanging (now file) (now trace) k c first end r (dataIn (now file) k (now buffer)) (now shared) × (length (now buffer) ≡ total (sizesOf (now file))) ⌝ }
     ensures { λ _. ⌜ now (shared .exit) ≡ copy (writesOf (variablesOf (now (file .entry))) k) (dataIn (now (file .entry)) k (now (buffer .entry))) (now (shared .entry)) ⌝ }
 {
-    let a = c.base;
-    let e = a + c.size;
+    let a = c.layout.base;
+    let e = a + c.layout.size;
     exchange::publish_all(file, first, end, k, &buffer[a..e], shared);
 }
 
@@ -230,9 +230,9 @@ fn rerun_in(
 {
     let fresh = machine::fresh_judged(file, layout, buffer, shared);
     let s = fresh.state;
-    let mut cores = runner::table_of(s);
-    let mut places = runner::places_of(s);
-    let mut offsets = runner::offsets_of(s);
+    let mut cores = states::table_of(s);
+    let mut places = states::places_of(s);
+    let mut offsets = states::offsets_of(s);
     let n = layout.cores;
     let first = layout.first;
     let end = first + records::VARIABLE_RECORD * layout.variables;

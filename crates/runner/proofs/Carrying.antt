@@ -182,11 +182,11 @@ pub record Turn (f t order : List ℕ) (k : ℕ) (c : CoreTask) (i : ℕ) (r : R
   pub ready : StepGiven f t k c r (getD (split (sizesOf f) d) k [])
   pub buffer : length d ≡ total (sizesOf f)
   pub executes : r .mode ≡ executing
-  pub below : r .count < c .limit
-  pub low : c .limit < 65536
+  pub below : r .count < c .layout .limit
+  pub low : c .layout .limit < 65536
 
 module _ {f t order : List ℕ} {from k : ℕ} {before : Registers} {p₀ o₀ d₀ : List ℕ} (s : RunStands f t order from k before p₀ o₀ d₀) {c : CoreTask} (task : c ≡ coreTask f t k)
-    (mode : before .mode ≡ executing) (below : before .count ≡ c .limit → ⊥) {end : ℕ} (st : Stretches order from (min (c .limit - before .count) 256) k (end - from))
+    (mode : before .mode ≡ executing) (below : before .count ≡ c .layout .limit → ⊥) {end : ℕ} (st : Stretches order from (min (c .layout .limit - before .count) 256) k (end - from))
     {i counter offset depth : ℕ} {places offsets d : List ℕ} (l : from ≤ i) (h : i < end)
     (w : CarriesRun f t order k from before p₀ o₀ d₀ i (executingAt before counter offset depth (before .count + (i - from))) places offsets d) where
   pub turn-of : Turn f t order k c i (executingAt before counter offset depth (before .count + (i - from))) d
@@ -203,7 +203,7 @@ module _ {f t order : List ℕ} {from k : ℕ} {before : Registers} {p₀ o₀ d
         low = limit .0;
       }
     where
-      under : before .count ≤ c .limit → before .count + (i - from) < c .limit
+      under : before .count ≤ c .layout .limit → before .count + (i - from) < c .layout .limit
       under e = omega (arith, st .few)
 
   -- its instruction

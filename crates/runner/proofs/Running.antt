@@ -193,7 +193,3 @@ pub below-at : (n : ℕ) (order : List ℕ) (i : ℕ) → allBelow n order ≡ t
 below-at n [] i e h = absurd (not-suc-le-zero h)
 below-at n (k ∷ ks) zero e h = ltb-true k n (both-true (ltb k n) (allBelow n ks) e .0)
 below-at n (k ∷ ks) (suc i) e h = below-at n ks i (both-true (ltb k n) (allBelow n ks) e .1) (le-of-suc-le-suc h)
-
--- the length of an array of structs, which is known of the list of their values
-pub length-mapped : (X Y : Type 0) (g : X → Y) (l : List X) (n : ℕ) → length (map g l) ≡ n → length l ≡ n
-length-mapped X Y g l n e = sym (length-map l g) ∙ e

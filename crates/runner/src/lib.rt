@@ -1,10 +1,10 @@
 // The steps of an order, one after another.
 use commands::Performed;
 use exchange::Cursor;
+use memory::least;
 use order::STRETCH;
 use order::core_at;
 use order::execution_ahead;
-use order::least;
 use order::past_waiting;
 use order::steps_ahead;
 use processor::TYPED;
@@ -17,6 +17,9 @@ use protocol::Registers;
 use semaphore::Semaphore;
 use states::CoreTask;
 use states::Held;
+use states::offsets_of;
+use states::places_of;
+use states::table_of;
 ghost use mathlib.Core.Path.{_≡_};
 ghost use mathlib.Core.Bool.{true};
 ghost use mathlib.Core.Logic.{_≢_};
@@ -55,25 +58,6 @@ fn set_entry(entries: &mut [u16; 64], k: usize, depth: u8, value: u16)
     ensures { λ _. ⌜ now (entries .exit) ≡ set (now (entries .entry)) (16 * k + depth) value ⌝ }
 {
     entries[16 * k + depth as usize] = value;
-}
-
-// The parts of a state; that its arrays have their lengths is known of a result.
-pub fn table_of(s: Held) -> [Registers; 4]
-    ensures { λ r. ⌜ (r ≡ s .cores) × (length r ≡ 4) ⌝ }
-{
-    s.cores
-}
-
-pub fn places_of(s: Held) -> [u16; 64]
-    ensures { λ r. ⌜ (r ≡ s .places) × (length r ≡ 64) ⌝ }
-{
-    s.places
-}
-
-pub fn offsets_of(s: Held) -> [u16; 64]
-    ensures { λ r. ⌜ (r ≡ s .offsets) × (length r ≡ 64) ⌝ }
-{
-    s.offsets
 }
 
 // The registers of a core at another place of execution, `count` instructions on. Field by field, so that a run loads only what it needs.
@@ -184,10 +168,10 @@ fn run_core(
     ensures { λ x. ⌜ Reaches (now (file .entry)) (now (trace .entry)) (now (order .entry)) k from before (now (places .entry)) (now (offsets .entry)) (now (buffer .entry))
         x (now (places .exit)) (now (offsets .exit)) (now (buffer .exit)) ⌝ }
 {
-    if before.count as usize == c.limit {
+    if before.count == c.layout.limit {
         return reach(from + 1, protocol::faulted(before, LIMIT));
     }
-    let end = stretch_end(order, from, c.limit - before.count as usize, k);
+    let end = stretch_end(order, from, (c.layout.limit - before.count) as usize, k);
     let mut counter = before.counter;
     let mut offset = before.offset;
     let mut depth = before.depth;

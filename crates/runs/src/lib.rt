@@ -68,8 +68,8 @@ fn run_judged(
         ≡ ranCall (now (file .entry)) (now (trace .entry)) s (now (buffer .entry)) (now (shared .entry)) (now (order .entry)) (now (list .entry)) ⌝ }
 {
     // for the lengths of the arrays alone
-    let places = runner::places_of(s);
-    let offsets = runner::offsets_of(s);
+    let places = states::places_of(s);
+    let offsets = states::offsets_of(s);
     let first = layout.first;
     let end = first + records::VARIABLE_RECORD * layout.variables;
     let aim = aim_of(file, trace, first, end, s, buffer, shared);

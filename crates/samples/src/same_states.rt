@@ -16,8 +16,8 @@ fn same_registers(a: Registers, b: Registers) -> bool {
 }
 
 fn same_table(a: Held, b: Held) -> bool {
-    let x = runner::table_of(a);
-    let y = runner::table_of(b);
+    let x = states::table_of(a);
+    let y = states::table_of(b);
     same_registers(x[0], y[0])
         && same_registers(x[1], y[1])
         && same_registers(x[2], y[2])
@@ -49,6 +49,6 @@ pub fn same_state(a: Held, b: Held) -> bool {
     a.count == b.count
         && same_semaphore(a.semaphore, b.semaphore)
         && same_table(a, b)
-        && same_entries(runner::places_of(a), runner::places_of(b))
-        && same_entries(runner::offsets_of(a), runner::offsets_of(b))
+        && same_entries(states::places_of(a), states::places_of(b))
+        && same_entries(states::offsets_of(a), states::offsets_of(b))
 }

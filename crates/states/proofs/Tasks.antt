@@ -12,7 +12,7 @@ use Rattle.taskset.specs.declared.Layout.{Layout}
 use Rattle.taskset.specs.declared.TraceLayout.{TraceLayout}
 use Rattle.taskset.specs.Layout.{noCore, coreAt, coreLayout, layoutOf}
 use Rattle.taskset.specs.Trace.{recordSize, recordCount, tracePlace, countOf, firstOf, traceLayout}
-use Rattle.taskset.proofs.Accepted.{core-facts, base-start}
+use Rattle.taskset.proofs.Accepted.{core-facts}
 use Rattle.exchange.specs.Laid.{exchangeBytes}
 use Rattle.exchange.proofs.Cursors.{length-reads, length-writes}
 use Rattle.states.specs.Set.{AcceptedSet}
@@ -59,16 +59,11 @@ module _ (f t : List ℕ) (ok : AcceptedSet f t) (k : ℕ) (h : k < cores f) whe
   -- the task of core k, part by part
   pub task-is : (l : Layout) (m : TraceLayout) (reads writes : ℕ) → l ≡ layoutOf f → m ≡ traceLayout f t → reads ≡ exchangeBytes f (4 + k) → writes ≡ exchangeBytes f k
       → record {
-        base = getD (l .core) k noCore .base;
-        size = getD (l .core) k noCore .size;
-        inputs = getD (l .core) k noCore .inputs;
-        limit = getD (l .core) k noCore .limit;
-        code = getD (l .core) k noCore .code;
-        length = getD (l .core) k noCore .length;
         reads = reads;
         writes = writes;
         records = getD (m .first) k 0;
         count = getD (m .count) k 0;
+        layout = getD (l .core) k noCore;
       } ≡ coreTask f t k
   unfolding coreTask
   task-is l m reads writes e w a b =
@@ -76,7 +71,6 @@ module _ (f t : List ℕ) (ok : AcceptedSet f t) (k : ℕ) (h : k < cores f) whe
         layout-at l e,
         first-at m w,
         count-at m w,
-        base-start f k (omega arith),
         a ∙ sym (length-reads f k (omega (arith, ok .few))),
         b ∙ sym (length-writes f k (omega (arith, ok .few))),
       )

@@ -4,30 +4,24 @@ use mathlib.Core.List.{List, [], _∷_}
 use lib.Dec.{ltb}
 use lib.ListN.{length}
 use Rattle.verdict.specs.Verdict.{pick}
-use Rattle.memory.specs.Memory.{word, start}
 use Rattle.protocol.specs.Variables.{readsOf, writesOf}
-use Rattle.records.specs.File.{cores, dataSize, inputSize, limit}
-use Rattle.taskset.specs.Judge.{codePlace}
+use Rattle.records.specs.File.{cores}
+use Rattle.taskset.specs.Layout.{noCore, coreAt}
 use Rattle.taskset.specs.Trace.{tracePlace, recordCount}
-use Rattle.taskset.specs.Task.{sizesOf, variablesOf}
+use Rattle.taskset.specs.Task.{variablesOf}
 use Rattle.states.specs.declared.CoreTask.{CoreTask}
 
 unfoldable pub coreTask : List ℕ → List ℕ → ℕ → CoreTask
 coreTask f t k = record {
-  base = start (sizesOf f) k;
-  size = dataSize f k;
-  inputs = inputSize f k;
-  limit = limit f k;
-  code = codePlace f k + 2;
-  length = word f (codePlace f k);
   reads = length (readsOf (variablesOf f) k);
   writes = length (writesOf (variablesOf f) k);
   records = tracePlace f t k + 2;
   count = recordCount f t k;
+  layout = coreAt f k;
 }
 
 abbrev pub noTask : CoreTask
-noTask = record { base = 0; size = 0; inputs = 0; limit = 0; code = 0; length = 0; reads = 0; writes = 0; records = 0; count = 0 }
+noTask = record { reads = 0; writes = 0; records = 0; count = 0; layout = noCore }
 
 -- zeros for a core number from n on
 unfoldable pub taskAt : List ℕ → List ℕ → ℕ → CoreTask

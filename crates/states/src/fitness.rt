@@ -214,7 +214,7 @@ fn execution_fit(
     k: usize,
 ) -> bool
     requires { ⌜ AcceptedCode (now code) × (k < 4) ⌝ }
-    ensures { λ ok. ⌜ ok ≡ executionFit (now (code .entry)) (task .size) (task .limit) r (entry (now (places .entry)) k) (entry (now (offsets .entry)) k) ⌝ }
+    ensures { λ ok. ⌜ ok ≡ executionFit (now (code .entry)) (task .layout .size) (task .layout .limit) r (entry (now (places .entry)) k) (entry (now (offsets .entry)) k) ⌝ }
 {
     if protocol::STOPPED < r.mode {
         return false;
@@ -222,13 +222,13 @@ fn execution_fit(
     if !places_fit(code, r, places, k) {
         return false;
     }
-    if !offsets_fit(task.size, r, offsets, k) {
+    if !offsets_fit(task.layout.size, r, offsets, k) {
         return false;
     }
     if !depth_fit(r) {
         return false;
     }
-    r.count as usize <= task.limit
+    r.count <= task.layout.limit
 }
 
 // The rules of exchanges.
@@ -253,8 +253,8 @@ fn core_fit(file: &[u8], trace: &[u8], task: CoreTask, s: Held, k: usize) -> boo
     let r = s.cores[k];
     let places = s.places;
     let offsets = s.offsets;
-    let from = task.code;
-    let to = from + task.length;
+    let from = task.layout.code;
+    let to = from + task.layout.length;
     // first, so that a core with no call open has no return place
     if !freed_fit(r, &places, &offsets, k) {
         return false;

@@ -4,6 +4,7 @@ mod fitness;
 
 ghost use mathlib.Core.Path.{_≡_};
 ghost use Prim.Native.Nat.{_<_};
+ghost use lib.ListN.{length};
 ghost use Rattle.records.specs.File.{cores};
 ghost use Rattle.taskset.specs.Layout.{layoutOf};
 ghost use Rattle.taskset.specs.Judge.{judge};
@@ -14,6 +15,7 @@ ghost use Rattle.states.specs.Preparing.{prepared};
 use fitness::state_refusal;
 use protocol::Registers;
 use semaphore::Semaphore;
+use taskset::CoreLayout;
 use taskset::Layout;
 use taskset::TraceLayout;
 
@@ -26,20 +28,34 @@ pub struct Held {
     pub offsets: [u16; 64],
 }
 
+// The parts of a state; that its arrays have their lengths is known of a result.
+pub fn table_of(s: Held) -> [Registers; 4]
+    ensures { λ r. ⌜ (r ≡ s .cores) × (length r ≡ 4) ⌝ }
+{
+    s.cores
+}
+
+pub fn places_of(s: Held) -> [u16; 64]
+    ensures { λ r. ⌜ (r ≡ s .places) × (length r ≡ 64) ⌝ }
+{
+    s.places
+}
+
+pub fn offsets_of(s: Held) -> [u16; 64]
+    ensures { λ r. ⌜ (r ≡ s .offsets) × (length r ≡ 64) ⌝ }
+{
+    s.offsets
+}
+
 // ---- the cores' tasks
 
-// What a step needs of a core's task, read from file and trace once a run.
+// What a step needs of a core's task, read from file and trace once a run: where its parts stand in the file and the data buffer, its exchanges and its input records.
 pub struct CoreTask {
-    pub base: usize, // of its data in the data buffer
-    pub size: usize, // of its data
-    pub inputs: usize, // input bytes
-    pub limit: usize, // instructions of a cycle
-    pub code: usize, // place of its code in the file
-    pub length: usize, // of its code
     pub reads: usize, // bytes of its reading exchange
     pub writes: usize, // bytes of its writing exchange
     pub records: usize, // place of its first input record in the trace
     pub count: usize, // of its input records
+    pub layout: CoreLayout, // last: the compiled steps find the others sooner
 }
 
 // All zeros.
@@ -47,16 +63,11 @@ pub fn no_task() -> CoreTask
     ensures { λ r. ⌜ r ≡ noTask ⌝ }
 {
     CoreTask {
-        base: 0,
-        size: 0,
-        inputs: 0,
-        limit: 0,
-        code: 0,
-        length: 0,
         reads: 0,
         writes: 0,
         records: 0,
         count: 0,
+        layout: taskset::no_core(),
     }
 }
 
@@ -69,16 +80,11 @@ fn core_task(file: &[u8], trace: &[u8], layout: Layout, traces: TraceLayout, k: 
     let first = layout.first;
     let end = first + records::VARIABLE_RECORD * layout.variables;
     CoreTask {
-        base: core.base,
-        size: core.size,
-        inputs: core.inputs,
-        limit: core.limit as usize,
-        code: core.code,
-        length: core.length,
         reads: exchange::bytes(file, first, end, 4 + k),
         writes: exchange::bytes(file, first, end, k),
         records: traces.first[k],
         count: traces.count[k] as usize,
+        layout: core,
     }
 }
 

@@ -25,7 +25,7 @@ use Rattle.records.specs.File.{cores, dataSize, inputSize, limit}
 use Rattle.taskset.specs.Judge.{codeOf}
 use Rattle.taskset.specs.Trace.{recordCount, samplePlace}
 use Rattle.taskset.specs.Task.{sizesOf, variablesOf, sampleAt, samplesOf}
-use Rattle.taskset.proofs.Accepted.{length-listed, listed-at, core-facts}
+use Rattle.taskset.proofs.Accepted.{base-start, length-listed, listed-at, core-facts}
 use Rattle.exchange.specs.Laid.{exchangeBytes}
 use Rattle.exchange.proofs.Moves.{left-more, left-last, left-none}
 use Rattle.exchange.proofs.Cursors.{length-reads, length-writes}
@@ -92,18 +92,18 @@ takes-outcome r c size Returns a h l = back-takes r (r .depth) refl h l
 -- ---- the code of a core
 
 module _ {f t : List ℕ} {k : ℕ} {c : CoreTask} {counter : ℕ} (w : AtInstruction f t k c counter) where
-  pub code-inside : c .code + c .length ≤ length f
+  pub code-inside : c .layout .code + c .layout .length ≤ length f
   unfolding coreTask
   code-inside = rw (w .task) (w .accepted .code-inside k (w .known))
 
   -- as the file lends it
-  pub code-is : (e : ℕ) → e ≡ c .code + c .length → take (e - c .code) (drop (c .code) f) ≡ codeOf f k
+  pub code-is : (e : ℕ) → e ≡ c .layout .code + c .layout .length → take (e - c .layout .code) (drop (c .layout .code) f) ≡ codeOf f k
   unfolding coreTask part
   code-is e p =
-      let n : e - c .code ≡ c .length = omega arith in
-      ap (λ (q : ℕ). take q (drop (c .code) f)) n ∙ ap (λ (x : CoreTask). take (x .length) (drop (x .code) f)) (w .task)
+      let n : e - c .layout .code ≡ c .layout .length = omega arith in
+      ap (λ (q : ℕ). take q (drop (c .layout .code) f)) n ∙ ap (λ (x : CoreTask). take (x .layout .length) (drop (x .layout .code) f)) (w .task)
 
-  pub start-in : (e : ℕ) → e ≡ c .code + c .length → (judgeCode (take (e - c .code) (drop (c .code) f)) ≡ 0) × (isStart (take (e - c .code) (drop (c .code) f)) counter ≡ true)
+  pub start-in : (e : ℕ) → e ≡ c .layout .code + c .layout .length → (judgeCode (take (e - c .layout .code) (drop (c .layout .code) f)) ≡ 0) × (isStart (take (e - c .layout .code) (drop (c .layout .code) f)) counter ≡ true)
   start-in e p = rw (code-is e p) (w .accepted .code k (w .known), w .start)
 
 -- ---- the cases with the core's task
@@ -115,19 +115,19 @@ module _ {f t : List ℕ} {k : ℕ} {c : CoreTask} {r : Registers} {d : List ℕ
   unfolding coreTask
   count-is = ap (λ (x : CoreTask). x .count) (w .task)
 
-  inputs-are : c .inputs ≡ inputSize f k
+  inputs-are : c .layout .inputs ≡ inputSize f k
   unfolding coreTask
-  inputs-are = ap (λ (x : CoreTask). x .inputs) (w .task)
+  inputs-are = ap (λ (x : CoreTask). x .layout .inputs) (w .task)
 
   -- its place
-  record-is : c .records + r .cycles * (4 + c .inputs) ≡ samplePlace f t k (r .cycles)
+  record-is : c .records + r .cycles * (4 + c .layout .inputs) ≡ samplePlace f t k (r .cycles)
   unfolding coreTask
-  record-is = ap (λ (x : CoreTask). x .records + r .cycles * (4 + x .inputs)) (w .task)
+  record-is = ap (λ (x : CoreTask). x .records + r .cycles * (4 + x .layout .inputs)) (w .task)
 
-  pub record-inside : (length t ≡ 0 → ⊥) → r .cycles < c .count → c .records + r .cycles * (4 + c .inputs) + (4 + c .inputs) ≤ length t
+  pub record-inside : (length t ≡ 0 → ⊥) → r .cycles < c .count → c .records + r .cycles * (4 + c .layout .inputs) + (4 + c .layout .inputs) ≤ length t
   record-inside b h = omega (arith, record-is, inputs-are, w .accepted .records (ne-eqb _ _ b) k (w .known) (r .cycles) (omega (arith, count-is)))
 
-  pub inputs-inside : c .inputs ≤ length d
+  pub inputs-inside : c .layout .inputs ≤ length d
   inputs-inside = omega (arith, inputs-are, w .accepted .inputs k (w .known), w .fit .size)
 
   pub spent : (h : Semaphore) → r .mode ≡ 0 → c .count ≤ r .cycles → Alone f t k r d h Idle d
@@ -141,11 +141,11 @@ module _ {f t : List ℕ} {k : ℕ} {c : CoreTask} {r : Registers} {d : List ℕ
       does-joined-0 (taskOf f t) k r d sh h (sampleAt f t k (r .cycles)) (drop (suc (r .cycles)) (samplesOf f t k)) m (samples-left f t k (r .cycles) (omega (arith, count-is))) u
 
   -- what the record holds: as it stands in the trace, or as a trace of no bytes means it
-  pub stored-time : (length t ≡ 0 → ⊥) → (x place : ℕ) → place ≡ c .records + r .cycles * (4 + c .inputs) → x ≡ readLE t place 4 → x ≡ sampleAt f t k (r .cycles) .time
+  pub stored-time : (length t ≡ 0 → ⊥) → (x place : ℕ) → place ≡ c .records + r .cycles * (4 + c .layout .inputs) → x ≡ readLE t place 4 → x ≡ sampleAt f t k (r .cycles) .time
   unfolding sampleAt
   stored-time b x place p e = e ∙ ap (λ (q : ℕ). readLE t q 4) (p ∙ record-is) ∙ sym (ap (λ (y : Sample). y .time) (pick-false _ _ _ (ne-eqb _ _ b)))
 
-  pub stored-input : (length t ≡ 0 → ⊥) → (d′ : List ℕ) (place : ℕ) → place ≡ c .records + r .cycles * (4 + c .inputs) → d′ ≡ splice d 0 (part t (place + 4) (c .inputs))
+  pub stored-input : (length t ≡ 0 → ⊥) → (d′ : List ℕ) (place : ℕ) → place ≡ c .records + r .cycles * (4 + c .layout .inputs) → d′ ≡ splice d 0 (part t (place + 4) (c .layout .inputs))
       → d′ ≡ splice d 0 (sampleAt f t k (r .cycles) .input)
   unfolding sampleAt
   stored-input b d′ place p g =
@@ -156,7 +156,7 @@ module _ {f t : List ℕ} {k : ℕ} {c : CoreTask} {r : Registers} {d : List ℕ
   unfolding sampleAt
   blank-time b = sym (ap (λ (y : Sample). y .time) (pick-true _ _ _ (eq-eqb _ _ b)))
 
-  pub blank-input : length t ≡ 0 → (d′ : List ℕ) → d′ ≡ splice d 0 (replicate (c .inputs) 0) → d′ ≡ splice d 0 (sampleAt f t k (r .cycles) .input)
+  pub blank-input : length t ≡ 0 → (d′ : List ℕ) → d′ ≡ splice d 0 (replicate (c .layout .inputs) 0) → d′ ≡ splice d 0 (sampleAt f t k (r .cycles) .input)
   unfolding sampleAt
   blank-input b d′ g =
       g ∙ ap (λ (n : ℕ). splice d 0 (replicate n 0)) inputs-are ∙ sym (ap (λ (y : Sample). splice d 0 (y .input)) (pick-true _ _ _ (eq-eqb _ _ b)))
@@ -250,17 +250,17 @@ module _ {f t : List ℕ} {k : ℕ} {c : CoreTask} {r : Registers} {d : List ℕ
 
   -- ---- mode 2: the instruction
 
-  limit-is : c .limit ≡ limit f k
+  limit-is : c .layout .limit ≡ limit f k
   unfolding coreTask
-  limit-is = ap (λ (x : CoreTask). x .limit) (w .task)
+  limit-is = ap (λ (x : CoreTask). x .layout .limit) (w .task)
 
   pub at-instruction : AtInstruction f t k c (r .counter)
   at-instruction = record { accepted = w .accepted; known = w .known; task = w .task; start = w .fit .placed .counter }
 
-  pub limit-low : (c .limit < 65536) × (r .count ≤ c .limit)
+  pub limit-low : (c .layout .limit < 65536) × (r .count ≤ c .layout .limit)
   limit-low = (omega (arith, w .accepted .limits k (w .known), limit-is), omega (arith, w .fit .counts, limit-is))
 
-  pub executable : (e : ℕ) → e ≡ c .code + c .length → Executable (take (e - c .code) (drop (c .code) f)) r d
+  pub executable : (e : ℕ) → e ≡ c .layout .code + c .layout .length → Executable (take (e - c .layout .code) (drop (c .layout .code) f)) r d
   executable e p = rw (code-is at-instruction e p) record {
     accepted = w .accepted .code k (w .known);
     short = omega (arith, w .accepted .code-length k (w .known), core-facts f (w .accepted .file) k (w .known) .code-length);
@@ -270,28 +270,28 @@ module _ {f t : List ℕ} {k : ℕ} {c : CoreTask} {r : Registers} {d : List ℕ
 
   -- the code is short
   pub counter-low : r .counter < 8192
-  counter-low = let x = executable (c .code + c .length) refl in omega (arith, inside-code _ _ _ x, x .short)
+  counter-low = let x = executable (c .layout .code + c .layout .length) refl in omega (arith, inside-code _ _ _ x, x .short)
 
   module _ (x : Core) (p : x .registers ≡ r) (q : x .memory ≡ d) where
-    at-limit : r .count ≡ c .limit → taskOf f t .instruction k x ≡ applied (halted 1 d) x
+    at-limit : r .count ≡ c .layout .limit → taskOf f t .instruction k x ≡ applied (halted 1 d) x
     unfolding taskOf instructionBy limited
     at-limit e =
         ap (λ (y : Executed). applied y x)
         (pick-true _ _ _ (eq-eqb (x .registers .count) (limit f k) (ap (λ (u : Registers). u .count) p ∙ e ∙ limit-is)) ∙ ap (halted 1) q)
 
-    below-limit : r .count ≢ c .limit → taskOf f t .instruction k x ≡ applied (executed (codeOf f k) r d) x
+    below-limit : r .count ≢ c .layout .limit → taskOf f t .instruction k x ≡ applied (executed (codeOf f k) r d) x
     unfolding taskOf instructionBy limited
     below-limit n =
         ap (λ (y : Executed). applied y x)
         (pick-false _ _ _ (ne-eqb (x .registers .count) (limit f k) (λ z. n (sym (ap (λ (u : Registers). u .count) p) ∙ z ∙ sym limit-is)))
         ∙ ap₂ (executed (codeOf f k)) p q)
 
-  pub limit-reached : (h : Semaphore) → r .mode ≡ 2 → r .count ≡ c .limit → Alone f t k r d h (effectOf (r .depth) (Failed 1)) d
+  pub limit-reached : (h : Semaphore) → r .mode ≡ 2 → r .count ≡ c .layout .limit → Alone f t k r d h (effectOf (r .depth) (Failed 1)) d
   limit-reached h m e sh =
       does-instruction (taskOf f t) k r d sh h (halted 1 d) d m (λ x p q. at-limit x p q e) refl refl (omega arith)
 
-  pub instruction-done : (h : Semaphore) (e : ℕ) (o : Outcome) (d′ : List ℕ) → r .mode ≡ 2 → r .count ≢ c .limit → e ≡ c .code + c .length
-      → answer o d′ ≡ executed (take (e - c .code) (drop (c .code) f)) r d → Alone f t k r d h (effectOf (r .depth) o) d′
+  pub instruction-done : (h : Semaphore) (e : ℕ) (o : Outcome) (d′ : List ℕ) → r .mode ≡ 2 → r .count ≢ c .layout .limit → e ≡ c .layout .code + c .layout .length
+      → answer o d′ ≡ executed (take (e - c .layout .code) (drop (c .layout .code) f)) r d → Alone f t k r d h (effectOf (r .depth) o) d′
   instruction-done h e o d′ m n p a sh =
       let b : answer o d′ ≡ executed (codeOf f k) r d = a ∙ ap (λ (u : List ℕ). executed u r d) (code-is at-instruction e p) in
       let offset : r .offset < length d = omega (arith, w .fit .placed .offset, w .fit .size) in
@@ -321,40 +321,40 @@ module _ {f t : List ℕ} {k : ℕ} {c : CoreTask} {r : Registers} (d : List ℕ
   unfolding sizesOf
   core-at = omega (arith, length-listed (dataSize f) (cores f) 0, w .known)
 
-  base-is : c .base ≡ start (sizesOf f) k
+  base-is : c .layout .base ≡ start (sizesOf f) k
   unfolding coreTask
-  base-is = ap (λ (x : CoreTask). x .base) (w .task)
+  base-is = ap (λ (x : CoreTask). x .layout .base) (w .task) ∙ base-start f k (omega (arith, w .known))
 
-  size-is : c .size ≡ getD (sizesOf f) k 0
+  size-is : c .layout .size ≡ getD (sizesOf f) k 0
   unfolding coreTask
-  size-is = ap (λ (x : CoreTask). x .size) (w .task) ∙ sym size-at
+  size-is = ap (λ (x : CoreTask). x .layout .size) (w .task) ∙ sym size-at
 
-  pub stretch-inside : c .base + c .size ≤ length d
+  pub stretch-inside : c .layout .base + c .layout .size ≤ length d
   stretch-inside = omega (arith, base-is, size-is, start-end (sizesOf f) k core-at, n)
 
   -- the limit is reached: a fault, and the buffer stays
-  pub limit-in : r .mode ≡ 2 → r .count ≡ c .limit → InstructsIn f t k r d (Failed 1) d
+  pub limit-in : r .mode ≡ 2 → r .count ≡ c .layout .limit → InstructsIn f t k r d (Failed 1) d
   limit-in i j h sh = record {
     memory = getD (split (sizesOf f) d) k [];
     does = limit-reached w h i j sh;
     kept = sym (set-getD (split (sizesOf f) d) k []);
   }
 
-  module _ (e : ℕ) (p : e ≡ c .base + c .size) where
-    pub stretch-is : take (e - c .base) (drop (c .base) d) ≡ getD (split (sizesOf f) d) k []
+  module _ (e : ℕ) (p : e ≡ c .layout .base + c .layout .size) where
+    pub stretch-is : take (e - c .layout .base) (drop (c .layout .base) d) ≡ getD (split (sizesOf f) d) k []
     stretch-is =
-        let l : e - c .base ≡ getD (sizesOf f) k 0 = omega (arith, size-is) in
+        let l : e - c .layout .base ≡ getD (sizesOf f) k 0 = omega (arith, size-is) in
         ap₂ (λ (i j : ℕ). take i (drop j d)) l base-is ∙ sym (split-at (sizesOf f) d k core-at)
 
-    pub stretch-kept : (m : List ℕ) → length m ≡ length (take (e - c .base) (drop (c .base) d))
-        → split (sizesOf f) (take (c .base) d ++ (m ++ drop (e - c .base) (drop (c .base) d))) ≡ set (split (sizesOf f) d) k m
+    pub stretch-kept : (m : List ℕ) → length m ≡ length (take (e - c .layout .base) (drop (c .layout .base) d))
+        → split (sizesOf f) (take (c .layout .base) d ++ (m ++ drop (e - c .layout .base) (drop (c .layout .base) d))) ≡ set (split (sizesOf f) d) k m
     stretch-kept m l =
-        stretch-set (sizesOf f) d m k (c .base) e core-at (n) base-is (omega (arith, size-is)) (l ∙ ap length stretch-is)
+        stretch-set (sizesOf f) d m k (c .layout .base) e core-at (n) base-is (omega (arith, size-is)) (l ∙ ap length stretch-is)
 
     -- the step in the stretch is the step in the buffer
-    pub steps-in : (h : Semaphore) (z : Effect) (m sh sh′ : List ℕ) → Does (taskOf f t) k r (take (e - c .base) (drop (c .base) d)) sh h z m sh′
-        → length m ≡ length (take (e - c .base) (drop (c .base) d))
-        → Steps f t k r d sh h z (take (c .base) d ++ (m ++ drop (e - c .base) (drop (c .base) d))) sh′
+    pub steps-in : (h : Semaphore) (z : Effect) (m sh sh′ : List ℕ) → Does (taskOf f t) k r (take (e - c .layout .base) (drop (c .layout .base) d)) sh h z m sh′
+        → length m ≡ length (take (e - c .layout .base) (drop (c .layout .base) d))
+        → Steps f t k r d sh h z (take (c .layout .base) d ++ (m ++ drop (e - c .layout .base) (drop (c .layout .base) d))) sh′
     steps-in h z m sh sh′ q l = record {
       memory = m;
       does = subst (λ (u : List ℕ). Does (taskOf f t) k r u sh h z m sh′) stretch-is q;
@@ -362,27 +362,27 @@ module _ {f t : List ℕ} {k : ℕ} {c : CoreTask} {r : Registers} (d : List ℕ
     }
 
     -- an instruction in the stretch is one in the buffer; u is where the code ends
-    module _ (u : ℕ) (q : u ≡ c .code + c .length) where
-      here : StepGiven f t k c r (take (e - c .base) (drop (c .base) d))
+    module _ (u : ℕ) (q : u ≡ c .layout .code + c .layout .length) where
+      here : StepGiven f t k c r (take (e - c .layout .base) (drop (c .layout .base) d))
       here = subst⁻¹ (StepGiven f t k c r) stretch-is w
 
-      pub executable-in : Executable (take (u - c .code) (drop (c .code) f)) r (take (e - c .base) (drop (c .base) d))
+      pub executable-in : Executable (take (u - c .layout .code) (drop (c .layout .code) f)) r (take (e - c .layout .base) (drop (c .layout .base) d))
       executable-in = executable here u q
 
-      pub command-in : {op : ℕ} → byte (codeOf f k) (r .counter) ≡ op → byte (take (u - c .code) (drop (c .code) f)) (r .counter) ≡ op
+      pub command-in : {op : ℕ} → byte (codeOf f k) (r .counter) ≡ op → byte (take (u - c .layout .code) (drop (c .layout .code) f)) (r .counter) ≡ op
       command-in i = ap (λ (y : List ℕ). byte y (r .counter)) (code-is (at-instruction w) u q) ∙ i
 
-      pub instructs-in : r .mode ≡ 2 → r .count ≢ c .limit → (o : Outcome) (m : List ℕ)
-          → answer o m ≡ executed (take (u - c .code) (drop (c .code) f)) r (take (e - c .base) (drop (c .base) d)) → length m ≡ length (take (e - c .base) (drop (c .base) d))
-          → InstructsIn f t k r d o (take (c .base) d ++ (m ++ drop (e - c .base) (drop (c .base) d)))
+      pub instructs-in : r .mode ≡ 2 → r .count ≢ c .layout .limit → (o : Outcome) (m : List ℕ)
+          → answer o m ≡ executed (take (u - c .layout .code) (drop (c .layout .code) f)) r (take (e - c .layout .base) (drop (c .layout .base) d)) → length m ≡ length (take (e - c .layout .base) (drop (c .layout .base) d))
+          → InstructsIn f t k r d o (take (c .layout .base) d ++ (m ++ drop (e - c .layout .base) (drop (c .layout .base) d)))
       instructs-in i j o m a l h sh = steps-in h (effectOf (r .depth) o) m sh sh (instruction-done here h u o m i j q a sh) l
 
     -- several bytes in the stretch are those in the buffer
-    pub bytes-read-in : (x count : ℕ) (m sh : List ℕ) → m ≡ copy (take count (drop x (readsOf (variablesOf f) k))) sh (take (e - c .base) (drop (c .base) d))
-        → length m ≡ length (take (e - c .base) (drop (c .base) d)) → BytesRead f k x count sh d (take (c .base) d ++ (m ++ drop (e - c .base) (drop (c .base) d)))
+    pub bytes-read-in : (x count : ℕ) (m sh : List ℕ) → m ≡ copy (take count (drop x (readsOf (variablesOf f) k))) sh (take (e - c .layout .base) (drop (c .layout .base) d))
+        → length m ≡ length (take (e - c .layout .base) (drop (c .layout .base) d)) → BytesRead f k x count sh d (take (c .layout .base) d ++ (m ++ drop (e - c .layout .base) (drop (c .layout .base) d)))
     bytes-read-in x count m sh q l =
         stretch-kept m l ∙ ap (set (split (sizesOf f) d) k) (q ∙ ap (copy (take count (drop x (readsOf (variablesOf f) k))) sh) stretch-is)
 
-    pub bytes-written-in : (x count : ℕ) (sh sh′ : List ℕ) → sh′ ≡ copy (take count (drop x (writesOf (variablesOf f) k))) (take (e - c .base) (drop (c .base) d)) sh
+    pub bytes-written-in : (x count : ℕ) (sh sh′ : List ℕ) → sh′ ≡ copy (take count (drop x (writesOf (variablesOf f) k))) (take (e - c .layout .base) (drop (c .layout .base) d)) sh
         → BytesWritten f k x count d sh sh′
     bytes-written-in x count sh sh′ q = q ∙ ap (λ (l : List ℕ). copy (take count (drop x (writesOf (variablesOf f) k))) l sh) stretch-is

@@ -44,7 +44,7 @@ pub record InstructionGiven (f t : List ℕ) (k : ℕ) (c : CoreTask) (r : Regis
   pub ready : StepGiven f t k c r (getD (split (sizesOf f) d) k [])
   pub buffer : length d ≡ total (sizesOf f)
   pub executes : r .mode ≡ executing
-  pub below-limit : r .count ≢ c .limit
+  pub below-limit : r .count ≢ c .layout .limit
   pub command : byte (codeOf f k) (r .counter) ≡ op
 
 -- ---- an exchange

@@ -73,11 +73,11 @@ pub fn take_record(
         × (now (d .exit) ≡ splice (now (d .entry)) 0 (sampleAt (now (file .entry)) (now (trace .entry)) k (r .cycles) .input)) ⌝ }
 {
     if trace.len() == 0 {
-        clear(d, c.inputs);
+        clear(d, c.layout.inputs);
         return 0;
     }
-    let place = c.records + r.cycles as usize * (4 + c.inputs);
-    memory::copy(d, 0, trace, place + 4, c.inputs);
+    let place = c.records + r.cycles as usize * (4 + c.layout.inputs);
+    memory::copy(d, 0, trace, place + 4, c.layout.inputs);
     memory::load(trace, place, 4) as u32
 }
 
@@ -213,8 +213,8 @@ pub fn exchange_of(
     requires { ⌜ ExchangeGiven (now file) (now trace) k c r (now buffer) (now shared) end cursor × (r .mode ≢ executing) ⌝ }
     ensures { λ z. ⌜ ExchangesIn (now (file .entry)) (now (trace .entry)) k r (now (buffer .entry)) (now (shared .entry)) turn z (now (buffer .exit)) (now (shared .exit)) ⌝ }
 {
-    let a = c.base;
-    let e = a + c.size;
+    let a = c.layout.base;
+    let e = a + c.layout.size;
     exchange_in(
         r,
         k,
@@ -265,8 +265,8 @@ pub fn move_bytes(
     requires { ⌜ ExchangeGiven (now file) (now trace) k c r (now buffer) (now shared) end cursor × Ahead c r count ⌝ }
     ensures { λ z. ⌜ BytesMoved (now (file .entry)) k r count z (now (buffer .entry)) (now (shared .entry)) (now (buffer .exit)) (now (shared .exit)) ⌝ }
 {
-    let a = c.base;
-    let e = a + c.size;
+    let a = c.layout.base;
+    let e = a + c.layout.size;
     if r.mode == READING {
         return exchange::bring_bytes(
             file,

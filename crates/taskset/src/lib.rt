@@ -103,7 +103,7 @@ pub struct Loaded {
     pub layout: Layout,
 }
 
-fn no_core() -> CoreLayout
+pub fn no_core() -> CoreLayout
     ensures { λ r. ⌜ r ≡ noCore ⌝ }
 {
     CoreLayout {

@@ -38,17 +38,17 @@ loop-again c = (
       let turn = after-write-line .before .before .before .before in
       let after-table-of = turn .before .before in
       let start = after-table-of .before .before in
-      let h : turn .loop .k < min (start .args .n) (length (after-table-of .cores-of .result)) = omega (arith, after-table-of .cores-of .ensures .1) in
-      writing-more (coreLine (turn .loop .k) (getD (after-table-of .cores-of .result) (turn .loop .k) noRegisters))
-      (coreLines (turn .loop .k + 1) (drop (turn .loop .k + 1) (take (start .args .n) (after-table-of .cores-of .result))))
-      (turn .loop .inv .3) (first-line (after-table-of .cores-of .result) (start .args .n) (turn .loop .k) noRegisters h)
+      let h : turn .loop .k < min (start .args .n) (length (after-table-of .table-of .result)) = omega (arith, after-table-of .table-of .ensures .1) in
+      writing-more (coreLine (turn .loop .k) (getD (after-table-of .table-of .result) (turn .loop .k) noRegisters))
+      (coreLines (turn .loop .k + 1) (drop (turn .loop .k + 1) (take (start .args .n) (after-table-of .table-of .result))))
+      (turn .loop .inv .3) (first-line (after-table-of .table-of .result) (start .args .n) (turn .loop .k) noRegisters h)
       (after-write-line .write-line .ensures .0) (after-write-line .write-line .ensures .1),
 )
 
 returns : tie.Need-returns Inv-loop μ-loop
 returns c =
-    let w = writing-end (c .before .loop .inv .3) (last-line (c .before .before .before .cores-of .result) (c .before .before .before .before .before .args .n) (c .before .loop .k) (omega (arith, c .before .before .before .cores-of .ensures .1))) in
-    rw (sym (c .before .before .before .cores-of .ensures .0)) (w .0, w .1, omega arith)
+    let w = writing-end (c .before .loop .inv .3) (last-line (c .before .before .before .table-of .result) (c .before .before .before .before .before .args .n) (c .before .loop .k) (omega (arith, c .before .before .before .table-of .ensures .1))) in
+    rw (sym (c .before .before .before .table-of .ensures .0)) (w .0, w .1, omega arith)
 
 pub write-lines-spec : {M : Type 1} → statement M
 write-lines-spec =

@@ -25,7 +25,7 @@ returns-2 c =
     let measured = room .before .before in
     let a = measured .before .before .before .before .args in
     text-short (listing (a .n) (a .s) (take (a .taken) (a .list .now))) (a .out .now)
-    (omega (arith, length-listing (a .n) (a .s) (a .list .now) (a .taken), measured .write-head .ensures .1, room .if1 .left, counted .lesser .ensures, c .if2 .taken))
+    (omega (arith, length-listing (a .n) (a .s) (a .list .now) (a .taken), measured .write-head .ensures .1, room .if1 .left, counted .least .ensures, c .if2 .taken))
 
 write-takings-requires : tie.Need-write-takings-requires
 write-takings-requires c κs =
@@ -34,7 +34,7 @@ write-takings-requires c κs =
     let counted = fits .before in
     let room = counted .before in
     let measured = room .before .before in
-    omega (arith, measured .before .before .before .before .good, measured .write-head .ensures .1, wrote .write-head2 .ensures .1, room .if1 .left, counted .lesser .ensures, fits .if2 .left)
+    omega (arith, measured .before .before .before .before .good, measured .write-head .ensures .1, wrote .write-head2 .ensures .1, room .if1 .left, counted .least .ensures, fits .if2 .left)
 
 put-byte-requires : tie.Need-put-byte-requires
 put-byte-requires c κs =
@@ -44,7 +44,7 @@ put-byte-requires c κs =
     let counted = fits .before in
     let room = counted .before in
     let measured = room .before .before in
-    omega (arith, measured .before .before .before .before .good, listed .write-takings .ensures .2, measured .write-head .ensures .1, wrote .write-head2 .ensures .1, room .if1 .left, counted .lesser .ensures, fits .if2 .left)
+    omega (arith, measured .before .before .before .before .good, listed .write-takings .ensures .2, measured .write-head .ensures .1, wrote .write-head2 .ensures .1, room .if1 .left, counted .least .ensures, fits .if2 .left)
 
 returns-3 : tie.Need-returns-3
 returns-3 c =
@@ -64,7 +64,7 @@ returns-3 c =
     refl (listed .write-takings .ensures .0) (listed .write-takings .ensures .1))
     (ended .put-byte .ensures .0) (ended .put-byte .ensures .1) in
     text-written (listing (a .n) (a .s) l) (a .out .now)
-    (omega (arith, length-listing (a .n) (a .s) (a .list .now) (a .taken), measured .write-head .ensures .1, room .if1 .left, counted .lesser .ensures, fits .if2 .left))
+    (omega (arith, length-listing (a .n) (a .s) (a .list .now) (a .taken), measured .write-head .ensures .1, room .if1 .left, counted .least .ensures, fits .if2 .left))
     (w .1 ∙ zero-add _) (w .0)
 
 pub write-listing-spec : {M : Type 1} → statement M

@@ -286,7 +286,7 @@ returns-5 c =
 pub run-core-spec : {M : Type 1} → statement M
 run-core-spec =
     tie.close
-    (tie.spec Inv-loop μ-loop (λ c. search needs) add-reach faulted-requires (λ c κs. search needs) returns (λ c. search needs) sub-stretch-end
+    (tie.spec Inv-loop μ-loop add-reach faulted-requires (λ c κs. search needs) returns sub-stretch-end (λ c. search needs)
     stretch-end-requires loop-holds sub-placed-at placed-at-requires command-of-requires has-three-requires typed-of-requires (λ c. search needs)
     add-counter add-reach-2 (λ c κs. search needs) (λ c κs. search needs) same-length returns-2 other-of-requires (λ c. search needs) add-reach-3
     faulted-requires-2 (λ c κs. search needs) same-length-2 returns-3 (λ c. search needs) (λ c. search needs) set-entry-requires set-entry-requires-2

@@ -33,16 +33,16 @@ third-first false b false d = refl
 
 -- the code that is lent
 abbrev lent : List ℕ → CoreTask → List ℕ
-lent f task = take (task .code + task .length - task .code) (drop (task .code) f)
+lent f task = take (task .layout .code + task .layout .length - task .layout .code) (drop (task .layout .code) f)
 
 module _ (f t : List ℕ) (k : ℕ) (task : CoreTask) (e : task ≡ coreTask f t k) where
   code-is : lent f task ≡ codeOf f k
   unfolding coreTask part
   code-is =
-      let n : task .code + task .length - task .code ≡ task .length = omega arith in
+      let n : task .layout .code + task .layout .length - task .layout .code ≡ task .layout .length = omega arith in
       rw (n, e)
 
-  inside : AcceptedSet f t → k < cores f → task .code + task .length ≤ length f
+  inside : AcceptedSet f t → k < cores f → task .layout .code + task .layout .length ≤ length f
   unfolding coreTask
   inside ok h = rw e (ok .code-inside k h)
 
@@ -60,7 +60,7 @@ module _ (f t : List ℕ) (k : ℕ) (task : CoreTask) (e : task ≡ coreTask f t
   freed s = freedFit (getD (s .cores) k noRegisters) (entry (s .places) k) (entry (s .offsets) k)
 
   abbrev executes : Held → Bool
-  executes s = executionFit (lent f task) (task .size) (task .limit) (getD (s .cores) k noRegisters) (entry (s .places) k) (entry (s .offsets) k)
+  executes s = executionFit (lent f task) (task .layout .size) (task .layout .limit) (getD (s .cores) k noRegisters) (entry (s .places) k) (entry (s .offsets) k)
 
   abbrev exchanges : Held → Bool
   exchanges s = exchangesFit (task .reads) (task .writes) (task .count) (s .semaphore .holder) k (getD (s .cores) k noRegisters)
