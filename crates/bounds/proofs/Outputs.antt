@@ -1,13 +1,11 @@
 -- The answer in lent places. In order: the refusal; numbers stored at the front of a lent list; what the call leaves.
 -- Not here: the answer by value (proofs/Answer). Assumes nothing.
 use mathlib.Core.Path.{_≡_, refl, sym, ap, _∙_}
-use mathlib.Core.Bool.{Bool, true, false}
 use mathlib.Core.List.{List, [], _∷_}
 use Prim.Native.Nat.{ℕ, _+_, _≤_, _<_}
 use native.Mathlib.Omega.{arith}
 use borrow.Author.Tests.{le-leb, leb-true, eq-eqb, ne-eqb}
 use lib.ListN.{length, getD, set}
-use Rattle.verdict.specs.Verdict.{pick}
 use Rattle.verdict.proofs.Verdict.{pick-true, pick-false, skip, stop, yes, no, next-zero, unless-zero, both-true, both-not}
 use Rattle.verdict.proofs.Truth.{both-skip}
 use Rattle.memory.specs.Memory.{splice, part}
@@ -16,7 +14,7 @@ use Rattle.memory.proofs.Turns.{part-snoc}
 use Rattle.taskset.proofs.Exact.{keeps-rules}
 use Rattle.bounds.specs.declared.Taken.{Taken}
 use Rattle.bounds.specs.Bounds.{takesOf}
-use Rattle.bounds.specs.Outputs.{outputRefusal, Outputs, outputs, takesLent}
+use Rattle.bounds.specs.Outputs.{outputRefusal, outputs, takesLent}
 use Rattle.bounds.proofs.Answer.{file-accepted, answer-is}
 
 -- ---- the refusal

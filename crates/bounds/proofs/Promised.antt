@@ -1,14 +1,11 @@
 -- What the call answers of a file holds of every list of steps and of every list of calls from the fresh state. Not here: one core through every step
 -- (proofs/Spared); that the numbers are the greatest (proofs/Greatest). Assumes nothing.
 use mathlib.Core.Path.{_≡_, refl, sym, ap, _∙_, subst}
-use mathlib.Core.Bool.{Bool, true, false}
 use mathlib.Core.List.{List}
 use Prim.Native.Nat.{ℕ, _-_, _<_}
 use native.Mathlib.Omega.{arith}
-use borrow.Author.Tests.{lt-ltb, eqb-true, eq-eqb}
-use lib.Dec.{eqb}
+use borrow.Author.Tests.{lt-ltb}
 use lib.ListN.{length, getD}
-use Rattle.verdict.specs.Verdict.{pick}
 use Rattle.verdict.proofs.Verdict.{pick-true, next-zero, unless-zero, first-zero}
 use Rattle.records.specs.File.{cores, limit}
 use Rattle.taskset.specs.Judge.{codeOf, judge}
@@ -22,7 +19,7 @@ use Rattle.calls.specs.Calling.{Call, stepsOf}
 use Rattle.calls.proofs.Calling.{calls-interleaved}
 use Rattle.bounds.specs.declared.Taken.{Taken}
 use Rattle.bounds.specs.Paths.{Greatest}
-use Rattle.bounds.specs.Bounds.{longest, deepest, allRise, boundsRefusal, coresRefusal, takesRefusal, longestOf, deepestOf, takesIn, takesOf}
+use Rattle.bounds.specs.Bounds.{longest, deepest, allRise, boundsRefusal, coresRefusal, takesRefusal, longestOf, deepestOf, takesOf}
 use Rattle.bounds.specs.Promised.{countIn, depthIn, Spared, Promised, CallsPromised}
 use Rattle.bounds.proofs.Rising.{Rising, rising}
 use Rattle.bounds.proofs.Greatest.{greatest}

@@ -4,12 +4,12 @@ use taskset::Layout;
 ghost use mathlib.Core.Path.{_≡_};
 ghost use mathlib.Core.Bool.{true};
 ghost use mathlib.Core.List.{[], _∷_};
-ghost use Prim.Native.Nat.{ℕ, _+_, _<_, _≤_, min, max};
+ghost use Prim.Native.Nat.{_+_, _<_, _≤_, min, max};
 ghost use lib.ListN.{length};
 ghost use Rattle.memory.specs.Memory.{byte, splice, part};
 ghost use Rattle.code.specs.Commands.{lengthOf};
 ghost use Rattle.code.specs.Flow.{kindAt, targetAt};
-ghost use Rattle.code.specs.Code.{isStart, judgeCode};
+ghost use Rattle.code.specs.Code.{judgeCode};
 ghost use Rattle.records.specs.File.{cores};
 ghost use Rattle.taskset.specs.Judge.{codeOf, judge};
 ghost use Rattle.taskset.specs.Layout.{layoutOf};
@@ -243,7 +243,7 @@ fn takes_in(file: &[u8], layout: Layout) -> Taken
         depth[k] = b.depth;
         k = k + 1;
     }
-    let buffer = taskset::sum_of_sizes(file, layout);
+    let buffer = file_loading::sum_of_sizes(file, layout);
     Taken {
         refusal: 0,
         buffer,
@@ -258,7 +258,7 @@ fn takes_in(file: &[u8], layout: Layout) -> Taken
 pub fn takes(file: &[u8]) -> Taken
     ensures { λ r. ⌜ r ≡ takesOf (now (file .entry)) ⌝ }
 {
-    let loaded = taskset::load_file(file);
+    let loaded = file_loading::load_file(file);
     if loaded.refusal != 0 {
         return none(loaded.refusal);
     }

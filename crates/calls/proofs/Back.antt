@@ -1,29 +1,29 @@
 -- A caller's state and the state of crate protocol carry the same: from one to the other and back nothing is lost. In order: places of stack
 -- entries; back from a fit state; back from a caller's state; one after another. Assumes nothing.
-use mathlib.Core.Path.{_≡_, refl, sym, ap, ap₂, _∙_, subst}
+use mathlib.Core.Path.{_≡_, refl, sym, ap, _∙_, subst}
 use mathlib.Core.Bool.{Bool, true, false}
-use mathlib.Core.List.{List, [], _∷_, map}
-use Prim.Native.Nat.{ℕ, zero, suc, _+_, _*_, _/_, _%_, _≤_, _<_}
+use mathlib.Core.List.{List, [], map}
+use Prim.Native.Nat.{ℕ, _+_, _*_, _/_, _%_, _≤_, _<_}
 use native.Mathlib.Nat.{mod-lt, div-add-mod'}
 use native.Mathlib.Omega.{arith}
-use borrow.Author.Tests.{lt-ltb, ltb-true, ltb-false}
+use borrow.Author.Tests.{lt-ltb, ltb-true}
 use lib.Dec.{ltb}
 use lib.ListN.{length, getD, length-map}
 use lib.Seq.{ext-getD}
 use Rattle.verdict.specs.Verdict.{pick}
 use Rattle.verdict.proofs.Verdict.{pick-true}
-use Rattle.memory.specs.Memory.{part, split, flat, total}
+use Rattle.memory.specs.Memory.{part, split, total}
 use Rattle.memory.proofs.Laws.{length-part}
 use Rattle.memory.proofs.Cores.{split-flat-of, length-flat}
 use Rattle.protocol.specs.declared.Registers.{Registers}
 use Rattle.protocol.specs.declared.Stack.{Stack}
 use Rattle.protocol.specs.State.{Core, Semaphore, State, core, absent}
-use Rattle.records.specs.File.{cores, dataSize}
+use Rattle.records.specs.File.{cores}
 use Rattle.taskset.specs.Task.{listed, sizesOf}
 use Rattle.taskset.proofs.Accepted.{length-listed, listed-at, sizes-length, sizes-at}
 use Rattle.protocol.proofs.Fair.{few-below}
 use Rattle.semaphore.specs.declared.Semaphore.{Semaphore as HeldSemaphore}
-use Rattle.semaphore.specs.Line.{semaphoreOf, semaphoreBack}
+use Rattle.semaphore.specs.Line.{semaphoreOf}
 use Rattle.semaphore.proofs.Laws.{of-back}
 use Rattle.states.specs.declared.Held.{Held}
 use Rattle.states.specs.Machine.{noRegisters, stackIn, coreIn, stateIn, stateOf, registersBack, entryBack, heldAfter, dataOf, Sized}

@@ -9,17 +9,17 @@ use native.Mathlib.Omega.{arith}
 use borrow.Author.Tests.{lt-ltb, ltb-true, eq-eqb, ne-eqb, eqb-true, eqb-false}
 use lib.Dec.{eqb}
 use lib.Seq.{take-all}
-use lib.ListN.{length, getD, replicate, take, length-take, length-append, take-append-drop, drop-of-length-le, length-map, length-replicate, getD-replicate}
-use Rattle.verdict.specs.Verdict.{pick, both}
+use lib.ListN.{length, getD, replicate, length-take, length-append, take-append-drop, drop-of-length-le, length-map, length-replicate, getD-replicate}
+use Rattle.verdict.specs.Verdict.{pick}
 use Rattle.verdict.proofs.Verdict.{pick-true, pick-false, by-pick, next-none, next-zero, unless-zero, both-true}
-use Rattle.memory.specs.Memory.{total, split, flat, part, splice}
+use Rattle.memory.specs.Memory.{total, part}
 use Rattle.memory.proofs.Cores.{split-flat-of}
 use Rattle.protocol.specs.declared.Registers.{Registers}
 use Rattle.protocol.specs.State.{Core, Semaphore, State, core, absent, cleared}
 use Rattle.protocol.specs.Step.{step, run, takingOf, takings, encoded}
 use Rattle.protocol.proofs.Steps.{run-append, takings-append}
 use Rattle.protocol.specs.Fresh.{freshCore}
-use Rattle.records.specs.File.{cores, dataSize}
+use Rattle.records.specs.File.{cores}
 use Rattle.taskset.specs.Judge.{judge}
 use Rattle.taskset.specs.Trace.{traceRefusal}
 use Rattle.taskset.specs.Task.{sizesOf}
@@ -32,7 +32,7 @@ use Rattle.states.specs.Set.{AcceptedSet}
 use Rattle.semaphore.specs.Line.{semaphoreOf}
 use Rattle.semaphore.proofs.Laws.{of-back}
 use Rattle.states.specs.Machine.{noRegisters, coreIn, stateIn, Sized, stateOf, heldAfter, dataOf}
-use Rattle.states.specs.Fit.{Fit, stateRefusal}
+use Rattle.states.specs.Fit.{Fit}
 use Rattle.states.specs.Preparing.{heldRefusal}
 use Rattle.states.proofs.Accepted.{accepted-set}
 use Rattle.states.proofs.Exactly.{not-refused, fit-accepted}
@@ -40,7 +40,7 @@ use Rattle.states.proofs.Executes.{executes}
 use Rattle.states.proofs.Kept.{fit-kept}
 use Rattle.states.proofs.Fresh.{fresh-fit}
 use Rattle.runner.specs.Runs.{Left, leftAs, allBelow, ranCall}
-use Rattle.machine.specs.Calls.{lentFits, callRefusal, answerOf, tableOf, freshRefusal, freshCall, runRefusal, runCall, stepRefusal, stepped, stepCall}
+use Rattle.machine.specs.Calls.{lentFits, answerOf, tableOf, freshRefusal, freshCall, runRefusal, runCall, stepRefusal, stepped, stepCall}
 use Rattle.calls.specs.Calling.{Lending, entire, front, lentOf, replaced, Call, stepping, running, restored, leaves, calls, stepCalls, wholeOf, countsAs, stepsOf, takenOf, Unchanged, tidied, RunIsSteps, CallsInterleaved}
 use Rattle.runner.proofs.Running.{shared-in}
 use Rattle.runner.proofs.End.{listed-is, data-back}

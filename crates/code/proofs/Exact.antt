@@ -14,7 +14,6 @@ use Rattle.verdict.specs.Items.{OneOf, item, forEach, First}
 use Rattle.verdict.proofs.Verdict.{next-zero, next-none, unless-zero, yes}
 use Rattle.verdict.proofs.Items.{Judges, judges-none, judges-one, judges-both, judged}
 use Rattle.memory.specs.Memory.{byte}
-use Rattle.code.specs.Instructions.{instructionAt}
 use Rattle.code.specs.Flow.{kindAt, goesTo, targetAt, after}
 use Rattle.code.specs.declared.Profile.{Profile}
 use Rattle.code.specs.declared.Profile.the-variants.{Full, Small}

@@ -20,7 +20,6 @@ use Rattle.code.specs.Code.{operandsOk, instructionOk, instructionRefusa
 use Rattle.code.specs.Judging.{LengthKnown}
 use Rattle.code.specs.declared.Profile.{Profile}
 use Rattle.code.specs.declared.Profile.the-variants.{Full, Small}
-use Rattle.code.specs.declared.Instruction.{Instruction}
 use Rattle.code.specs.declared.Instruction.the-variants.{Unknown}
 
 -- b is k, or it is not

@@ -15,7 +15,6 @@ use Rattle.verdict.proofs.Verdict.{absurd-bool, skip, stop, halt, no, next-zero
 use Rattle.memory.specs.Memory.{byte}
 use Rattle.code.specs.Flow.{kindAt, goesTo, targetAt, after}
 use Rattle.code.specs.declared.Profile.{Profile}
-use Rattle.code.specs.Instructions.{instructionAt}
 use Rattle.code.specs.Profiles.{typesAt, carries}
 use Rattle.code.specs.Code.{instructionRefusal, laid, startFrom, isStart, allFrom, targetOk, lastFrom, acceptedLength, judgeCodeFor}
 use Rattle.code.specs.Judging.{Asked, TargetAsked, Pass, AllMet}

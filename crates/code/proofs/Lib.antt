@@ -5,4 +5,3 @@ pub mod Laying
 pub mod Rules
 pub mod Types
 pub mod Exact
-pub mod Parts

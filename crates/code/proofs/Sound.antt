@@ -9,7 +9,7 @@ use native.Mathlib.Omega.{arith}
 use borrow.Author.Tests.{ltb-true, ltb-false, eqb-true}
 use lib.Dec.{ltb, eqb}
 use lib.ListN.{length}
-use Rattle.verdict.specs.Verdict.{pick, next, unless}
+use Rattle.verdict.specs.Verdict.{pick, unless}
 use Rattle.verdict.proofs.Verdict.{absurd-bool, next-zero, unless-zero}
 use Rattle.memory.specs.Memory.{byte}
 use Rattle.code.specs.Flow.{kindAt, goesOn, goesTo, targetAt, after}

@@ -1,12 +1,10 @@
 -- Document 01, the code of one core: which instructions are refused (6; 27 by the profile, document 02, 2.10), where instructions start, which targets and
 -- which end are refused (7).
 -- In order: one instruction; instructions laid end to end; targets and the last instruction; the judgement.
-use Prim.Native.Nat.{ℕ, zero, suc, _+_, _%_, _≤_, _<_}
-use mathlib.Core.Path.{_≡_}
-use mathlib.Core.Logic.{_⊎_}
+use Prim.Native.Nat.{ℕ, zero, suc, _+_, _%_}
 use mathlib.Core.List.{List}
 use mathlib.Core.Bool.{Bool, true, false}
-use lib.ListN.{length, getD}
+use lib.ListN.{length}
 use lib.Dec.{ltb, leb, eqb}
 use Rattle.verdict.specs.Numbers.{badInstruction, badTarget, wideType}
 use Rattle.verdict.specs.Verdict.{pick, both, either, within, next, unless}

@@ -9,6 +9,7 @@ ghost use mathlib.Core.Path.{_≡_};
 ghost use Prim.Native.Nat.{_+_, _<_, _≤_};
 ghost use lib.ListN.{length};
 ghost use Rattle.verdict.specs.Verdict.{pick, next};
+ghost use Rattle.verdict.specs.Numbers.{badTarget};
 ghost use Rattle.memory.specs.Memory.{byte};
 ghost use Rattle.code.specs.Commands.{lengthOf};
 ghost use Rattle.code.specs.Code.{judgeCode, judgeCodeFor};
@@ -134,7 +135,7 @@ fn first_refusal(a: u8, b: u8) -> u8
 
 // The refusal of a T outside the map.
 fn outside_refusal(outside: bool) -> u8
-    ensures { λ r. ⌜ r ≡ pick outside 7 0 ⌝ }
+    ensures { λ r. ⌜ r ≡ pick outside badTarget 0 ⌝ }
 {
     if outside {
         return verdict::BAD_TARGET;

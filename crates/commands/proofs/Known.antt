@@ -1,6 +1,6 @@
 -- Laws of a command whose operands are tried, and whose type a `match` found. In order: the test of eight bytes; what is asked and where the operands lie, by the type found;
 -- the ways that the command ends. Assumes nothing.
-use Prim.Native.Nat.{ℕ, _+_, _-_, _^_, _≤_, _<_}
+use Prim.Native.Nat.{ℕ, _+_, _-_, _≤_, _<_}
 use mathlib.Core.Bool.{Bool, true, false}
 use mathlib.Core.List.{List}
 use mathlib.Core.Path.{_≡_, refl, sym, _∙_, ap, subst}

@@ -8,6 +8,7 @@ use lib.ListN.{length}
 use lib.Dec.{ltb, eqb}
 use Rattle.verdict.specs.Numbers.{noSuchCore}
 use Rattle.verdict.specs.Verdict.{pick, either, next, unless}
+use Rattle.protocol.specs.Fresh.{freshFlags}
 use Rattle.protocol.specs.Step.{run, orderList}
 use Rattle.records.specs.File.{cores}
 use Rattle.taskset.specs.Judge.{judge}
@@ -35,7 +36,7 @@ refusalOf f t order = next (judge f) (next (traceRefusal f t) (unless (allBelow 
 
 -- the state after the steps of the order
 unfoldable pub stateAfter : List ℕ → List ℕ → List ℕ → Held
-stateAfter f t order = heldAfter (cores f) (tableOf (cores f) 4) (run (taskOf f t) order (freshOf f))
+stateAfter f t order = heldAfter (cores f) (tableOf (cores f) freshFlags) (run (taskOf f t) order (freshOf f))
 
 -- the order list's bytes
 unfoldable pub takingsOf : List ℕ → List ℕ → List ℕ → List ℕ

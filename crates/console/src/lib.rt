@@ -65,12 +65,12 @@ pub fn output(file: &[u8], trace: &[u8], order: &[u8], out: &mut [u8]) -> Writte
     if too_long(file.len(), trace.len(), order.len()) {
         return listing::write_long(out);
     }
-    let loaded = taskset::load_file(file);
+    let loaded = file_loading::load_file(file);
     if loaded.refusal != 0 {
         return listing::write_refused(loaded.refusal, out);
     }
     let layout = loaded.layout;
-    let size = taskset::sum_of_sizes(file, layout);
+    let size = file_loading::sum_of_sizes(file, layout);
     let mut buffer = [0u8; 16384];
     let mut shared = [0u8; 1024];
     let mut list = [0u8; 4096];

@@ -134,7 +134,7 @@ fn run_in(file: &[u8], trace: &[u8], order: &[u8], layout: Layout, n: usize, buf
 }
 
 fn run_files(file: &[u8], trace: &[u8], order: &[u8]) {
-    let loaded = taskset::load_file(file);
+    let loaded = file_loading::load_file(file);
     if loaded.refusal != 0 {
         refused(loaded.refusal);
         return;

@@ -3,7 +3,7 @@
 -- Not here: what "nearest" says over whole numbers (`Rounding`); addresses, and what the data are afterwards (`Data`).
 use Prim.Native.Nat.{ℕ, _-_, _*_, _^_}
 use mathlib.Core.Bool.{Bool, true, false}
-use mathlib.Core.List.{List, [], _∷_}
+use mathlib.Core.List.{[], _∷_}
 use lib.IntN.{ℤ, pos, negsuc, negℤ}
 use lib.ListN.{getD}
 use lib.Dec.{ltb}

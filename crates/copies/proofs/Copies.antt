@@ -7,7 +7,6 @@ use native.Mathlib.Omega.{arith}
 use lib.ListN.{length}
 use lib.Dec.{leb}
 use borrow.Author.Tests.{leb-true, leb-false, le-leb, lt-leb}
-use Rattle.verdict.specs.Verdict.{pick, both}
 use Rattle.verdict.proofs.Verdict.{both-true, pick-true, pick-false}
 use Rattle.verdict.proofs.Truth.{both-skip, both-stop}
 use Rattle.memory.specs.Memory.{splice, part}

@@ -1,12 +1,12 @@
 -- The test of the condition. In order: a walk over the variables; that the answer is exact; what each return of the test shows. Not
 -- here: pairs and rings as the code tries them (`Rings`). Assumes nothing.
-use mathlib.Core.Path.{_≡_, refl, sym, ap, _∙_, subst}
+use mathlib.Core.Path.{_≡_, refl, sym, ap, _∙_}
 use mathlib.Core.Bool.{Bool, true, false, not}
 use mathlib.Core.List.{List}
 use Prim.Native.Nat.{ℕ, suc, _+_, _-_, _≤_, _<_}
 use native.Mathlib.Numerals.{add-one}
 use native.Mathlib.Omega.{arith}
-use lib.Dec.{T, eqb}
+use lib.Dec.{eqb}
 use borrow.Author.Tests.{eq-eqb, ne-eqb, eqb-true, eqb-false}
 use Rattle.verdict.specs.Verdict.{pick, both, either}
 use Rattle.verdict.proofs.Truth.{holds, tested, fails, either-skip, either-stop, not-not}
@@ -17,7 +17,6 @@ use Rattle.protocol.proofs.Tests.{low-reads, low-lines, one-way, way-one, no-ri
 use Rattle.records.specs.File.{variables, variableAt}
 use Rattle.taskset.specs.Judge.{judge}
 use Rattle.taskset.specs.Task.{listed, variablesOf}
-use Rattle.cycles.specs.Serial.{Ringless}
 use Rattle.cycles.specs.Check.{linesOf, linesRefusal, linesByte, Checked}
 use Rattle.cycles.specs.declared.Lines.{Lines}
 use Rattle.cycles.specs.declared.Lines.the-variants.{Refused, Free, EachOther, Ringed}

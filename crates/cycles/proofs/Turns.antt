@@ -2,7 +2,7 @@
 -- writing. In order: a core alone; writing; execution; reading; a cycle; orders of cycles. Not here: which order a run ends
 -- as (crate protocol, proofs/Cycles). Assumes nothing.
 use mathlib.Core.Path.{_≡_, refl, sym, ap, _∙_, subst}
-use mathlib.Core.Bool.{true, false}
+use mathlib.Core.Bool.{false}
 use mathlib.Core.Logic.{_≢_, _⊎_, inl, inr}
 use mathlib.Core.List.{List, [], _∷_, _++_}
 use Prim.Native.Nat.{ℕ, zero, suc, _+_, _-_, _≤_, _<_}

@@ -165,7 +165,7 @@ pub enum Lines {
 pub fn check_cycles(file: &[u8]) -> Lines
     ensures { λ x. ⌜ x ≡ linesOf (now (file .entry)) ⌝ }
 {
-    let refusal = taskset::judge_file(file);
+    let refusal = file_judging::judge_file(file);
     if refusal != 0 {
         return Lines::Refused(refusal);
     }

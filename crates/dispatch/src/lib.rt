@@ -3,29 +3,29 @@
 ghost use mathlib.Core.Path.{_≡_};
 ghost use Prim.Native.Nat.{_+_, _*_};
 ghost use Rattle.commands.specs.Attempts.{attempt, attempted, OperandsGiven, ThreeOperands};
+use arithmetic::add_typed;
+use arithmetic::div_typed;
+use arithmetic::modulo_typed;
+use arithmetic::mul_typed;
+use arithmetic::sub_typed;
 use beyond::single_beyond;
 use beyond::typed_beyond;
+use bitwise::and_typed;
+use bitwise::not_typed;
+use bitwise::or_typed;
+use bitwise::rol_typed;
+use bitwise::ror_typed;
+use bitwise::shl_typed;
+use bitwise::shr_typed;
+use bitwise::xor_typed;
 use commands::Operands;
 use commands::Performed;
-use commands::add_typed;
-use commands::and_typed;
-use commands::div_typed;
-use commands::eq_typed;
-use commands::ge_typed;
-use commands::gt_typed;
-use commands::le_typed;
-use commands::lt_typed;
-use commands::modulo_typed;
-use commands::mul_typed;
-use commands::ne_typed;
-use commands::not_typed;
-use commands::or_typed;
-use commands::rol_typed;
-use commands::ror_typed;
-use commands::shl_typed;
-use commands::shr_typed;
-use commands::sub_typed;
-use commands::xor_typed;
+use comparisons::eq_typed;
+use comparisons::ge_typed;
+use comparisons::gt_typed;
+use comparisons::le_typed;
+use comparisons::lt_typed;
+use comparisons::ne_typed;
 
 // A command and its type as one number: 16 for each code byte, and the type.
 fn command_and_type(op: u8, kind: u8) -> usize

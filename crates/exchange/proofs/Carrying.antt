@@ -12,13 +12,13 @@ use Rattle.memory.proofs.Laws.{length-splice, length-part, part-splice-same}
 use Rattle.protocol.specs.State.{Move}
 use Rattle.protocol.specs.Step.{copy}
 use Rattle.protocol.specs.Variables.{Variable, local, span, movesOf}
-use Rattle.records.specs.File.{cores, dataSize, variables, recordPlace, variableIn}
+use Rattle.records.specs.File.{cores, dataSize}
 use Rattle.taskset.specs.Task.{variablesOf}
 use Rattle.exchange.specs.declared.Cursor.{Cursor}
 use Rattle.exchange.specs.Exchange.{hasBit, At}
 use Rattle.exchange.specs.Laid.{Laid, exchangeBytes}
 use Rattle.exchange.specs.Carried.{Lies, Tells, BytesCarried}
-use Rattle.exchange.proofs.Cursors.{at-place, at-before, at-chosen, at-stretch, local-at}
+use Rattle.exchange.proofs.Cursors.{at-stretch, local-at}
 use Rattle.exchange.proofs.Stretches.{copy-append, copy-span, record-shared, record-local}
 
 -- ---- a word: out to another list and in again

@@ -1,6 +1,6 @@
 -- Laws of an exchange that is copied whole, a variable at a time. In order: a stretch; the records whose bytes are copied; where a record's bytes lie.
 -- Assumes nothing.
-use mathlib.Core.Path.{_≡_, refl, sym, ap, ap₂, _∙_, subst⁻¹}
+use mathlib.Core.Path.{_≡_, refl, sym, ap, _∙_, subst⁻¹}
 use mathlib.Core.Logic.{_⊎_}
 use mathlib.Core.Bool.{true, false}
 use mathlib.Core.List.{List, [], _∷_, _++_}
@@ -12,8 +12,8 @@ use Rattle.memory.proofs.Laws.{length-splice}
 use Rattle.memory.proofs.Turns.{part-cons}
 use Rattle.protocol.specs.State.{Move}
 use Rattle.protocol.specs.Step.{copy}
-use Rattle.protocol.specs.Variables.{Variable, local, span, movesOf, readsOf, writesOf}
-use Rattle.records.specs.File.{cores, dataSize, variables, recordPlace, variableIn, variableAt}
+use Rattle.protocol.specs.Variables.{Variable, span, movesOf}
+use Rattle.records.specs.File.{cores, dataSize, variables, recordPlace, variableIn}
 use Rattle.taskset.specs.Task.{variablesOf}
 use Rattle.exchange.specs.Exchange.{hasBit}
 use Rattle.exchange.specs.Laid.{Laid, takesPart, RecordAt}

@@ -4,7 +4,7 @@ use mathlib.Core.Bool.{Bool, true}
 use mathlib.Core.List.{List}
 use Prim.Native.Nat.{ℕ, _+_, _/_, _%_, _^_, _≤_, _<_}
 use lib.Dec.{eqb}
-use lib.ListN.{length, drop}
+use lib.ListN.{drop}
 use Rattle.memory.specs.Memory.{byte}
 use Rattle.protocol.specs.Variables.{Variable, movesOf}
 use Rattle.records.specs.File.{variables, recordPlace, variableIn}

@@ -3,7 +3,7 @@ use super::printing::show;
 
 // The refusal of a whole file.
 pub fn file(label: &[u8], f: &[u8]) {
-    show(label, taskset::judge_file(f) as usize);
+    show(label, file_judging::judge_file(f) as usize);
 }
 
 // The refusal of the first n bytes.
@@ -12,5 +12,5 @@ pub fn begin(f: &[u8], n: usize) -> u8 {
         return 99;
     }
     let a = 0;
-    taskset::judge_file(&f[a..n])
+    file_judging::judge_file(&f[a..n])
 }

@@ -18,7 +18,7 @@ fn core(c: taskset::CoreLayout) {
 }
 
 pub fn layout(f: &[u8]) {
-    let a = taskset::load_file(f);
+    let a = file_loading::load_file(f);
     let l = a.layout;
     show(b"cores", l.cores);
     show(b"variables", l.variables);

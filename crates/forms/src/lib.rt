@@ -37,10 +37,10 @@ pub fn to_new(f: &[u8], out: &mut [u8]) -> FormAnswer
     if f.len() < 4 {
         return nothing_written(verdict::CUT_FILE);
     }
-    if !taskset::is_old(f) {
+    if !file_judging::is_old(f) {
         return nothing_written(verdict::NO_MARK);
     }
-    let number = taskset::judge_file(f);
+    let number = file_judging::judge_file(f);
     if number != 0 {
         return nothing_written(number);
     }
@@ -65,15 +65,15 @@ pub fn to_old(f: &[u8], out: &mut [u8]) -> FormAnswer
     if f.len() < 4 {
         return nothing_written(verdict::CUT_FILE);
     }
-    if !taskset::is_new(f) {
+    if !file_judging::is_new(f) {
         return nothing_written(verdict::NO_MARK);
     }
-    let number = taskset::judge_file(f);
+    let number = file_judging::judge_file(f);
     if number != 0 {
         return nothing_written(number);
     }
     let n = memory::byte_at(f, 4) as usize;
-    let end = taskset::code_place(f, n);
+    let end = file_loading::code_place(f, n);
     if f.len() != end + 2 * n {
         return nothing_written(verdict::HAS_STARTS);
     }

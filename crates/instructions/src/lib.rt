@@ -1,5 +1,5 @@
 // Document 01, "One step of a core", mode 2: one instruction of core k, on the code and the data that are its own.
-// Not here: what a step in any other mode does (crate `steps`); the instructions themselves (crate `processor`).
+// Not here: what a step in any other mode does (crate `steps`); the instructions themselves (crate `execution`).
 use commands::Performed;
 use protocol::Outcome;
 use protocol::Registers;
@@ -21,7 +21,7 @@ pub fn command_of(counter: u16, k: usize, c: CoreTask, file: &[u8], trace: &[u8]
 {
     let a = c.layout.code;
     let e = a + c.layout.length;
-    processor::command_at(counter, &file[a..e])
+    execution::command_at(counter, &file[a..e])
 }
 
 // Mode 2, below the limit: a typed command with three addresses, and how it ended.
@@ -41,7 +41,7 @@ pub fn typed_of(
     let e = a + c.layout.length;
     let b = c.layout.base;
     let f = b + c.layout.size;
-    processor::execute_typed(op, r, &file[a..e], &mut buffer[b..f])
+    execution::execute_typed(op, r, &file[a..e], &mut buffer[b..f])
 }
 
 // The same of any other command, and what it answers.
@@ -61,5 +61,5 @@ pub fn other_of(
     let e = a + c.layout.length;
     let b = c.layout.base;
     let f = b + c.layout.size;
-    processor::execute_other(op, r, &file[a..e], &mut buffer[b..f])
+    execution::execute_other(op, r, &file[a..e], &mut buffer[b..f])
 }

@@ -3,17 +3,14 @@ use mathlib.Core.Path.{_≡_, refl, sym, ap, ap₂, _∙_}
 use mathlib.Core.List.{List, [], _∷_, _++_, map, append-assoc}
 use Prim.Native.Nat.{ℕ, _+_, _*_, _≤_, _<_, min}
 use native.Mathlib.Omega.{arith}
-use mathlib.Core.Bool.{Bool, true, false}
-use borrow.Author.Tests.{lt-ltb, le-ltb, ltb-false}
-use lib.Dec.{ltb}
-use Rattle.verdict.specs.Verdict.{pick}
+use borrow.Author.Tests.{lt-ltb, le-ltb}
 use lib.ListN.{length, take, length-append, length-take}
 use Rattle.verdict.proofs.Verdict.{pick-true, pick-false}
 use Rattle.memory.specs.Memory.{splice, flat}
 use Rattle.states.specs.declared.Held.{Held}
 use Rattle.listing.specs.declared.Written.the-variants.{Text, Refused}
-use Rattle.listing.specs.Listing.{lineFeed, header, coreLines, takingText, orderWord, orderLine, head, listing}
-use Rattle.listing.specs.Writers.{TextLeft, textLeft, textCall}
+use Rattle.listing.specs.Listing.{lineFeed, takingText, orderLine, head, listing}
+use Rattle.listing.specs.Writers.{textLeft, textCall}
 
 -- ---- the answers
 
@@ -25,16 +22,6 @@ pub text-written : (text out : List ℕ) {n : ℕ} {now : List ℕ} → length t
     → textLeft (Text n) now ≡ textCall text out
 unfolding textCall
 text-written text out l e q = ap₂ (λ (m : ℕ) (x : List ℕ). textLeft (Text m) x) e q ∙ sym (pick-false _ _ _ (le-ltb _ _ l))
-
--- a text that was written fits
-pub text-fits : (text out : List ℕ) {n : ℕ} {now : List ℕ} → textLeft (Text n) now ≡ textCall text out → n ≤ length out
-unfolding textCall pick
-text-fits text out {n} {now} e = go (ltb (length out) (length text)) refl e
-  where
-    go : (b : Bool) → ltb (length out) (length text) ≡ b
-        → textLeft (Text n) now ≡ pick b (record { answer = Refused 21; number = 21; bytes = out }) (record { answer = Text (length text); number = 0; bytes = splice out 0 text }) → n ≤ length out
-    go true q w = absurd (let z : _≡_ {A = ℕ} 0 21 = ap (λ (x : TextLeft). x .number) w in omega arith)
-    go false q w = let z : Text n ≡ Text (length text) = ap (λ (x : TextLeft). x .answer) w in let m : n ≡ length text = cc in omega (arith, ltb-false (length out) (length text) q)
 
 -- ---- a listing's length
 

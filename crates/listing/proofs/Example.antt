@@ -1,7 +1,6 @@
 -- Document 01's listing, byte by byte, and numbers at the ends of their ranges. Assumes nothing.
 use mathlib.Core.Path.{_≡_, refl}
-use mathlib.Core.List.{List, [], _∷_, _++_}
-use Prim.Native.Nat.{ℕ}
+use mathlib.Core.List.{[], _∷_, _++_}
 use Rattle.verdict.specs.Verdict.{pick}
 use Rattle.memory.specs.Memory.{flat}
 use Rattle.protocol.specs.declared.Registers.{Registers}

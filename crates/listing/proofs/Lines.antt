@@ -1,6 +1,6 @@
 -- The lines of the core table one after another: the first of those that are left, and the end. Assumes nothing.
-use mathlib.Core.Path.{_≡_, refl, ap}
-use mathlib.Core.List.{List, [], _∷_, _++_}
+use mathlib.Core.Path.{_≡_, ap}
+use mathlib.Core.List.{List, [], _++_}
 use Prim.Native.Nat.{ℕ, _+_, _≤_, _<_, min}
 use lib.ListN.{length, take, drop, getD}
 use Rattle.protocol.specs.declared.Registers.{Registers}

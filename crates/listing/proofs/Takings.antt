@@ -1,6 +1,6 @@
 -- The takings one after another: the first of those that are left, and the end. Assumes nothing.
 use mathlib.Core.Path.{_≡_, refl, ap}
-use mathlib.Core.List.{List, [], _∷_, _++_, map}
+use mathlib.Core.List.{List, [], _++_, map}
 use Prim.Native.Nat.{ℕ, _+_, _≤_, _<_, min}
 use lib.ListN.{length, take, drop, getD}
 use Rattle.memory.specs.Memory.{flat}

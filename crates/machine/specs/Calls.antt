@@ -8,7 +8,9 @@ use lib.Dec.{ltb, leb, eqb}
 use Rattle.verdict.specs.Numbers.{noSuchCore, badLengths}
 use Rattle.verdict.specs.Verdict.{pick, both, next, unless}
 use Rattle.memory.specs.Memory.{total}
+use Rattle.protocol.specs.Modes.{betweenCycles}
 use Rattle.protocol.specs.State.{cleared}
+use Rattle.protocol.specs.Fresh.{freshFlags}
 use Rattle.protocol.specs.Step.{step, takingOf}
 use Rattle.records.specs.File.{cores}
 use Rattle.code.specs.declared.Profile.{Profile}
@@ -58,7 +60,7 @@ unfoldable pub tableOf : ℕ → ℕ → Held
 tableOf n flags = record {
   count = n;
   semaphore = record { holder = 0; waiting = 0; line = replicate 4 0 };
-  cores = replicate 4 (cleared 0 flags);
+  cores = replicate 4 (cleared betweenCycles flags);
   places = replicate 64 0;
   offsets = replicate 64 0;
 }
@@ -71,7 +73,7 @@ freshRefusalFor profile f buffer shared = next (judgeFor profile f) (unless (len
 abbrev pub freshLeft : ℕ → List ℕ → List ℕ → List ℕ → Left
 freshLeft r f d sh =
     pick (eqb r 0)
-    (leftAs (answerOf 0 (tableOf (cores f) 4)) (startBuffer f) (startShared f) [])
+    (leftAs (answerOf 0 (tableOf (cores f) freshFlags)) (startBuffer f) (startShared f) [])
     (leftAs (answerOf r (tableOf 0 0)) d sh [])
 
 unfoldable pub freshCallFor : Profile → List ℕ → List ℕ → List ℕ → Left

@@ -7,6 +7,7 @@ use Prim.Native.Nat.{ℕ}
 use lib.ListN.{length}
 use Rattle.verdict.specs.Numbers.{noSuchCore, badLengths}
 use Rattle.verdict.specs.Verdict.{both, next, unless}
+use Rattle.protocol.specs.Fresh.{freshFlags}
 use Rattle.records.specs.File.{cores}
 use Rattle.code.specs.declared.Profile.{Profile}
 use Rattle.taskset.specs.declared.Layout.{Layout}
@@ -56,4 +57,4 @@ pub record JudgedAs (f t : List ℕ) (loaded : ℕ) (h : Held) (order : List ℕ
 -- ---- a run from the fresh state of an accepted file, in memories of its sizes
 
 unfoldable pub firstRun : List ℕ → List ℕ → List ℕ → List ℕ → Left
-firstRun f t order list = runCall f t (tableOf (cores f) 4) (startBuffer f) (startShared f) order list
+firstRun f t order list = runCall f t (tableOf (cores f) freshFlags) (startBuffer f) (startShared f) order list

@@ -19,7 +19,7 @@ fn lent_fits(file: &[u8], layout: Layout, buffer: usize, shared: usize) -> bool
     requires { ⌜ (judge (now file) ≡ 0) × (layout ≡ layoutOf (now file)) ⌝ }
     ensures { λ r. ⌜ r ≡ lentFits (now (file .entry)) buffer shared ⌝ }
 {
-    if buffer == taskset::sum_of_sizes(file, layout) {
+    if buffer == file_loading::sum_of_sizes(file, layout) {
         return shared == SHARED;
     }
     false
@@ -29,7 +29,7 @@ fn lent_fits(file: &[u8], layout: Layout, buffer: usize, shared: usize) -> bool
 pub fn load_lent(profile: Profile, file: &[u8], buffer: usize, shared: usize, room: bool) -> Loaded
     ensures { λ r. ⌜ r ≡ loadedLent profile (now (file .entry)) buffer shared room ⌝ }
 {
-    let loaded = taskset::load_file_for(profile, file);
+    let loaded = file_loading::load_file_for(profile, file);
     if loaded.refusal != 0 {
         return loaded;
     }
@@ -95,7 +95,7 @@ pub fn judge_call(file: &[u8], trace: &[u8], loaded: Loaded, s: Held, order: &[u
     if number != 0 {
         return without_tasks(number, layout);
     }
-    let prepared = states::prepare(file, trace, layout, s);
+    let prepared = fitness::prepare(file, trace, layout, s);
     let held = prepared.refusal;
     let named = all_below(order, layout.cores);
     if held != 0 {

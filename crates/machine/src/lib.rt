@@ -29,7 +29,7 @@ pub const SHARED: usize = 1024;
 pub fn check_file_for(profile: Profile, file: &[u8]) -> u8
     ensures { λ r. ⌜ r ≡ judgeFor profile (now (file .entry)) ⌝ }
 {
-    taskset::judge_file_for(profile, file)
+    file_judging::judge_file_for(profile, file)
 }
 
 // Under the full profile.
@@ -44,7 +44,7 @@ pub fn check_state(file: &[u8], trace: &[u8], s: Held) -> u8
     ensures { λ r. ⌜ r ≡ setRefusal (now (file .entry)) (now (trace .entry)) s ⌝ }
 {
     let named = [0u8; 0];
-    let loaded = taskset::load_file(file);
+    let loaded = file_loading::load_file(file);
     let judged = judge_call(file, trace, loaded, s, &named);
     judged.refusal
 }
@@ -55,11 +55,11 @@ pub fn check_state(file: &[u8], trace: &[u8], s: Held) -> u8
 pub fn buffer_size(file: &[u8]) -> usize
     ensures { λ r. ⌜ (r ≡ bufferSize (now (file .entry))) × (r ≤ 16384) ⌝ }
 {
-    let loaded = taskset::load_file(file);
+    let loaded = file_loading::load_file(file);
     if loaded.refusal != 0 {
         return 0;
     }
-    taskset::sum_of_sizes(file, loaded.layout)
+    file_loading::sum_of_sizes(file, loaded.layout)
 }
 
 // ---- the core table
@@ -75,7 +75,7 @@ pub fn next_core(file: &[u8], trace: &[u8], s: Held, given: u8) -> Next
     ensures { λ r. ⌜ (r ≡ nextCall (now (file .entry)) (now (trace .entry)) s given) × (nextSays r ≡ nextSaid (now (file .entry)) (now (trace .entry)) s given) ⌝ }
 {
     let named = [given];
-    let loaded = taskset::load_file(file);
+    let loaded = file_loading::load_file(file);
     let judged = judge_call(file, trace, loaded, s, &named);
     if judged.refusal != 0 {
         return Next::Refused(judged.refusal);

@@ -5,9 +5,9 @@ use mathlib.Core.List.{List, [], _∷_, _++_, append-assoc}
 use Prim.Native.Nat.{ℕ, zero, suc, _+_, _-_, _≤_, _<_}
 use native.Mathlib.Nat.{add-zero, zero-add, add-suc, suc-add}
 use native.Mathlib.Omega.{arith}
-use lib.ListN.{length, take, drop, set, getD, length-set, length-take, length-drop, length-append, take-append-drop}
-use lib.Seq.{take-add, sets, sets-eq, set-comm, take-set-le, drop-set-lt, take-at, drop-at, length-take-le, take-append-seam, set-append-left, drop-drop, take-take, append-snoc}
-use Rattle.memory.specs.Memory.{splice, part, onPart}
+use lib.ListN.{length, take, drop, set, length-set, length-drop}
+use lib.Seq.{take-add, sets, sets-eq, set-comm, take-set-le, drop-set-lt, drop-at, length-take-le, take-append-seam, drop-drop}
+use Rattle.memory.specs.Memory.{splice, part}
 
 -- ---- what a splice is
 
@@ -91,16 +91,6 @@ part-splice-same s p ys h =
 pub length-part : (s : List ℕ) (p n : ℕ) → p + n ≤ length s → length (part s p n) ≡ n
 unfolding part
 length-part s p n h = length-take-le n (drop p s) (simp length-drop (omega arith))
-
--- what stands there already, written there, changes nothing
-pub splice-part : (s : List ℕ) (p n : ℕ) → p + n ≤ length s → splice s p (part s p n) ≡ s
-unfolding part
-splice-part s p n h =
-    splice-is s p (part s p n) (simp (length-part s p n h) h)
-    ∙ ap (λ (k : ℕ). take p s ++ (part s p n ++ drop (p + k) s)) (length-part s p n h)
-    ∙ ap (λ (l : List ℕ). take p s ++ (part s p n ++ l)) (sym (drop-drop n p s))
-    ∙ ap (λ (l : List ℕ). take p s ++ l) (take-append-drop n (drop p s))
-    ∙ take-append-drop p s
 
 -- a byte stored above a part leaves it
 pub take-set-part : (p n : ℕ) (s : List ℕ) (k a : ℕ) → p + n ≤ k → part (set s k a) p n ≡ part s p n

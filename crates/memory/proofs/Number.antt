@@ -1,8 +1,8 @@
 -- Laws of `bytesLE`, `valueLE` and `readLE`, for every width at once. Assumes nothing.
 use mathlib.Core.Path.{_≡_, refl, sym, ap, _∙_, subst}
-use mathlib.Core.List.{List, [], _∷_, _++_}
+use mathlib.Core.List.{List, [], _∷_}
 use Prim.Native.Nat.{ℕ, zero, suc, _+_, _-_, _*_, _/_, _%_, _^_, _≤_, _<_}
-use native.Mathlib.Nat.{pow-zero, pow-suc, mod-one, mod-lt, mod-eq-of-lt, one-le-pow, pow-le-pow-right, lt-of-lt-of-le, le-of-suc-le-suc, not-suc-le-zero}
+use native.Mathlib.Nat.{pow-zero, pow-suc, mod-one, one-le-pow, pow-le-pow-right, lt-of-lt-of-le, le-of-suc-le-suc, not-suc-le-zero}
 use native.Mathlib.Omega.{arith}
 use lib.Arith.{mod-mul, digits-lt, digits-mod, digits-div}
 use lib.ListN.{length, take, drop, getD}
@@ -12,7 +12,7 @@ use mir.Val.{Fits}
 use native.Mathlib.Numerals.{add-one}
 use lib.Seq.{getD-drop, take-nil, drop-nil}
 use Rattle.memory.specs.Memory.{splice, part, bytesLE, valueLE, readLE}
-use Rattle.memory.proofs.Laws.{part-splice-same, part-splice-below, part-splice-above}
+use Rattle.memory.proofs.Laws.{part-splice-same, part-splice-below}
 
 pub length-bytesLE : (w v : ℕ) → length (bytesLE w v) ≡ w
 unfolding bytesLE
@@ -59,10 +59,6 @@ read-same s p w v h =
 pub read-below : (s : List ℕ) (p : ℕ) (ys : List ℕ) (q n : ℕ) → q + n ≤ p → readLE (splice s p ys) q n ≡ readLE s q n
 unfolding readLE
 read-below s p ys q n h = ap valueLE (part-splice-below s p ys q n h)
-
-pub read-above : (s : List ℕ) (p : ℕ) (ys : List ℕ) (q n : ℕ) → p + length ys ≤ q → readLE (splice s p ys) q n ≡ readLE s q n
-unfolding readLE
-read-above s p ys q n h = ap valueLE (part-splice-above s p ys q n h)
 
 -- fewer than eight bytes and one more fit 64 bits
 pub read-fits : (s : List ℕ) (p n b : ℕ) → ((i : ℕ) → Fits w8 (getD s i 0)) → n < 8 → b < 256 → Fits w64 (readLE s p n * 256 + b)

@@ -1,18 +1,18 @@
 -- One turn of each loop that reads or writes a buffer, in the code's own arithmetic. Each says that what is left to do after
 -- the turn makes the same of the buffer as what was left to do before it. Assumes nothing.
-use mathlib.Core.Path.{_≡_, refl, sym, ap, _∙_, subst}
+use mathlib.Core.Path.{_≡_, refl, sym, ap, _∙_}
 use mathlib.Core.List.{List, [], _∷_, _++_, append-nil}
-use Prim.Native.Nat.{ℕ, zero, suc, _+_, _-_, _*_, _/_, _%_, _^_, _≤_, _<_}
+use Prim.Native.Nat.{ℕ, suc, _+_, _-_, _*_, _/_, _%_, _^_, _≤_, _<_}
 use native.Mathlib.Nat.{add-zero, sub-zero}
 use native.Mathlib.Omega.{arith}
 use lib.Dec.{lit<}
 use mir.Syntax.{w8}
 use mir.Val.{Fits}
 use Rattle.memory.proofs.Number.{read-lt}
-use lib.ListN.{length, take, drop, getD, set, length-drop, replicate}
-use lib.Seq.{drop-cons, drop-set-lt, take-suc, getD-drop, drop-length}
+use lib.ListN.{length, drop, getD, set, length-drop, replicate}
+use lib.Seq.{drop-cons, take-suc, getD-drop, drop-length}
 use Rattle.memory.specs.Memory.{splice, part, bytesLE, valueLE, readLE}
-use Rattle.memory.proofs.Laws.{set-splice-above, part-splice-same, length-part, take-set-part, splice-snoc}
+use Rattle.memory.proofs.Laws.{part-splice-same, length-part}
 
 -- the n elements from p on: the one at p, then the rest
 pub part-cons : (s : List ℕ) (p n k q : ℕ) → n ≡ suc k → q ≡ suc p → p < length s → part s p n ≡ getD s p 0 ∷ part s q k
@@ -45,15 +45,6 @@ copy-turn d s to from n i h k =
     sym
     (ap (splice d (to + i)) (part-cons s (from + i) (n - i) (n - (i + 1)) (from + (i + 1)) (omega arith) (omega arith) (omega arith))
     ∙ splice-turn d (to + i) (getD s (from + i) 0) (part s (from + (i + 1)) (n - (i + 1))) (to + (i + 1)) (omega arith))
-
--- the same within one buffer, where what is written lies below what is still to be read
-pub up-turn : (d : List ℕ) (to from n i x : ℕ) → i < n → from + n ≤ length d → to ≤ from → x ≡ getD d (from + i) 0
-    → splice (set d (to + i) x) (to + (i + 1)) (part (set d (to + i) x) (from + (i + 1)) (n - (i + 1))) ≡ splice d (to + i) (part d (from + i) (n - i))
-unfolding part
-up-turn d to from n i x h k l e =
-    ap (λ (r : List ℕ). splice (set d (to + i) x) (to + (i + 1)) (take (n - (i + 1)) r)) (drop-set-lt (from + (i + 1)) d (to + i) x (omega arith))
-    ∙ ap (λ (y : ℕ). splice (set d (to + i) y) (to + (i + 1)) (part d (from + (i + 1)) (n - (i + 1)))) e
-    ∙ copy-turn d d to from n i h k
 
 -- ---- going down, from index i to i - 1
 
@@ -88,10 +79,6 @@ pub load-done : (d : List ℕ) (p w i v : ℕ) → i ≤ 0 → v ≡ readLE d (p
 load-done d p w i v h q l =
     let e : i ≡ 0 = omega arith in
     (q ∙ rw (e, add-zero, sub-zero), rw (e, sub-zero) at l)
-
-pub down-done : (d : List ℕ) (p : ℕ) (s : List ℕ) (q i : ℕ) → i ≤ 0 → splice d p (part s q i) ≡ d
-unfolding splice part
-down-done d p s q i h = let e : i ≡ 0 = omega arith in rw e
 
 -- a copy of one byte is one store
 pub byte-done : (d : List ℕ) (to : ℕ) (s : List ℕ) (from : ℕ) → from < length s → set d to (getD s from 0) ≡ splice d to (part s from 1)

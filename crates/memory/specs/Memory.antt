@@ -1,10 +1,10 @@
 -- Lent memory as the list of its bytes: reading and writing a number of any width, copying, and the data buffer of all cores.
--- In order: writing and reading stretches; numbers, low byte first; a lent part of a buffer; the cores' data end to end.
+-- In order: writing and reading stretches; numbers, low byte first; the cores' data end to end.
 -- Every function is total: what lies past the end reads as 0 and is not written, so no bound travels through a definition.
-use Prim.Native.Nat.{ℕ, zero, suc, _+_, _-_, _*_, _/_, _%_, _≤_}
+use Prim.Native.Nat.{ℕ, zero, suc, _+_, _*_, _/_, _%_, _≤_}
 use mathlib.Core.Logic.{_⊎_}
 use mathlib.Core.List.{List, [], _∷_, _++_}
-use lib.ListN.{set, take, drop, getD, length}
+use lib.ListN.{set, take, drop, getD}
 
 -- ---- writing and reading stretches
 
@@ -45,12 +45,6 @@ byte s p = getD s p 0
 abbrev pub word : List ℕ → ℕ → ℕ
 word s p = readLE s p 2
 
--- ---- a lent part of a buffer
-
--- s with the bytes from a up to e replaced by what f makes of them
-unfoldable pub onPart : (List ℕ → List ℕ) → ℕ → ℕ → List ℕ → List ℕ
-onPart f a e s = take a s ++ (f (take (e - a) (drop a s)) ++ drop e s)
-
 -- ---- the cores' data: end to end in one buffer, and as a list of lists
 
 -- where the data of core k begin: the sizes before k, added up
@@ -73,11 +67,3 @@ split (n ∷ ns) s = take n s ∷ split ns (drop n s)
 unfoldable pub flat : List (List ℕ) → List ℕ
 flat [] = []
 flat (x ∷ xs) = x ++ flat xs
-
--- the list of lists with f applied at k
-unfoldable pub onNth : (List ℕ → List ℕ) → ℕ → List (List ℕ) → List (List ℕ)
-onNth f k xs = set xs k (f (getD xs k []))
-
--- the buffer with f applied to the data of core k
-unfoldable pub onCore : (List ℕ → List ℕ) → List ℕ → ℕ → List ℕ → List ℕ
-onCore f ns k s = flat (onNth f k (split ns s))

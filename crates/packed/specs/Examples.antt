@@ -1,5 +1,5 @@
 -- The examples of document 02, 2.8, and others at the edges, on stored patterns: one table, one theorem for all rows.
-use Prim.Native.Nat.{ℕ, _^_}
+use Prim.Native.Nat.{ℕ}
 use mathlib.Core.List.{List, [], _∷_, map}
 use mathlib.Core.Path.{_≡_, refl}
 use lib.Dec.{eqb}

@@ -1,8 +1,7 @@
 // Document 02, 2.8: packed decimal for panel switches, four bits to a digit.
 // In order: digits one by one; at a width; from memory to memory. A width w is in bytes.
 ghost use mathlib.Core.Path.{_≡_};
-ghost use Prim.Native.Nat.{ℕ, _+_, _*_, _/_, _^_, _≤_, _<_};
-ghost use lib.ListN.{length};
+ghost use Prim.Native.Nat.{_+_, _*_, _/_, _^_, _≤_, _<_};
 ghost use Rattle.conversions.specs.Data.{ended};
 ghost use Rattle.packed.specs.Packed.{packedDigits, unpackedDigits, digitsBelow, packedAt, unpackedAt};
 ghost use Rattle.packed.specs.Data.{packing, unpacking};

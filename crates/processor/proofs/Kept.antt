@@ -26,7 +26,7 @@ use Rattle.protocol.specs.declared.Registers.{Registers}
 use Rattle.protocol.specs.declared.Stack.{Stack}
 use Rattle.protocol.specs.declared.Outcome.{Outcome}
 use Rattle.protocol.specs.declared.Outcome.the-variants.{Fault, Next, Call, Return as Returned}
-use Rattle.protocol.specs.Registers.{advanced, called as calledTo, returned, cycleEnded, faulted, pushed, popped, readReleased}
+use Rattle.protocol.specs.Registers.{advanced, called as calledTo, returned, cycleEnded, faulted, pushed, popped}
 use Rattle.protocol.specs.State.{Core, Task, cleared}
 use Rattle.protocol.specs.Instruction.{Executed, backFrom, appliedBy, applied, halted, limited, instructionBy}
 use Rattle.protocol.specs.Laws.{Laws}
@@ -221,19 +221,6 @@ module _ (c : List ℕ) (size : ℕ) (k : Stack) where
   -- place 0 starts an instruction, and the data are not empty
   zero-starts : (r : Registers) → Placed c size r k → isStart c 0 ≡ true
   zero-starts r p = start-zero c (omega (arith, inside-code c (r .counter) (p .counter)))
-
-  -- the release that ends a reading: outside execution no call is open
-  pub released-placed : (r : Registers) → Placed c size r k → r .depth ≡ 0 → Placed c size (readReleased r) k
-  unfolding readReleased
-  released-placed r p e = record {
-    counter = zero-starts r p;
-    offset = omega (arith, p .offset);
-    depth = omega arith;
-    places = p .places;
-    offsets = p .offsets;
-    freed = λ i h. p .freed i (omega arith);
-    sixteen = p .sixteen;
-  }
 
   advanced-placed : (r : Registers) (place : ℕ) → Placed c size r k → isStart c place ≡ true → Placed c size (advanced place r) k
   unfolding advanced

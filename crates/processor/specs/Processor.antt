@@ -2,13 +2,13 @@
 -- In order: addresses; what the data decide; the data part of each command, in the document's order; control; one instruction.
 -- The limit and the count are applied outside, once for all commands (`instructionBy` of crate protocol).
 use Prim.Native.Nat.{ℕ, _+_, _-_, _*_}
-use mathlib.Core.Bool.{Bool, true, false, not}
+use mathlib.Core.Bool.{Bool, false, not}
 use mathlib.Core.List.{List}
 use lib.ListN.{length}
 use lib.Dec.{ltb, leb, eqb}
 use Rattle.verdict.specs.Numbers.{indexBit, divisorBit, addressBit, callBit, conversionBit}
 use Rattle.verdict.specs.Verdict.{pick}
-use Rattle.memory.specs.Memory.{byte, splice, part, bytesLE, readLE, word}
+use Rattle.memory.specs.Memory.{byte, splice, part, bytesLE, readLE}
 use Rattle.conversions.specs.declared.Conversion.{Conversion}
 use Rattle.conversions.specs.declared.Conversion.the-variants.{Done, Beyond, NotHeld}
 use Rattle.conversions.specs.Data.{Ended, converting}
@@ -16,7 +16,7 @@ use Rattle.packed.specs.Data.{packing, unpacking}
 use Rattle.values.specs.Commands.{beyond, anyBeyond, typedBeyond, secondWidth, zeroDivisor, performed}
 use Rattle.protocol.specs.declared.Registers.{Registers}
 use Rattle.protocol.specs.declared.Outcome.{Outcome}
-use Rattle.protocol.specs.declared.Outcome.the-variants.{Fault, Next, Call, Return as Returned}
+use Rattle.protocol.specs.declared.Outcome.the-variants.{Next, Call, Return as Returned}
 use Rattle.protocol.specs.Instruction.{Executed, halted}
 use Rattle.code.specs.declared.Instruction.{Instruction}
 use Rattle.code.specs.declared.Instruction.the-variants.{Return, Jump, JumpZero, JumpNotZero, CallInstance, CallFunction, MoveConstant, CopyMemory, ReadElement, WriteElement, Typed, CycleTime, FlagByte, Convert, Pack, Unpack, Unknown}

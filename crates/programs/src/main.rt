@@ -126,7 +126,7 @@ fn cycle(code: &[u8], d: &mut [u8], limit: u16) -> Registers
         if !code::is_start(code, r.counter as usize) {
             return r;
         }
-        match followed(processor::execute(r, code, d), r, &mut places, &mut offsets) {
+        match followed(execution::execute(r, code, d), r, &mut places, &mut offsets) {
             After::GoesOn(next) => {
                 r = next;
             }

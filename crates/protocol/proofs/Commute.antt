@@ -13,7 +13,7 @@ use Rattle.verdict.proofs.Truth.{of-both, either-left, either-right}
 use Rattle.protocol.specs.State.{Core, Plant, State, Task, Move, Sample, absent, core}
 use Rattle.protocol.specs.Step.{Taking, reading, writing, copy, readTaken, readDone, writeDone}
 use Rattle.protocol.specs.Whole.{execute, wholeRead, wholeWrite, wholeOne}
-use Rattle.verdict.specs.Verdict.{pick, both, either}
+use Rattle.verdict.specs.Verdict.{pick, both}
 use Rattle.protocol.specs.Variables.{In, Variable, local, writesIt, readsIt, span, movesOf, readsOf, writesOf, Accepted}
 use Rattle.protocol.specs.Cycles.{readsFrom}
 use Rattle.protocol.proofs.Copy.{copy-other}

@@ -15,7 +15,7 @@ use Rattle.verdict.specs.Verdict.{pick}
 use Rattle.memory.proofs.Laws.{length-splice}
 use Rattle.protocol.specs.Registers.{readAcquired, byteCopied, readReleased, writeAcquired, writeReleased}
 use Rattle.protocol.specs.State.{Core, Plant, Semaphore, State, Move, Sample, Task, absent, core, mode}
-use Rattle.protocol.specs.Step.{acquiredBy, released, joinedBy, copy, uncopied, readTaken, readNext, readDone, writeTaken, writeNext, writeDone, step, run, Taking, reading, writing, takingOf}
+use Rattle.protocol.specs.Step.{acquiredBy, released, copy, uncopied, readTaken, readNext, readDone, writeTaken, writeNext, writeDone, step, run, Taking, reading, writing, takingOf}
 use Rattle.protocol.specs.Whole.{wholeRead, wholeOne, whole}
 use Rattle.protocol.specs.Variables.{In}
 use Rattle.protocol.specs.History.{published, latest, Stays, Finished, brought}

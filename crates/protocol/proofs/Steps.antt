@@ -10,7 +10,7 @@ use lib.Seq.{getD-set-same, getD-set-other}
 use Rattle.memory.proofs.Laws.{length-splice}
 use Rattle.protocol.specs.Registers.{readAcquired, byteCopied, readReleased, writeAcquired, writeReleased}
 use Rattle.protocol.specs.State.{Core, Semaphore, State, Task, absent, core, mode}
-use Rattle.protocol.specs.Step.{acquiredBy, released, joinedBy, uncopied, readTaken, readNext, readDone, writeTaken, writeNext, writeDone, step, run, Taking, takingOf, takings}
+use Rattle.protocol.specs.Step.{acquiredBy, released, uncopied, readTaken, readNext, readDone, writeTaken, writeNext, writeDone, step, run, Taking, takingOf, takings}
 use Rattle.protocol.specs.Laws.{Laws, FreshStart, Holding, SemaphoreHeld}
 use Rattle.protocol.proofs.View.{after, at, readByte, writeByte, Moves, rests, waits, takesRead, readsOn, readsLast, runs, takesWrite, writesOn, writesLast, view}
 use Rattle.protocol.proofs.Copy.{copy-length}

@@ -14,7 +14,7 @@ use lib.Seq.{getD-set-same, getD-set-other, ext-getD}
 use Rattle.verdict.specs.Verdict.{pick}
 use Rattle.protocol.specs.Registers.{readAcquired, byteCopied, readReleased, writeAcquired, writeReleased}
 use Rattle.protocol.specs.State.{Core, Plant, Semaphore, State, Move, Sample, Task, absent, core, mode, put}
-use Rattle.protocol.specs.Step.{acquiredBy, released, joinedBy, copy, uncopied, readTaken, readNext, readDone, writeTaken, writeNext, writeDone, step, run, Taking, reading, writing, takingOf, takings}
+use Rattle.protocol.specs.Step.{acquiredBy, released, copy, uncopied, readTaken, readNext, readDone, writeTaken, writeNext, writeDone, step, run, Taking, reading, writing, takingOf, takings}
 use Rattle.protocol.specs.Whole.{execute, wholeOne, whole}
 use Rattle.protocol.specs.Laws.{Laws, FreshStart, Still, SemaphoreHeld}
 use Rattle.protocol.proofs.View.{after, at, readByte, writeByte, Moves, rests, waits, takesRead, readsOn, readsLast, runs, takesWrite, writesOn, writesLast, there, view}

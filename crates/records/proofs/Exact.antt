@@ -1,6 +1,6 @@
 -- The tests of `specs/Records` hold exactly if the rules of `specs/Rules` do. In order: tests and bits; a core's record; a variable's one
 -- writer; a core's part in a variable; a variable's record; two variables. Each both ways. Assumes nothing.
-use mathlib.Core.Path.{_≡_, refl, sym, _∙_, subst}
+use mathlib.Core.Path.{_≡_, refl, sym, _∙_}
 use mathlib.Core.Bool.{Bool, true, false}
 use mathlib.Core.List.{List}
 use mathlib.Core.Logic.{inl, inr}

@@ -13,7 +13,6 @@ use Rattle.verdict.proofs.Verdict.{absurd-bool, pick-false, zero-first}
 use Rattle.protocol.specs.Variables.{local}
 use Rattle.records.specs.File.{variables, recordPlace, variableIn, variableAt}
 use Rattle.records.specs.Records.{usedBy, overlap, pairRefusal, overlapRefusal}
-use Rattle.records.specs.Rules.{Apart}
 use Rattle.records.specs.Order.{Rising, RisingIn, RisingAll}
 use Rattle.records.proofs.Exact.{named-low, overlap-not}
 

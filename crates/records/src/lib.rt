@@ -2,14 +2,14 @@
 use code::Profile;
 ghost use mathlib.Core.Path.{_≡_};
 ghost use mathlib.Core.Bool.{true};
-ghost use Prim.Native.Nat.{ℕ, _+_, _*_, _-_, _<_, _≤_};
+ghost use Prim.Native.Nat.{_+_, _*_, _-_, _<_, _≤_};
 ghost use lib.Dec.{eqb};
 ghost use lib.ListN.{length};
 ghost use Rattle.verdict.specs.Verdict.{first};
 ghost use Rattle.protocol.specs.Variables.{local, readsIt, writesIt};
 ghost use Rattle.code.specs.Profiles.{mostData};
-ghost use Rattle.records.specs.File.{cores, corePlace, variables, recordPlace, variableIn};
-ghost use Rattle.records.specs.Records.{coreOk, coreRefusal, bit, oneWriter, usedBy, placeOk, partOk, partsOk, variableOk, variableRefusal, meets, meetsShared, meetsIn, overlap, pairRefusal, overlapRefusal};
+ghost use Rattle.records.specs.File.{variables, recordPlace, variableIn};
+ghost use Rattle.records.specs.Records.{coreOk, coreRefusal, bit, oneWriter, usedBy, placeOk, partOk, partsOk, variableOk, variableRefusal, meets, meetsShared, meetsIn, overlap, overlapRefusal};
 ghost use Rattle.records.specs.Order.{RisingShared, RisingIn, RisingAll};
 
 // Bytes of a core's record: data size, input size, limit (16 bits each).
@@ -108,12 +108,12 @@ fn core_refusal(profile: Profile, f: &[u8], k: usize) -> u8
     ensures { λ r. ⌜ r ≡ coreRefusal profile (now (f .entry)) k ⌝ }
 {
     if f.len() < 5 + CORE_RECORD * k + CORE_RECORD {
-        return 1;
+        return verdict::CUT_FILE;
     }
     if core_ok(profile, f, k) {
         return 0;
     }
-    3
+    verdict::BAD_CORE
 }
 
 pub fn cores_refusal(profile: Profile, f: &[u8], n: usize) -> u8
@@ -210,12 +210,12 @@ fn variable_refusal(f: &[u8], i: u8) -> u8
 {
     let p = record_place(f, i);
     if f.len() < p + 12 {
-        return 1;
+        return verdict::CUT_FILE;
     }
     if variable_ok(f, p) {
         return 0;
     }
-    4
+    verdict::BAD_VARIABLE
 }
 
 pub fn variables_refusal(f: &[u8], m: u8) -> u8

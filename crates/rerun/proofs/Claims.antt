@@ -33,7 +33,7 @@ use Rattle.states.proofs.Fresh.{fresh-fit}
 use Rattle.states.proofs.Accepted.{accepted-set}
 use Rattle.runner.specs.Runs.{Left, ranCall}
 use Rattle.machine.specs.Calls.{lentFits, tableOf, freshRefusal, freshCall, runRefusal, runCall}
-use Rattle.calls.specs.Calling.{Lending, lentOf, Call, stepping, running, leaves, calls, wholeOf, countsAs, stepsOf}
+use Rattle.calls.specs.Calling.{Lending, lentOf, Call, stepping, running, leaves, wholeOf, countsAs, stepsOf}
 use Rattle.machine.proofs.Calls.{granted as call-granted}
 use Rattle.calls.proofs.Calling.{Lendable, lent-all, memory-all, shared-all, call-counted, run-fit, fresh-whole, fresh-lendable, calls-interleaved}
 use Rattle.calls.proofs.Back.{state-back}

@@ -3,25 +3,23 @@ use mathlib.Core.Path.{_≡_, refl, sym, ap, ap₂, _∙_, subst}
 use mathlib.Core.Logic.{_≢_, _⊎_, inl, inr}
 use mathlib.Core.Bool.{Bool, true, false}
 use mathlib.Core.List.{List, [], _∷_, _++_, map, map-append}
-use mathlib.Core.Option.{some}
-use Prim.Native.Nat.{ℕ, zero, suc, _+_, _-_, _≤_, _<_}
+use Prim.Native.Nat.{ℕ, suc, _+_, _-_, _≤_, _<_}
 use native.Mathlib.Numerals.{add-one}
 use native.Mathlib.Omega.{arith}
-use borrow.Author.Tests.{lt-ltb, le-ltb, ltb-true, ltb-false, eq-eqb, eqb-true}
+use borrow.Author.Tests.{lt-ltb, le-ltb, ltb-true, ltb-false, eqb-true}
 use lib.Dec.{ltb, eqb}
-use lib.ListN.{length, getD, set, take, drop, length-drop, drop-of-length-le, take-append-drop, length-set}
-use lib.Seq.{take-suc, take-all, drop-cons, getD-set-other, set-getD}
-use Rattle.verdict.specs.Verdict.{pick, both, unless}
-use Rattle.verdict.proofs.Verdict.{pick-true, pick-false, both-true}
+use lib.ListN.{length, getD, set, take, drop, drop-of-length-le, take-append-drop, length-set}
+use lib.Seq.{take-suc, drop-cons, getD-set-other, set-getD}
+use Rattle.verdict.specs.Verdict.{pick, both}
+use Rattle.verdict.proofs.Verdict.{pick-true, both-true}
 use Rattle.memory.specs.Memory.{split, total}
 use Rattle.protocol.specs.declared.Registers.{Registers}
 use Rattle.protocol.specs.Registers.{writeReleased}
-use Rattle.protocol.specs.State.{Core, Plant, Semaphore, State, Task, Sample, core, mode, untaken}
+use Rattle.protocol.specs.State.{Core, Plant, State, Task, core, mode, untaken}
 use Rattle.protocol.specs.Step.{copy, writeDone, Taking, reading, writing}
 use Rattle.protocol.specs.Whole.{wholeOne, whole}
-use Rattle.protocol.specs.Laws.{Still}
 use Rattle.protocol.specs.Variables.{writesOf}
-use Rattle.protocol.specs.Rerun.{anyLeft, accepts, legal, rerunEnd, decoded, rerunBytes, Producing}
+use Rattle.protocol.specs.Rerun.{anyLeft, accepts, legal, rerunEnd, decoded, Producing}
 use Rattle.protocol.proofs.View.{inside}
 use Rattle.protocol.proofs.Whole.{whole-append}
 use Rattle.protocol.proofs.Rerun.{legal-append, rerun-holds}
@@ -31,18 +29,16 @@ use Rattle.taskset.specs.Trace.{recordCount}
 use Rattle.taskset.specs.Fresh.{freshOf}
 use Rattle.taskset.proofs.Accepted.{fresh-of}
 use Rattle.states.specs.declared.Held.{Held}
-use Rattle.states.specs.declared.CoreTask.{CoreTask}
 use Rattle.states.specs.Task.{taskOf}
-use Rattle.states.specs.Tasks.{coreTask}
 use Rattle.states.specs.Machine.{noRegisters, stackIn, coreIn, stateIn}
 use Rattle.states.specs.Fit.{Fit}
 use Rattle.states.specs.Set.{AcceptedSet}
 use Rattle.states.proofs.Executes.{executes}
 use Rattle.states.proofs.Fresh.{fresh-fit}
-use Rattle.runner.specs.Executing.{Standing}
 use Rattle.runner.proofs.Running.{core-in, cores-in, shared-in, semaphore-in}
 use Rattle.calls.proofs.Calling.{run-fit}
-use Rattle.rerun.specs.Rerunning.{namedCore, dueBy, Resting, Reread, Rerunning}
+use Rattle.takings.specs.Takings.{namedCore, dueBy}
+use Rattle.rerun.specs.Rerunning.{Resting, Reread, Rerunning}
 use Rattle.rerun.proofs.Reading.{put-in, samples-length, record-next}
 
 -- ---- a byte: core k has it to do exactly if the whole-exchange machine has

@@ -33,7 +33,8 @@ use Rattle.states.specs.Fit.{FitCore}
 use Rattle.states.specs.Set.{AcceptedSet}
 use Rattle.runner.proofs.Running.{core-in, shared-in}
 use Rattle.machine.specs.Calls.{lentFits}
-use Rattle.rerun.specs.Rerunning.{namedCore, dueBy, dataIn, Exchanging, Reading, ReadsWhole, Due, Took, Rerunning}
+use Rattle.takings.specs.Takings.{namedCore, dueBy}
+use Rattle.rerun.specs.Rerunning.{dataIn, Exchanging, Reading, ReadsWhole, Due, Took, Rerunning}
 use Rattle.rerun.proofs.Reading.{count-is, ready-of}
 use Rattle.rerun.proofs.Listed.{at-rest, list-refused, none-named, due-here, read-on, write-on}
 

@@ -6,6 +6,7 @@ use lib.ListN.{length}
 use Rattle.verdict.specs.Numbers.{badLengths, notProduced}
 use Rattle.verdict.specs.Verdict.{pick, next, unless}
 use Rattle.protocol.specs.State.{State}
+use Rattle.protocol.specs.Fresh.{freshFlags}
 use Rattle.protocol.specs.Rerun.{legal, rerunEnd, decoded}
 use Rattle.records.specs.File.{cores}
 use Rattle.taskset.specs.Judge.{judge}
@@ -36,7 +37,7 @@ reran f t list = rerunEnd (taskOf f t) (map decoded list) (freshOf f)
 unfoldable pub rerunLeft : List ℕ → List ℕ → List ℕ → Left
 rerunLeft f t list =
     leftAs
-    (record { refusal = 0; taken = length list; state = heldAfter (cores f) (tableOf (cores f) 4) (reran f t list) })
+    (record { refusal = 0; taken = length list; state = heldAfter (cores f) (tableOf (cores f) freshFlags) (reran f t list) })
     (dataOf (reran f t list))
     (reran f t list .plant .shared)
     []

@@ -1,14 +1,12 @@
--- What the functions of a rerun are given and what they promise. In order: a byte of the list; a state at rest; an exchange; a reading; a taking; the whole list.
+-- What the functions of a rerun are given and what they promise. In order: a state at rest; an exchange; a reading; a taking; the whole list.
 use mathlib.Core.Path.{_≡_}
 use mathlib.Core.Logic.{_≢_}
-use mathlib.Core.Bool.{Bool, true}
+use mathlib.Core.Bool.{true}
 use mathlib.Core.List.{List, [], map}
-use Prim.Native.Nat.{ℕ, _+_, _-_, _≤_, _<_}
-use lib.Dec.{eqb, ltb}
+use Prim.Native.Nat.{ℕ, _≤_, _<_}
 use lib.ListN.{length, getD, set, take}
-use Rattle.verdict.specs.Verdict.{pick, both}
 use Rattle.memory.specs.Memory.{splice, total, split}
-use Rattle.protocol.specs.Modes.{betweenCycles, waitingToWrite}
+use Rattle.protocol.specs.Modes.{betweenCycles}
 use Rattle.protocol.specs.declared.Registers.{Registers}
 use Rattle.protocol.specs.State.{core, untaken}
 use Rattle.protocol.specs.Step.{copy, reading}
@@ -31,20 +29,11 @@ use Rattle.states.specs.Machine.{noRegisters, stackIn, stateIn}
 use Rattle.states.specs.Set.{AcceptedSet}
 use Rattle.steps.specs.Moving.{StepGiven}
 use Rattle.runner.specs.declared.RunAnswer.{RunAnswer}
-use Rattle.runner.specs.Runs.{Left, leftAs}
+use Rattle.runner.specs.Runs.{leftAs}
 use Rattle.runner.specs.Executing.{Standing}
 use Rattle.machine.specs.Calls.{lentFits, answerOf, tableOf}
+use Rattle.takings.specs.Takings.{dueBy}
 use Rattle.rerun.specs.Calls.{listRefusal, rerunLeft}
-
--- ---- a byte of the list
-
--- the core that it names
-abbrev pub namedCore : ℕ → ℕ
-namedCore b = pick (ltb b 16) b (b - 16)
-
--- a core with these registers and so many records has it to do: a reading in mode 0 with records left, a writing in mode 3
-abbrev pub dueBy : ℕ → Registers → ℕ → Bool
-dueBy b r count = pick (ltb b 16) (both (eqb (r .mode) betweenCycles) (ltb (r .cycles) count)) (eqb (r .mode) waitingToWrite)
 
 -- ---- a state at rest: no exchange, no execution
 

@@ -1,12 +1,15 @@
 // Document 02, 2.13: rerun from the order of takings, with every exchange whole and each execution straight after its reading. Whether steps produce the
 // list is known at its end alone, so the rerun works in memories of its own and copies them out where nothing is refused.
-// In order: a byte of the list; a reading; a writing; a taking; the list; the call.
+// In order: a reading; a writing; a taking; the list; the call. Not here: a byte of the list (crate `takings`).
 use code::Profile;
 use machine::SHARED;
 use protocol::Registers;
 use runner::RunAnswer;
 use states::CoreTask;
 use states::Held;
+use takings::WRITINGS;
+use takings::is_due;
+use takings::named_core;
 use taskset::Layout;
 ghost use mathlib.Core.Path.{_≡_};
 ghost use mathlib.Core.Bool.{true};
@@ -21,38 +24,10 @@ ghost use Rattle.taskset.specs.Task.{sizesOf, variablesOf};
 ghost use Rattle.runner.specs.Runs.{leftAs};
 ghost use Rattle.machine.specs.Calls.{answerOf, tableOf};
 ghost use Rattle.rerun.specs.Calls.{rerunCall};
-ghost use Rattle.rerun.specs.Rerunning.{namedCore, dueBy, dataIn, Exchanging, BroughtTo, BroughtIn, Reading, ReadsWhole, Due, Took, reranAnswer, RerunGiven, Reran};
+ghost use Rattle.rerun.specs.Rerunning.{dataIn, Exchanging, BroughtTo, BroughtIn, Reading, ReadsWhole, Due, Took, reranAnswer, RerunGiven, Reran};
 
 // Bytes of the largest data buffer.
 const LARGEST_BUFFER: usize = 16384;
-
-// A byte of the list from here on is a writing.
-const WRITINGS: usize = 16;
-
-// ---- a byte of the list
-
-// The core that it names.
-fn named_core(b: usize) -> usize
-    ensures { λ k. ⌜ k ≡ namedCore b ⌝ }
-{
-    if b < WRITINGS {
-        return b;
-    }
-    b - WRITINGS
-}
-
-// Whether a core with these registers and so many records has it to do.
-fn is_due(b: usize, r: Registers, count: usize) -> bool
-    ensures { λ x. ⌜ x ≡ dueBy b r count ⌝ }
-{
-    if b < WRITINGS {
-        if r.mode != protocol::BETWEEN {
-            return false;
-        }
-        return (r.cycles as usize) < count;
-    }
-    r.mode == protocol::WAITING
-}
 
 // ---- a reading
 
@@ -116,7 +91,7 @@ fn read(
 {
     let time = read_exchange(r, k, c, file, trace, first, end, buffer, shared);
     let started = protocol::read_released(protocol::read_acquired(r, time));
-    runner::run_alone(file, trace, c, k, started, places, offsets, buffer)
+    core_runs::run_alone(file, trace, c, k, started, places, offsets, buffer)
 }
 
 // ---- a writing
@@ -306,7 +281,7 @@ fn rerun_judged(
 {
     let mut data: [u8; LARGEST_BUFFER] = [0; LARGEST_BUFFER];
     let mut common: [u8; SHARED] = [0; SHARED];
-    let size = taskset::sum_of_sizes(file, layout);
+    let size = file_loading::sum_of_sizes(file, layout);
     rerun_through(
         file,
         trace,

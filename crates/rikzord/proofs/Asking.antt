@@ -28,7 +28,7 @@ use denote.Builtin.{usize}
 use denote.Ref.{RefT}
 use denote.Slice.{sliceVal, ShrSlice, shr-slice-copy}
 use denote.Steps.{owned, peeks, heard, nothing}
-use denote.Struct.Laws as LL
+use denote.Struct.Laws as StructLaws
 use denote.Triple.Statement.{Contract, Triple}
 use denote.Triple.Call.{calls-at}
 use denote.Triple.Clauses.{ensured, lasts}
@@ -36,15 +36,15 @@ use denote.Triple.Spec.{tripleOf}
 use Rattle.snapshot.specs.Snapshot.{noRecord}
 use Rattle.rikzord.specs.Lent.{recordAt}
 use Rattle.snapshot.specs.declared.CoreRecord.{CoreRecord}
-use Rattle.snapshot.proofs.CoreRecord as T
-use Rattle.snapshot.proofs.CoreRecord.Laws as T′
+use Rattle.snapshot.proofs.CoreRecord as CoreRecordType
+use Rattle.snapshot.proofs.CoreRecord.Laws as CoreRecordLaws
 use Rattle.rikzord.proofs.get_or as get-or
 use Rattle.rikzord.proofs.get_or.Symbol.{name as #rikzord·get-or}
 use Rattle.snapshot.proofs.no_record as no-record
 use Rattle.snapshot.proofs.no_record.Symbol.{name as #snapshot·no-record}
 
 abbrev pub R : RattleType
-R = T.the-row
+R = CoreRecordType.the-row
 
 -- what `get_or` answers where a record past the end is one of zeros
 pub from-none : (ys : List CoreRecord) (c n : CoreRecord) (i : ℕ) → n ≡ noRecord → c ≡ getD ys i n → c ≡ recordAt ys i
@@ -71,8 +71,8 @@ module _ {M : Type 1} (𝓤 : URA M) (H : Heap 𝓤) (A : Atoms 𝓤) (W : Given
   goes-none : ent 𝓤 (emp 𝓤) (NoRecord 𝓤 H A at-mem run .pre to-none)
   goes-none = qed W [] ∵ nothing ! $ nothing ! $ join ! $ frame ! $ done !
 
-  pub typed : (c : CoreRecord) (v : Val) → Is R c (v ∷ []) → Holds (hasTy T′.mir v) × WT v
-  typed c v is = LL.lawful T.the-type T′.the-laws 𝓤 H A W .typed c (v ∷ []) is .0
+  pub typed : (c : CoreRecord) (v : Val) → Is R c (v ∷ []) → Holds (hasTy CoreRecordLaws.mir v) × WT v
+  typed c v is = StructLaws.lawful CoreRecordType.the-type CoreRecordLaws.the-laws 𝓤 H A W .typed c (v ∷ []) is .0
 
   module _ (C : Calls 𝓤 H) (Λ : Loops 𝓤 H) (fm : FmC 𝓤 H (W .laws) C) (known : Triple 𝓤 (C #snapshot·no-record) (NoRecord 𝓤 H A at-mem run)) where
     pub begins : {Γ : List (Item 𝓤)} {E : Env 𝓤 H} {d : Place} {rest : Body} {p : Kit.Post 𝓤 H}
@@ -99,7 +99,7 @@ module _ {M : Type 1} (𝓤 : URA M) (H : Heap 𝓤) (A : Atoms 𝓤) (W : Given
 
   goes-get : (i : ℕ) → i < 2 ^ 64 → (n : CoreRecord) (u : Val) → Is R n (u ∷ []) → ent 𝓤 (sep 𝓤 (sep 𝓤 (A .lft κ q) (sem 𝓤 H A ftrue)) (sem 𝓤 H A Own)) (GetOr 𝓤 H A at-mem run .pre (to-get i n u))
   goes-get i i-fits n u n-is =
-      qed W ((‵ (flft κ q) ⊛ ‵ ftrue) ∷ ‵ Own ∷ []) ∵ nothing ! $ owned ! R (Is R) (LL.makes T.the-type T′.the-plain 𝓤 H A) n _ n-is $ fjoin ! $
+      qed W ((‵ (flft κ q) ⊛ ‵ ftrue) ∷ ‵ Own ∷ []) ∵ nothing ! $ owned ! R (Is R) (StructLaws.makes CoreRecordType.the-type CoreRecordLaws.the-plain 𝓤 H A) n _ n-is $ fjoin ! $
       owned ! usize (Is usize) (uint-makes 𝓤 H A W w64) i _ (refl, i-fits) $ fjoin ! $ move ! (2 ∷ 0 ∷ []) $ fjoin ! $ move ! (1 ∷ 0 ∷ []) $ join ! $ frame ! $ done !
 
   module _ (C : Calls 𝓤 H) (Λ : Loops 𝓤 H) (fm : FmC 𝓤 H (W .laws) C) (known-get : Triple 𝓤 (C #rikzord·get-or) (GetOr 𝓤 H A at-mem run)) where

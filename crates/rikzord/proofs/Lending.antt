@@ -24,35 +24,35 @@ use denote.Builtin.{u8}
 use denote.Ref.{RefT, MutRef}
 use denote.Slice.{sliceVal, MutSlice, finally}
 use denote.Steps.{owned, peeks, heard, nothing}
-use denote.Struct.Laws as LL
+use denote.Struct.Laws as StructLaws
 use denote.Triple.Statement.{Contract, Triple}
 use denote.Triple.Call.{calls-at}
 use denote.Triple.Clauses.{ensured, lasts}
 use denote.Triple.Spec.{tripleOf}
 use Rattle.semaphore.specs.declared.Semaphore.{Semaphore}
-use Rattle.semaphore.proofs.Semaphore as P
-use Rattle.semaphore.proofs.Semaphore.Laws as P′
+use Rattle.semaphore.proofs.Semaphore as SemaphoreType
+use Rattle.semaphore.proofs.Semaphore.Laws as SemaphoreLaws
 use Rattle.snapshot.specs.declared.CoreRecord.{CoreRecord}
 use Rattle.snapshot.specs.declared.Table.{Table}
 use Rattle.snapshot.specs.declared.After.{After}
 use Rattle.rikzord.specs.Lent.{loaded}
-use Rattle.snapshot.proofs.CoreRecord as T
-use Rattle.snapshot.proofs.After as N
-use Rattle.snapshot.proofs.After.Laws as N′
+use Rattle.snapshot.proofs.CoreRecord as CoreRecordType
+use Rattle.snapshot.proofs.After as AfterType
+use Rattle.snapshot.proofs.After.Laws as AfterLaws
 use Rattle.rikzord.proofs.Laws.{WrittenBack}
 use Rattle.rikzord.proofs.load_table as load′
 use Rattle.rikzord.proofs.save as save
 use Rattle.rikzord.proofs.save.Symbol.{name as #rikzord·save}
 
 abbrev pub R : RattleType
-R = T.the-row
+R = CoreRecordType.the-row
 
 -- the machine values of a semaphore and of an answer
 abbrev pub mach-semaphore : Semaphore → Val
-mach-semaphore s = LL.tuple-val P.the-type P′.the-laws (P.the-type .to s)
+mach-semaphore s = StructLaws.tuple-val SemaphoreType.the-type SemaphoreLaws.the-laws (SemaphoreType.the-type .to s)
 
 abbrev pub mach-after : After → Val
-mach-after y = LL.tuple-val N.the-type N′.the-laws (N.the-type .to y)
+mach-after y = StructLaws.tuple-val AfterType.the-type AfterLaws.the-laws (AfterType.the-type .to y)
 
 module _ {M : Type 1} (𝓤 : URA M) (H : Heap 𝓤) (A : Atoms 𝓤) (at-mem : Memory → SProp 𝓤) (run : Routine → Fun 𝓤) where
   abbrev pub Load : Contract 𝓤
@@ -66,12 +66,12 @@ module _ {M : Type 1} (𝓤 : URA M) (H : Heap 𝓤) (A : Atoms 𝓤) (at-mem : 
   load-of κ x r = exE 𝓤 _ (λ ws. snd∗ 𝓤 (sem 𝓤 H A (lasts load′.ended (κ, tt) (x, tt) ws)) (fact 𝓤 (r ≡ loaded (x .now))))
 
 -- whoever holds an answer knows its facts of its machine value
-pub after-is : (y : After) (w : Val) → Is N.the-row y (w ∷ []) → Is N.the-row y (mach-after y ∷ [])
-after-is y w is = subst (Is N.the-row y) (LL.tells N.the-type N′.the-laws y _ is) is
+pub after-is : (y : After) (w : Val) → Is AfterType.the-row y (w ∷ []) → Is AfterType.the-row y (mach-after y ∷ [])
+after-is y w is = subst (Is AfterType.the-row y) (StructLaws.tells AfterType.the-type AfterLaws.the-laws y _ is) is
 
 -- the call of `save`: the table and the semaphore are given up for good, and of both only what says their last values comes back, with the number
 module _ {M : Type 1} (𝓤 : URA M) (H : Heap 𝓤) (A : Atoms 𝓤) (W : Given 𝓤 H A) (at-mem : Memory → SProp 𝓤) (run : Routine → Fun 𝓤) (κ κ′ : Lft) (q q′ : Share) (b o : ℕ)
-    (γ : GName) (table : List CoreRecord) (b′ o′ : ℕ) (γ′ : GName) (semaphore : Semaphore) (y : After) (is : Is N.the-row y (mach-after y ∷ [])) where
+    (γ : GName) (table : List CoreRecord) (b′ o′ : ℕ) (γ′ : GName) (semaphore : Semaphore) (y : After) (is : Is AfterType.the-row y (mach-after y ∷ [])) where
   abbrev table-ref : RefT (List CoreRecord)
   table-ref = record { ptr = (b, o); name = γ; now = table }
 
@@ -88,7 +88,7 @@ module _ {M : Type 1} (𝓤 : URA M) (H : Heap 𝓤) (A : Atoms 𝓤) (W : Given
   semaphore-val = vptr b′ o′
 
   abbrev semaphore-own : Fml
-  semaphore-own = MutRef (named 1) κ′ P.the-row .own semaphore-ref (semaphore-val ∷ [])
+  semaphore-own = MutRef (named 1) κ′ SemaphoreType.the-row .own semaphore-ref (semaphore-val ∷ [])
 
   abbrev SaveArg : Type 0
   SaveArg = RefT (List CoreRecord) × (RefT Semaphore × (After × Unit {0}))
@@ -102,14 +102,14 @@ module _ {M : Type 1} (𝓤 : URA M) (H : Heap 𝓤) (A : Atoms 𝓤) (W : Given
 
   goes-save : ent 𝓤 (⋆ 𝓤 H A (‵ table-own ∷ ‵ (flft κ q) ∷ ‵ semaphore-own ∷ ‵ (flft κ′ q′) ∷ [])) (Save 𝓤 H A at-mem run .pre to-save)
   goes-save =
-      qed W (‵ table-own ∷ ‵ (flft κ q) ∷ ‵ semaphore-own ∷ ‵ (flft κ′ q′) ∷ []) ∵ nothing ! $ owned ! N.the-row (Is N.the-row) (LL.makes N.the-type N′.the-plain 𝓤 H A) y _ is $ fjoin ! $ move ! (3 ∷ 0 ∷ []) $ fjoin ! $ move ! (1 ∷ 0 ∷ []) $ fjoin ! $
+      qed W (‵ table-own ∷ ‵ (flft κ q) ∷ ‵ semaphore-own ∷ ‵ (flft κ′ q′) ∷ []) ∵ nothing ! $ owned ! AfterType.the-row (Is AfterType.the-row) (StructLaws.makes AfterType.the-type AfterLaws.the-plain 𝓤 H A) y _ is $ fjoin ! $ move ! (3 ∷ 0 ∷ []) $ fjoin ! $ move ! (1 ∷ 0 ∷ []) $ fjoin ! $
       nothing ! $ move ! (3 ∷ 0 ∷ []) $ join ! $ move ! (2 ∷ 0 ∷ []) $ join ! $ join ! $ frame ! $ done !
 
   module _ (C : Calls 𝓤 H) (Λ : Loops 𝓤 H) (fm : FmC 𝓤 H (W .laws) C) (known : Triple 𝓤 (C #rikzord·save) (Save 𝓤 H A at-mem run)) where
     pub saves : {Γ : List (Item 𝓤)} {E : Env 𝓤 H} {xs : List Operand} {d : Place} {rest : Body} {p : Kit.Post 𝓤 H}
         → Opds (Go {0}) W (raw (Save 𝓤 H A at-mem run .pre to-save) ∷ Γ) E xs (table-val ∷ semaphore-val ∷ mach-after y ∷ [])
         → ((n : ℕ) (u : Val) (table′ : List CoreRecord) (semaphore′ : Semaphore) → WrittenBack table semaphore y n table′ semaphore′ → length table′ ≡ length table
-        → Is u8 n (u ∷ []) → Sq W (‵ (finally R γ table′) ∷ ‵ (fres γ′ (P.the-row .coded .code semaphore′)) ∷ ‵ (flft κ q) ∷ ‵ (flft κ′ q′) ∷ ‵ (u8 .own n (u ∷ [])) ∷ Γ)
+        → Is u8 n (u ∷ []) → Sq W (‵ (finally R γ table′) ∷ ‵ (fres γ′ (SemaphoreType.the-row .coded .code semaphore′)) ∷ ‵ (flft κ q) ∷ ‵ (flft κ′ q′) ∷ ‵ (u8 .own n (u ∷ [])) ∷ Γ)
         (lands C Λ E d u rest p))
         → Sq W (‵ table-own ∷ ‵ (flft κ q) ∷ ‵ semaphore-own ∷ ‵ (flft κ′ q′) ∷ Γ) (runs C Λ E (seq (call #rikzord·save xs d) rest) p)
     saves os k =

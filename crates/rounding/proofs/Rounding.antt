@@ -2,7 +2,7 @@
 -- it is of; float destinations; what is not held; all of it. Assumes nothing.
 use mathlib.Core.Path.{_≡_, refl, sym, ap, _∙_, subst}
 use mathlib.Core.Bool.{Bool, true, false}
-use mathlib.Core.Logic.{_⊎_, inl, inr, ⊎-elim}
+use mathlib.Core.Logic.{_⊎_, ⊎-elim}
 use Prim.Native.Nat.{ℕ, _*_, _^_, _≤_, _<_}
 use native.Mathlib.Omega.{arith}
 use lib.IntN.{ℤ, pos, natAbs}
@@ -17,9 +17,9 @@ use Rattle.values.specs.Values.{typed, stored, patternOf}
 use Rattle.values.specs.declared.Value.{Value}
 use Rattle.values.specs.declared.Value.the-variants.{Bool as VBool, Signed, Real, Lreal}
 use Rattle.conversions.specs.declared.Converted.the-variants.{NotHeld}
-use Rattle.conversions.specs.Conversions.{Result, stores, not-held, withSign, heldIn, nearestWhole, toWhole, narrow, toReal, toLreal, toType, resultAs, converted}
+use Rattle.conversions.specs.Conversions.{Result, stores, not-held, withSign, nearestWhole, toWhole, narrow, toReal, toLreal, toType, resultAs, converted}
 use Rattle.conversions.specs.Kept.{Whole, numberAt}
-use Rattle.conversions.specs.Rounding.{Nearest, Rounded}
+use Rattle.conversions.specs.Rounding.{Rounded}
 use Rattle.conversions.proofs.Types.{isStored}
 use Rattle.conversions.proofs.Rounding.{nearest-unique}
 use Rattle.conversions.proofs.Ieee.{whole-rounded, narrow-rounded}

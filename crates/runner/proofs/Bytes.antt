@@ -1,17 +1,14 @@
 -- Steps of one core that copy bytes of its exchange, none of them the last. In order: bytes that leave one; the data; one step; a reading; a writing; both.
 -- Assumes nothing.
 use mathlib.Core.Path.{_≡_, refl, sym, ap, ap₂, _∙_, subst, subst⁻¹}
-use mathlib.Core.Logic.{_≢_, inl, inr}
+use mathlib.Core.Logic.{inl, inr}
 use mathlib.Core.List.{List, [], _∷_, map}
-use Prim.Native.Nat.{ℕ, zero, suc, _+_, _-_, _*_, _≤_, _<_}
+use Prim.Native.Nat.{ℕ, zero, suc, _+_, _-_, _≤_, _<_}
 use native.Mathlib.Nat.{add-zero}
-use native.Mathlib.Decide.{decLe}
 use native.Mathlib.Omega.{arith}
-use lib.ListN.{length, getD, set, take, drop, replicate, length-set, getD-replicate}
-use lib.Seq.{getD-set-same, set-set, set-getD, take-add, drop-drop, map-set-same, getD-take, getD-drop}
-use Rattle.memory.specs.Memory.{splice, part, bytesLE, valueLE, readLE, total, split, flat}
-use Rattle.memory.proofs.Laws.{length-part}
-use Rattle.memory.proofs.Number.{bytes-value}
+use lib.ListN.{length, getD, set, take, drop, length-set}
+use lib.Seq.{getD-set-same, set-set, set-getD, take-add, drop-drop, map-set-same}
+use Rattle.memory.specs.Memory.{splice, total, split, flat}
 use Rattle.memory.proofs.Cores.{length-split, flat-split, lengths-split, split-flat-of, length-flat}
 use Rattle.protocol.specs.declared.Registers.{Registers}
 use Rattle.protocol.specs.Registers.{byteCopied}
@@ -28,7 +25,7 @@ use Rattle.states.specs.Set.{AcceptedSet}
 use Rattle.states.specs.Task.{taskOf}
 use Rattle.states.specs.declared.CoreTask.{CoreTask}
 use Rattle.states.specs.Tasks.{coreTask}
-use Rattle.states.specs.Machine.{noRegisters, stackIn, coreIn, stateIn}
+use Rattle.states.specs.Machine.{noRegisters, stackIn, coreIn}
 use Rattle.states.specs.Fit.{FitCore}
 use Rattle.states.proofs.Executes.{executes}
 use Rattle.steps.specs.Bytes.{Ahead, BytesRead, BytesMoved}

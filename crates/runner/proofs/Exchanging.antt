@@ -1,14 +1,14 @@
 -- What a step of an exchange makes of the parts of a run, by its answer, all together. Assumes nothing.
-use mathlib.Core.Path.{_≡_, refl, sym, ap, _∙_, subst}
+use mathlib.Core.Path.{_≡_, refl, sym, _∙_}
 use mathlib.Core.Logic.{inl, inr}
-use mathlib.Core.Bool.{Bool, true, false}
+use mathlib.Core.Bool.{Bool, false}
 use mathlib.Core.List.{List, map}
-use Prim.Native.Nat.{ℕ, suc, _+_, _<_, _≤_}
+use Prim.Native.Nat.{ℕ, _+_, _<_, _≤_}
 use native.Mathlib.Omega.{arith}
 use lib.ListN.{length, getD, set}
 use Rattle.memory.specs.Memory.{splice}
 use Rattle.protocol.specs.declared.Registers.{Registers}
-use Rattle.protocol.specs.State.{Core, Semaphore, State}
+use Rattle.protocol.specs.State.{Semaphore, State}
 use Rattle.protocol.specs.Step.{turn, encoded}
 use Rattle.semaphore.specs.declared.Line.{Line}
 use Rattle.semaphore.specs.Line.{semaphoreOf, waitsAt, lineOf, Lined}

@@ -1,7 +1,6 @@
 -- A core executing by itself: steps of an order that names it alone, carried on, are steps of the core; one stretch after another. Assumes nothing.
 use mathlib.Core.Path.{_≡_, refl, sym, ap, ap₂, _∙_, subst}
-use mathlib.Core.Logic.{_≢_}
-use mathlib.Core.Bool.{Bool, true, false}
+use mathlib.Core.Bool.{true}
 use mathlib.Core.List.{List, [], _∷_, _++_}
 use Prim.Native.Nat.{ℕ, zero, suc, _+_, _-_, _≤_, _<_}
 use native.Mathlib.Nat.{zero-add, le-of-suc-le-suc}
@@ -9,7 +8,7 @@ use native.Mathlib.Decide.{ℕ-discrete}
 use native.Mathlib.Omega.{arith}
 use borrow.Author.Tests.{lt-ltb, eq-eqb, ne-eqb}
 use lib.Dec.{eqb}
-use lib.ListN.{length, getD, set, take, drop, replicate, length-append, length-replicate, getD-replicate, replicate-append-replicate, take-append-drop, length-set}
+use lib.ListN.{length, getD, set, take, drop, replicate, length-append, length-replicate, getD-replicate, replicate-append-replicate, take-append-drop}
 use lib.Seq.{getD-set-same, set-set, set-getD}
 use Rattle.verdict.specs.Verdict.{pick}
 use Rattle.verdict.proofs.Verdict.{pick-true, pick-false}
@@ -18,9 +17,9 @@ use Rattle.protocol.specs.State.{State, untaken}
 use Rattle.protocol.specs.Step.{run, Taking, takings}
 use Rattle.protocol.proofs.Steps.{run-append, takings-append}
 use Rattle.exchange.specs.declared.Cursor.{Cursor}
-use Rattle.records.specs.File.{cores, limit}
+use Rattle.records.specs.File.{cores}
 use Rattle.states.specs.Task.{taskOf}
-use Rattle.states.specs.Machine.{noRegisters, stackIn, coreIn, stateIn}
+use Rattle.states.specs.Machine.{noRegisters, coreIn, stateIn}
 use Rattle.states.specs.Fit.{FitCore}
 use Rattle.states.specs.Set.{AcceptedSet}
 use Rattle.order.specs.Order.{stepsOn}

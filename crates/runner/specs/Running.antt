@@ -1,7 +1,6 @@
 -- Where a run stands between two of its steps, and what its parts promise of it. In order: a place of execution, and of an exchange; the invariant;
 -- steps that carry a run on.
 use mathlib.Core.Path.{_≡_}
-use mathlib.Core.Bool.{true}
 use mathlib.Core.List.{List}
 use mathlib.Core.Option.{Option, none, some}
 use Prim.Native.Nat.{ℕ, suc, _+_, _≤_, _<_}

@@ -73,7 +73,7 @@ fn run_judged(
     let first = layout.first;
     let end = first + records::VARIABLE_RECORD * layout.variables;
     let aim = aim_of(file, trace, first, end, s, buffer, shared);
-    runner::run_order(
+    order_runs::run_order(
         file,
         trace,
         tasks,

@@ -8,17 +8,16 @@ use Prim.Native.Nat.{ℕ, zero, suc, _+_, _-_, _≤_, _<_}
 use native.Mathlib.Numerals.{add-one}
 use native.Mathlib.Omega.{arith}
 use borrow.Author.Tests.{eq-eqb, ne-eqb}
-use lib.Dec.{T, eqb, eqb→eq}
+use lib.Dec.{eqb, eqb→eq}
 use lib.ListN.{length, getD, set, take, drop, length-take, length-drop, length-append, drop-of-length-le}
 use lib.Seq.{drop-cons, getD-take}
 use Rattle.verdict.specs.Verdict.{pick}
 use Rattle.verdict.proofs.Verdict.{absurd-bool}
-use Rattle.verdict.proofs.Truth.{fails, tested}
+use Rattle.verdict.proofs.Truth.{fails}
 use Rattle.protocol.specs.State.{Semaphore}
-use Rattle.protocol.specs.Step.{inLine, turnIn, turn, acquiredBy, released, joined, joinedBy}
+use Rattle.protocol.specs.Step.{inLine, turnIn, turn, acquiredBy, released, joinedBy}
 use Rattle.protocol.specs.Fair.{Once}
 use Rattle.protocol.proofs.Lined.{leaves}
-use Rattle.semaphore.specs.declared.Semaphore.{Semaphore as HeldSemaphore}
 use Rattle.semaphore.specs.declared.Line.{Line}
 use Rattle.semaphore.specs.Line.{semaphoreOf, semaphoreBack, waitsAt, standingIn, lineOf, Lined}
 

@@ -8,6 +8,7 @@ use mathlib.Core.List.{List, [], _∷_}
 use lib.ListN.{getD, set, replicate}
 use lib.Dec.{ltb, leb, eqb}
 use Rattle.verdict.specs.Verdict.{pick, next}
+use Rattle.verdict.specs.Numbers.{badLengths}
 use Rattle.memory.specs.Memory.{splice, part}
 use Rattle.protocol.specs.Modes.{betweenCycles}
 use Rattle.protocol.specs.declared.Registers.{Registers}
@@ -164,7 +165,7 @@ takenTable f t x p d sh order list taken = takenAfter taken (runCall f t (held x
 -- value makes
 abbrev pub madeOn : ℕ → Left → List ℕ → Table → Semaphore → List ℕ → List ℕ → TableLeft
 madeOn judged made f x p d sh =
-    onTable x p (pick (leb (cores f) (x .count)) made (leftAs (answerOf (next judged 21) (tableOf 0 0)) d sh []))
+    onTable x p (pick (leb (cores f) (x .count)) made (leftAs (answerOf (next judged badLengths) (tableOf 0 0)) d sh []))
 
 unfoldable pub freshTableFor : Profile → List ℕ → Table → Semaphore → List ℕ → List ℕ → TableLeft
 freshTableFor profile f x p d sh = madeOn (judgeFor profile f) (freshCallFor profile f d sh) f x p d sh

@@ -7,9 +7,10 @@ ghost use mathlib.Core.Path.{_≡_};
 ghost use mathlib.Core.List.{[]};
 ghost use Prim.Native.Nat.{_+_, _<_};
 ghost use Rattle.verdict.specs.Verdict.{next};
+ghost use Rattle.verdict.specs.Numbers.{badLengths};
 ghost use Rattle.code.specs.declared.Profile.the-variants.{Small};
 ghost use Rattle.taskset.specs.Judge.{judgeFor};
-ghost use Rattle.snapshot.specs.Snapshot.{noRecord, tableFrom, counted, held, tableLeft, freshTableFor, freshTable, ringOf, refusedRing, placeAfter, recordMoves, answered, ringAnswer};
+ghost use Rattle.snapshot.specs.Snapshot.{noRecord, tableFrom, counted, tableLeft, freshTableFor, freshTable, ringOf, refusedRing, placeAfter, recordMoves, answered, ringAnswer};
 use code::Profile;
 use protocol::Registers;
 use semaphore::Semaphore;
@@ -106,9 +107,9 @@ pub fn fresh_small_table(
 
 // The refusal where the table is too short: the file is judged first.
 pub fn short_refusal(profile: Profile, file: &[u8]) -> u8
-    ensures { λ r. ⌜ r ≡ next (judgeFor profile (now (file .entry))) 21 ⌝ }
+    ensures { λ r. ⌜ r ≡ next (judgeFor profile (now (file .entry))) badLengths ⌝ }
 {
-    let r = taskset::judge_file_for(profile, file);
+    let r = file_judging::judge_file_for(profile, file);
     if r != 0 {
         return r;
     }
@@ -131,12 +132,12 @@ pub fn ring_of(file: &[u8], trace: &[u8], t: Table, semaphore: Semaphore, given:
     ensures { λ r. ⌜ r ≡ ringOf (now (file .entry)) (now (trace .entry)) t semaphore given ⌝ }
 {
     let s = state_of(t, semaphore);
-    let loaded = taskset::load_file(file);
+    let loaded = file_loading::load_file(file);
     if loaded.refusal != 0 {
         return no_ring(loaded.refusal, given, semaphore);
     }
     let layout = loaded.layout;
-    let prepared = states::prepare(file, trace, layout, s);
+    let prepared = fitness::prepare(file, trace, layout, s);
     if prepared.refusal != 0 {
         return no_ring(prepared.refusal, given, semaphore);
     }

@@ -12,7 +12,7 @@ use lib.ListN.{length, take, drop, set, getD, length-append, length-set, length-
 use lib.Seq.{take-at, drop-at, take-take, drop-drop}
 use Rattle.verdict.proofs.Verdict.{pick-true}
 use Rattle.verdict.proofs.Truth.{either-right}
-use Rattle.memory.specs.Memory.{splice, part, byte, word, start, total, split, flat}
+use Rattle.memory.specs.Memory.{splice, part, byte, word, start, total, flat}
 use Rattle.memory.proofs.Laws.{drop-take, length-splice}
 use Rattle.memory.proofs.Cores.{split-at, split-flat-of, start-end}
 use Rattle.protocol.specs.Fresh.{zeros}
@@ -21,14 +21,13 @@ use Rattle.records.specs.File.{cores, dataSize, variables, recordPlace, variabl
 use Rattle.records.specs.Rules.{VariableRules}
 use Rattle.taskset.specs.Judge.{isNew, codePlace, startSections, startPlace, judge}
 use Rattle.taskset.specs.declared.CoreLayout.{CoreLayout}
-use Rattle.taskset.specs.Layout.{basePlace, coreLayout, layoutOf}
-use Rattle.taskset.specs.Rules.{WellFormed}
+use Rattle.taskset.specs.Layout.{basePlace, coreLayout}
 use Rattle.taskset.specs.Task.{listed, sizesOf, variablesOf}
-use Rattle.taskset.specs.Starts.{withPairs, startData, writerOf, withWritten, startShared, startsOf, startBuffer}
+use Rattle.taskset.specs.Starts.{withPairs, startData, writerOf, withWritten, startsOf, startBuffer}
 use Rattle.taskset.proofs.Laws.{base-next, start-next}
 use Rattle.taskset.proofs.Exact.{keeps-rules, starts-inside}
-use Rattle.taskset.proofs.Accepted.{listed-at, map-listed, core-facts, sizes-length, sizes-at, base-start, record-in-file, length-start, start-sizes}
-use Rattle.taskset.proofs.Starts.{writer-of, old-starts, old-shared}
+use Rattle.taskset.proofs.Accepted.{listed-at, core-facts, sizes-length, sizes-at, base-start, record-in-file, length-start, start-sizes}
+use Rattle.taskset.proofs.Starts.{writer-of, old-starts}
 
 -- ---- one core's start values: i of n are written, the next one stands at `at`
 

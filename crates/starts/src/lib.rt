@@ -7,7 +7,7 @@ ghost use Prim.Native.Nat.{ℕ, _+_, _*_, _≤_, _<_};
 ghost use lib.ListN.{length};
 ghost use Rattle.memory.specs.Memory.{word, total};
 ghost use Rattle.protocol.specs.Fresh.{zeros};
-ghost use Rattle.records.specs.File.{cores, variableIn};
+ghost use Rattle.records.specs.File.{variableIn};
 ghost use Rattle.taskset.specs.Judge.{isNew, judge};
 ghost use Rattle.taskset.specs.Layout.{coreLayout, layoutOf};
 ghost use Rattle.taskset.specs.Task.{sizesOf, variablesOf};
@@ -36,7 +36,7 @@ fn write_data(f: &[u8], buffer: &mut [u8])
     ensures { λ _. ⌜ now (buffer .exit) ≡ startBuffer (now (f .entry)) ⌝ }
 {
     let n = memory::byte_at(f, 4) as usize;
-    let mut p = taskset::code_place(f, n);
+    let mut p = file_loading::code_place(f, n);
     let mut a = 0;
     let mut k = 0;
     while k < n {
@@ -104,7 +104,7 @@ pub fn fill(f: &[u8], layout: Layout, buffer: &mut [u8], shared: &mut [u8])
 {
     memory::zero(buffer);
     memory::zero(shared);
-    if taskset::is_new(f) {
+    if file_judging::is_new(f) {
         write_data(f, buffer);
         write_shared(f, layout, buffer, shared);
     }

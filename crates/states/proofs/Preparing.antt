@@ -3,16 +3,15 @@ use mathlib.Core.Path.{_≡_, refl, sym, ap, ap₂, _∙_}
 use mathlib.Core.Logic.{_≢_}
 use mathlib.Core.Bool.{Bool, true, false}
 use mathlib.Core.List.{List, [], _∷_}
-use Prim.Native.Nat.{ℕ, zero, suc}
+use Prim.Native.Nat.{ℕ}
 use lib.Dec.{eqb}
 use borrow.Author.Tests.{eqb-true, eq-eqb, ne-eqb}
-use Rattle.verdict.specs.Verdict.{pick, next}
+use Rattle.verdict.specs.Verdict.{pick}
 use Rattle.verdict.proofs.Verdict.{skip, stop, pick-true, pick-false}
 use Rattle.taskset.specs.declared.TraceLayout.{TraceLayout}
 use Rattle.taskset.specs.Trace.{traceRefusal, noTrace, traceLayout, loadTraceOf}
 use Rattle.states.specs.declared.Held.{Held}
 use Rattle.states.specs.declared.CoreTask.{CoreTask}
-use Rattle.states.specs.declared.Prepared.{Prepared}
 use Rattle.states.specs.Tasks.{noTask, tasksOf}
 use Rattle.states.specs.Fit.{stateRefusal}
 use Rattle.states.specs.Preparing.{heldRefusal, prepared}

@@ -1,18 +1,14 @@
-// The state that a caller holds and lends; what a step needs of each core's task; a trace and a state judged one after the other.
-// Not here: which states are unfit (src/fitness.rt).
-mod fitness;
+// The state that a caller holds and lends; what a step needs of each core's task. Which states are unfit is defined in specs/Fit.
+// Not here: the functions that judge a state (crates `fitness` and `execution_fitness`).
 
 ghost use mathlib.Core.Path.{_≡_};
 ghost use Prim.Native.Nat.{_<_};
 ghost use lib.ListN.{length};
 ghost use Rattle.records.specs.File.{cores};
 ghost use Rattle.taskset.specs.Layout.{layoutOf};
-ghost use Rattle.taskset.specs.Judge.{judge};
 ghost use Rattle.taskset.specs.Trace.{traceLayout};
 ghost use Rattle.states.specs.Set.{AcceptedSet};
 ghost use Rattle.states.specs.Tasks.{noTask, coreTask, taskAt, tasksOf};
-ghost use Rattle.states.specs.Preparing.{prepared};
-use fitness::state_refusal;
 use protocol::Registers;
 use semaphore::Semaphore;
 use taskset::CoreLayout;
@@ -116,21 +112,4 @@ pub fn core_tasks(file: &[u8], trace: &[u8], layout: Layout, traces: TraceLayout
 pub struct Prepared {
     pub refusal: u8,
     pub tasks: [CoreTask; 4],
-}
-
-pub fn prepare(file: &[u8], trace: &[u8], layout: Layout, s: Held) -> Prepared
-    requires { ⌜ (judge (now file) ≡ 0) × (layout ≡ layoutOf (now file)) ⌝ }
-    ensures { λ r. ⌜ r ≡ prepared (now (file .entry)) (now (trace .entry)) s ⌝ }
-{
-    let traces = traces::load_trace(file, trace);
-    if traces.refusal != 0 {
-        let none = no_task();
-        return Prepared {
-            refusal: traces.refusal,
-            tasks: [none, none, none, none],
-        };
-    }
-    let tasks = core_tasks(file, trace, layout, traces);
-    let refusal = state_refusal(file, trace, tasks, layout.cores, s);
-    Prepared { refusal, tasks }
 }

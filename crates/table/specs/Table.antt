@@ -1,7 +1,7 @@
 -- Document 01, the core table: "the next core to move is the first after a given one, round the ring and that one last, whose step would
 -- change something". In order: whether a core can move, by its mode; the order round the ring; the first core that moves.
-use Prim.Native.Nat.{ℕ, zero, suc, _+_, _%_}
-use mathlib.Core.Bool.{Bool, true, false, not}
+use Prim.Native.Nat.{ℕ, _+_, _%_}
+use mathlib.Core.Bool.{Bool, not}
 use mathlib.Core.List.{List, [], _∷_}
 use lib.Dec.{ltb, eqb}
 use lib.ListN.{getD}

@@ -6,10 +6,9 @@ use mathlib.Core.Logic.{inl, inr}
 use Prim.Native.Nat.{ℕ, zero, suc, _+_, _≤_, _<_}
 use native.Mathlib.Nat.{add-zero, zero-add, suc-add, add-suc}
 use native.Mathlib.Omega.{arith}
-use borrow.Author.Tests.{lt-ltb, ne-eqb}
+use borrow.Author.Tests.{lt-ltb}
 use lib.Dec.{T}
 use lib.ListN.{length, getD, set, length-map, length-replicate, length-set}
-use Rattle.verdict.specs.Verdict.{pick}
 use Rattle.verdict.proofs.Verdict.{pick-true}
 use Rattle.memory.specs.Memory.{byte, word, part, start, total}
 use Rattle.memory.proofs.Laws.{length-part, length-splice}
@@ -27,7 +26,7 @@ use Rattle.records.specs.Records.{usedBy}
 use Rattle.records.specs.Rules.{CoreRules, VariableRules}
 use Rattle.verdict.proofs.Truth.{either-left}
 use Rattle.taskset.specs.Judge.{codePlace, codeOf, startPlace, judge}
-use Rattle.taskset.specs.Layout.{basePlace, coreAt, coreLayout, layoutOf, noLayout, loadFor, loadOf}
+use Rattle.taskset.specs.Layout.{basePlace, coreAt, coreLayout}
 use Rattle.taskset.specs.Rules.{WellFormed}
 use Rattle.taskset.specs.Task.{listed, sizesOf, variablesOf}
 use Rattle.taskset.specs.Starts.{startCount, withPairs, startData, writerOf, withWritten, startShared, startsOf, startBuffer}
@@ -137,15 +136,6 @@ base-start f k h =
     let a : start (listed (dataSize f) (cores f) 0) k + basePlace f 0 ≡ basePlace f (0 + k) = base-from f (cores f) 0 k h in
     let b : basePlace f (0 + k) ≡ basePlace f k = ap (basePlace f) (zero-add k) in
     omega arith
-
--- the answer of loading, by the refusal
-pub load-accepted : (f : List ℕ) → judge f ≡ 0 → loadOf f ≡ record { refusal = 0; layout = layoutOf f }
-unfolding loadFor pick
-load-accepted f z = rw z
-
-pub load-refused : (f : List ℕ) → (judge f ≡ 0 → ⊥) → loadOf f ≡ record { refusal = judge f; layout = noLayout }
-unfolding loadFor pick
-load-refused f n = rw (ne-eqb (judge f) 0 n)
 
 -- each variable's record lies in the file
 pub record-in-file : (f : List ℕ) → judge f ≡ 0 → (i : ℕ) → i < variables f → recordPlace f i + 12 ≤ length f

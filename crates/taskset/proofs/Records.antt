@@ -3,17 +3,17 @@ use mathlib.Core.Path.{_≡_, sym, ap, _∙_}
 use mathlib.Core.Bool.{true, false}
 use mathlib.Core.List.{List}
 use Prim.Native.Nat.{ℕ, zero, suc, _+_, _-_, _*_, _≤_, _<_}
-use native.Mathlib.Nat.{mul-le-mul-right, add-mul, zero-mul}
+use native.Mathlib.Nat.{mul-le-mul-right, add-mul}
 use native.Mathlib.Omega.{arith}
 use borrow.Author.Tests.{eqb-true, eq-eqb, ne-eqb, lt-ltb}
 use lib.Dec.{eqb}
 use lib.ListN.{length}
-use Rattle.verdict.specs.Verdict.{pick, unless}
+use Rattle.verdict.specs.Verdict.{unless}
 use Rattle.verdict.proofs.Truth.{either-stop}
 use Rattle.verdict.proofs.Verdict.{yes, no, unless-zero, pick-true, pick-false}
 use Rattle.memory.specs.Memory.{word}
 use Rattle.records.specs.File.{cores}
-use Rattle.taskset.specs.Trace.{blank, recordSize, recordCount, tracePlace, samplePlace, traceRefusal, countOf, firstOf, traceLayout, loadTraceOf}
+use Rattle.taskset.specs.Trace.{blank, recordSize, recordCount, tracePlace, samplePlace, traceRefusal, countOf}
 
 trace-up : (f t : List ℕ) (k d : ℕ) → tracePlace f t k ≤ tracePlace f t (k + d)
 unfolding tracePlace
@@ -77,19 +77,3 @@ record-inside f t k i b z h l =
     omega arith
 
 -- ---- as loaded
-
-pub trace-accepted : (f t : List ℕ) → traceRefusal f t ≡ 0 → loadTraceOf f t ≡ traceLayout f t
-unfolding loadTraceOf pick
-trace-accepted f t z = rw z
-
-pub count-loaded : (f t : List ℕ) (k : ℕ) → k < cores f → countOf f t k ≡ recordCount f t k
-unfolding countOf
-count-loaded f t k h = pick-true _ _ _ (lt-ltb _ _ h)
-
--- record i of core k stands i records after the first
-pub sample-loaded : (f t : List ℕ) (k i : ℕ) → k < cores f → firstOf f t k + i * recordSize f k ≡ samplePlace f t k i
-unfolding firstOf
-sample-loaded f t k i h =
-    let e : firstOf f t k ≡ samplePlace f t k 0 = pick-true _ _ _ (lt-ltb _ _ h) in
-    let z : 0 * recordSize f k ≡ 0 = zero-mul (recordSize f k) in
-    omega arith

@@ -21,7 +21,7 @@ use Rattle.protocol.specs.Fresh.{fresh, zeros, freshZero}
 use Rattle.protocol.proofs.Interleaving.{value-eq}
 use Rattle.records.specs.File.{cores, dataSize, variables, variableAt}
 use Rattle.records.specs.Rules.{Writer, VariableRules}
-use Rattle.taskset.specs.Judge.{isOld, isNew, startSections, startPlace, startIn, startByteIn, judge}
+use Rattle.taskset.specs.Judge.{isNew, startSections, startPlace, startIn, judge}
 use Rattle.taskset.specs.Rules.{PairRules, WellFormed}
 use Rattle.taskset.specs.Task.{listed, sizesOf, variablesOf}
 use Rattle.taskset.specs.Starts.{startCount, startAt, startByte, withPairs, startData, writerOf, withWritten, startShared, startsOf}

@@ -4,6 +4,7 @@
 use Prim.Native.Nat.{ℕ, _≤_, _<_}
 use mathlib.Core.Path.{_≡_}
 use mathlib.Core.List.{List}
+use Rattle.verdict.specs.Numbers.{wideType}
 use Rattle.code.specs.declared.Profile.the-variants.{Small}
 use Rattle.code.specs.Rules.{Start, NoWide}
 use Rattle.records.specs.File.{cores, dataSize}
@@ -18,7 +19,7 @@ pub record SmallRules (f : List ℕ) : Type 0 where
 pub data Narrowed (small full : ℕ) : Type 0 where
   alike : small ≡ full → Narrowed small full
   much-data : small ≡ 3 → Narrowed small full
-  wide-type : small ≡ 27 → Narrowed small full
+  wide-type : small ≡ wideType → Narrowed small full
 
 pub record SmallProfile (f : List ℕ) : Type 0 where
   pub full : judgeFor Small f ≡ 0 → judge f ≡ 0

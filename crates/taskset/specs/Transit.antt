@@ -4,15 +4,16 @@ use Prim.Native.Nat.{ℕ, _<_}
 use mathlib.Core.Path.{_≡_}
 use mathlib.Core.List.{List, _++_}
 use lib.ListN.{length, take}
+use Rattle.verdict.specs.Numbers.{cutFile, leftOver}
 use Rattle.code.specs.declared.Profile.{Profile}
 use Rattle.code.specs.declared.Profile.the-variants.{Full}
 use Rattle.taskset.specs.Judge.{judgeFor}
 
 pub record InTransitFor (profile : Profile) (f : List ℕ) : Type 0 where
-  -- cut at any place, it is 1
-  pub cut : (n : ℕ) → n < length f → judgeFor profile (take n f) ≡ 1
-  -- with anything behind it, it is 24
-  pub followed : (b : List ℕ) → 0 < length b → judgeFor profile (f ++ b) ≡ 24
+  -- cut at any place, it is refused as cut
+  pub cut : (n : ℕ) → n < length f → judgeFor profile (take n f) ≡ cutFile
+  -- with anything behind it, as one with bytes left over
+  pub followed : (b : List ℕ) → 0 < length b → judgeFor profile (f ++ b) ≡ leftOver
 
 abbrev pub InTransit : List ℕ → Type 0
 InTransit f = InTransitFor Full f

@@ -4,7 +4,7 @@
 use Prim.Native.Nat.{ℕ, zero, suc, _+_, _-_, _*_, _/_, _%_, _^_, _≤_, _<_}
 use mathlib.Core.Path.{_≡_, refl, sym, _∙_, ap, subst}
 use mathlib.Core.Bool.{Bool, true, false, cond}
-use native.Mathlib.Nat.{mod-mod, add-mod, mod-add-mod, add-mod-mod, mod-lt, mod-eq-of-lt, mod-eq-sub-mod, mod-self, zero-mod, div-add-mod', add-mul-mod-self-right, mul-comm, add-comm, add-assoc, add-zero, mul-zero}
+use native.Mathlib.Nat.{mod-mod, mod-add-mod, add-mod-mod, mod-lt, mod-eq-of-lt, mod-eq-sub-mod, mod-self, zero-mod, div-add-mod', add-mul-mod-self-right, mul-comm, add-comm, add-assoc, add-zero, mul-zero}
 use native.Mathlib.Nat.{add-mul, mul-add, mul-assoc, pow-suc, one-mul, mul-le-mul-left, mul-lt-mul-of-pos-right, lt-of-le-of-lt, le-of-lt, mul-add-mod-self-right, mul-right-comm, mul-mul-mul-comm, div-one}
 use native.Mathlib.Omega.{arith}
 use lib.IntN.{ℤ, pos, negsuc, negℤ, subℕ, _+ℤ_, _-ℤ_, _*ℤ_, -ℤ-+ℤ-cancel}

@@ -1,7 +1,7 @@
 -- Document 01, "Types and commands": the twelve types with their widths, and which types each typed command takes.
 use Prim.Native.Nat.{ℕ, _%_}
-use mathlib.Core.List.{List, [], _∷_}
-use mathlib.Core.Bool.{Bool, true, false}
+use mathlib.Core.List.{[], _∷_}
+use mathlib.Core.Bool.{Bool, false}
 use lib.ListN.{getD}
 use lib.Dec.{leb, eqb}
 use Rattle.verdict.specs.Verdict.{pick, both, within}

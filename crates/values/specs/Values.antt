@@ -1,7 +1,7 @@
 -- Typed values: "a truth value, a signed or unsigned whole number, a REAL or an LREAL, and carries which".
 -- In order: a value from its stored pattern and back; reading one from memory; what a value holds, if it is of that kind.
 use Prim.Native.Nat.{ℕ, _*_, _%_, _^_}
-use mathlib.Core.Bool.{Bool, true, false, not}
+use mathlib.Core.Bool.{Bool, false, not}
 use mathlib.Core.List.{List, [], _∷_}
 use lib.IntN.{ℤ, pos}
 use lib.ListN.{getD}

@@ -1,7 +1,7 @@
 -- Whole numbers at a width of b bits, for every b: the pattern that stands for a number, the number that a pattern stands for, wrapping,
 -- remainders, and what logic, shifts and rotations make of a pattern. In order: widths; numbers and patterns; remainders; bits.
 use Prim.Native.Nat.{ℕ, suc, _+_, _-_, _*_, _/_, _%_, _^_}
-use mathlib.Core.Bool.{Bool, true, false}
+use mathlib.Core.Bool.{Bool, false}
 use mathlib.Core.Path.{_≡_}
 use mathlib.Core.Logic.{_⊎_}
 use lib.IntN.{ℤ, pos, negsuc}

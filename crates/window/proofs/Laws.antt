@@ -3,31 +3,28 @@
 use mathlib.Core.Path.{_≡_, refl, sym, ap, ap₂, _∙_, subst}
 use mathlib.Core.Logic.{_≢_}
 use mathlib.Core.Bool.{Bool, true, false}
-use mathlib.Core.List.{List, [], _∷_}
-use Prim.Native.Nat.{ℕ, zero, suc, _+_, _-_, _≤_, _<_}
+use mathlib.Core.List.{List}
+use Prim.Native.Nat.{ℕ, _+_, _-_, _≤_, _<_}
 use native.Mathlib.Omega.{arith}
 use borrow.Author.Tests.{lt-ltb, le-ltb, le-leb, lt-leb, eq-eqb, ne-eqb, eqb-true, ltb-true, leb-true}
-use lib.Dec.{ltb, leb, eqb}
+use lib.Dec.{eqb}
 use lib.ListN.{length, getD, take, drop, replicate, length-replicate}
 use lib.Seq.{take-take, drop-drop}
-use Rattle.verdict.specs.Verdict.{pick, both, next, unless}
-use Rattle.verdict.proofs.Verdict.{pick-true, pick-false, skip, stop, halt, yes, no, next-none, next-zero, unless-zero, both-true, both-not}
-use Rattle.memory.specs.Memory.{total, split, part, start}
+use Rattle.verdict.specs.Verdict.{pick}
+use Rattle.verdict.proofs.Verdict.{pick-true, pick-false, skip, stop, halt, yes, no, next-none, next-zero, unless-zero, both-true}
+use Rattle.memory.specs.Memory.{total, part, start}
 use Rattle.memory.proofs.Laws.{drop-take}
 use Rattle.memory.proofs.Cores.{split-at, start-end}
 use Rattle.records.specs.File.{cores, dataSize}
-use Rattle.taskset.specs.Judge.{judge, codePlace, codeOf}
-use Rattle.taskset.specs.Layout.{noCore, coreAt, coreLayout, layoutOf, basePlace}
+use Rattle.taskset.specs.Judge.{judge}
+use Rattle.taskset.specs.Layout.{coreAt, coreLayout}
 use Rattle.taskset.specs.Task.{sizesOf}
-use Rattle.taskset.specs.declared.Layout.{Layout}
 use Rattle.taskset.specs.declared.CoreLayout.{CoreLayout}
-use Rattle.taskset.proofs.Exact.{keeps-rules}
 use Rattle.taskset.proofs.Accepted.{core-facts, base-start, length-listed, listed-at}
 use Rattle.window.specs.declared.Shown.{Shown}
 use Rattle.window.specs.declared.Shown.the-variants.{Code, Data}
-use Rattle.window.specs.declared.Place.{Place}
 use Rattle.window.specs.declared.Found.{Found}
-use Rattle.window.specs.Window.{shownOf, shownPlace, placeIn, inside, windowRefusal, windowOf, windowFound, windowAt, windowCall}
+use Rattle.window.specs.Window.{shownOf, placeIn, inside, windowRefusal, windowOf, windowFound, windowAt, windowCall}
 
 -- ---- places
 

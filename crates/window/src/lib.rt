@@ -3,8 +3,7 @@
 use taskset::Layout;
 ghost use mathlib.Core.Path.{_≡_};
 ghost use Prim.Native.Nat.{_+_, _<_};
-ghost use lib.ListN.{length, getD};
-ghost use Rattle.taskset.specs.Judge.{judge};
+ghost use lib.ListN.{length};
 ghost use Rattle.taskset.specs.Layout.{layoutOf, coreLayout};
 ghost use Rattle.window.specs.declared.Shown.the-variants.{Code, Data};
 ghost use Rattle.window.specs.Window.{shownPlace, windowRefusal, windowFound, windowOf};
@@ -67,12 +66,12 @@ pub fn find_window(
 ) -> Found
     ensures { λ r. ⌜ r ≡ windowFound (now (file .entry)) buffer shown core start count ⌝ }
 {
-    let loaded = taskset::load_file(file);
+    let loaded = file_loading::load_file(file);
     if loaded.refusal != 0 {
         return no_stretch(loaded.refusal);
     }
     let layout = loaded.layout;
-    if buffer != taskset::sum_of_sizes(file, layout) {
+    if buffer != file_loading::sum_of_sizes(file, layout) {
         return no_stretch(verdict::BAD_LENGTHS);
     }
     let k = core as usize;

@@ -1,6 +1,6 @@
 -- `bounds::put_column` meets its contract. The loop's invariant: the first i numbers stand at the front. Assumes nothing.
 use mathlib.Core.Path.{_≡_, refl}
-use Prim.Native.Nat.{ℕ, _-_, _≤_}
+use Prim.Native.Nat.{_-_, _≤_}
 use native.Mathlib.Omega.{arith}
 use lib.ListN.{length, length-set}
 use Rattle.memory.specs.Memory.{splice, part}

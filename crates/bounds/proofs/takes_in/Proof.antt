@@ -1,9 +1,8 @@
 -- `bounds::takes_in` meets its contract. The loop's invariant, `Counted`: no core below k is refused, and their numbers are found. Assumes nothing.
-use mathlib.Core.Path.{_≡_, sym, subst, ap, _∙_}
+use mathlib.Core.Path.{_≡_, sym, subst, _∙_}
 use Prim.Native.Nat.{ℕ, _-_, _≤_}
 use native.Mathlib.Omega.{arith}
 use borrow.Author.Needs.{needs}
-use Rattle.taskset.specs.declared.Layout.{Layout}
 use Rattle.bounds.specs.Bounds.{takesOf}
 use Rattle.bounds.proofs.Answer.{Counted, counted-none, counted-more, refused-core, answered, few-cores}
 use Rattle.bounds.proofs.takes_in.Statement.{statement}

@@ -5,7 +5,6 @@ use borrow.Author.Needs.{needs}
 use Rattle.verdict.specs.Verdict.{pick}
 use Rattle.code.specs.Flow.{kindAt, targetAt}
 use Rattle.code.specs.Commands.{rowOf, lengthOf}
-use Rattle.code.specs.Instructions.{instructionAt}
 use Rattle.code.proofs.Laws.{length-at, no-target}
 use Rattle.code.proofs.Laying.{target-asked, target-none}
 use Rattle.code_judging.proofs.ask_target.Statement.{statement}

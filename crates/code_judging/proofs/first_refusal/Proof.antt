@@ -1,6 +1,5 @@
 -- The first of two refusals stops the second.
 use mathlib.Core.Path.{refl}
-use Rattle.verdict.specs.Verdict.{next}
 use Rattle.verdict.proofs.Verdict.{skip, stop}
 use Rattle.code_judging.proofs.first_refusal.Statement.{statement}
 use Rattle.code_judging.proofs.first_refusal.Tie as tie

@@ -8,7 +8,7 @@ use lib.Ieee.Bits.{ofBits-toBits}
 use lib.Ieee.{Float, binary64}
 use lib.Ieee as Ieee
 use Rattle.values.proofs.Floats.{differs, not-differs}
-use Rattle.conversions.proofs.Whole as H
+use Rattle.conversions.proofs.Whole as Whole
 use native.Mathlib.Omega.{arith}
 use mathlib.Core.Path.{sym, ap, subst, _∙_}
 use Prim.Native.Nat.{ℕ, _-_, _*_, _^_, _<_, _≤_}
@@ -29,7 +29,7 @@ returns-2 : tie.Need-returns-2
 returns-2 c =
     let s = c .before .before .before in
     let x = s .args .x in
-    H.out-of-range (s .args .signed) (s .args .w) x (ofBits-toBits binary64 x (passes _ (s .good .1 .1 .0 .1))) (s .pre .1) (subst (λ (j : ℕ). 1085 < j) (c .before .shift-of .ensures) (c .if2 .taken))
+    Whole.out-of-range (s .args .signed) (s .args .w) x (ofBits-toBits binary64 x (passes _ (s .good .1 .1 .0 .1))) (s .pre .1) (subst (λ (j : ℕ). 1085 < j) (c .before .shift-of .ensures) (c .if2 .taken))
 
 nearest-scaled-requires : tie.Need-nearest-scaled-requires
 nearest-scaled-requires c κs =
@@ -38,7 +38,7 @@ nearest-scaled-requires c κs =
     let j = c .before .before .shift-of .result in
     let h : j ≤ 1085 = omega arith in
     let k : j - 1074 < 64 = omega arith in
-    (k, subst (λ (d : ℕ). d * 2 ^ (j - 1074) < 2 ^ 64) (sym (c .digits-of .ensures)) (H.digits-room p j h))
+    (k, subst (λ (d : ℕ). d * 2 ^ (j - 1074) < 2 ^ 64) (sym (c .digits-of .ensures)) (Whole.digits-room p j h))
 
 returns-3 : tie.Need-returns-3
 returns-3 c =
@@ -54,8 +54,8 @@ returns-3 c =
     (c .before .nearest-scaled .ensures
     ∙ ap (λ (d : ℕ). closest (d * 2 ^ after-shift-of .shift-of .result) (2 ^ 1074)) (c .before .before .digits-of .ensures)
     ∙ ap (λ (j : ℕ). closest (digitsIn binary64 p * 2 ^ j) (2 ^ 1074)) ej)
-    ∙ H.nearest-of (s .args .signed) (s .args .w) x (leb (2 ^ 63) p) (digitsIn binary64 p * 2 ^ shiftIn binary64 p) 1074
-    (H.by-pattern x (ofBits-toBits binary64 x (passes _ (s .good .1 .1 .0 .1))) h)
+    ∙ Whole.nearest-of (s .args .signed) (s .args .w) x (leb (2 ^ 63) p) (digitsIn binary64 p * 2 ^ shiftIn binary64 p) 1074
+    (Whole.by-pattern x (ofBits-toBits binary64 x (passes _ (s .good .1 .1 .0 .1))) h)
 
 pub nearest-whole-spec : {M : Type 1} → statement M
 nearest-whole-spec =

@@ -5,7 +5,7 @@ use mir.Syntax.{w64}
 use lib.Signed.{ltZ}
 use lib.IntN.{ℤ, pos, natAbs}
 use Rattle.values.proofs.Signs.{read64}
-use Rattle.conversions.proofs.Whole as H
+use Rattle.conversions.proofs.Whole as Whole
 use mathlib.Core.Path.{sym, ap, _∙_}
 use Prim.Native.Nat.{ℕ, _-_}
 use borrow.Author.Needs.{needs}
@@ -27,7 +27,7 @@ returns-2 c =
     c .held-at .ensures
     ∙ ap (λ (n : ℕ). heldIn (s .args .signed) (s .args .w) (withSign (ltZ (toZ w64 (ofZ w64 z)) (pos 0)) n)) (c .before .magnitude .ensures)
     ∙ ap (λ (y : ℤ). heldIn (s .args .signed) (s .args .w) (withSign (ltZ y (pos 0)) (natAbs y))) r
-    ∙ ap (heldIn (s .args .signed) (s .args .w)) (H.sign-and-size z)
+    ∙ ap (heldIn (s .args .signed) (s .args .w)) (Whole.sign-and-size z)
     ∙ sym (ap (toWhole (s .args .signed) (s .args .w)) (c .before .before .before .v .given .1))
 
 returns-3 : tie.Need-returns-3

@@ -15,8 +15,8 @@ use Rattle.forms.proofs.nothing_written.Reads as nothing-written-reads
 use Rattle.forms.proofs.write_form.Reads as write-form-reads
 use Rattle.memory.proofs.byte_at.Reads as byte-at-reads
 use Rattle.memory.proofs.store.Reads as store-reads
-use Rattle.taskset.proofs.is_old.Reads as is-old-reads
-use Rattle.taskset.proofs.judge_file.Reads as judge-file-reads
+use Rattle.file_judging.proofs.is_old.Reads as is-old-reads
+use Rattle.file_judging.proofs.judge_file.Reads as judge-file-reads
 
 -- past its tests a file has the old mark and is accepted
 has-mark : (c : tie.Else2) → isOld (c .before .before .before .before .before .args .f .now) ≡ true

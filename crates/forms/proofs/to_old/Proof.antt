@@ -16,9 +16,9 @@ use Rattle.forms.proofs.to_old.Lts as lts
 use Rattle.forms.proofs.nothing_written.Reads as nothing-written-reads
 use Rattle.forms.proofs.write_form.Reads as write-form-reads
 use Rattle.memory.proofs.byte_at.Reads as byte-at-reads
-use Rattle.taskset.proofs.code_place.Reads as code-place-reads
-use Rattle.taskset.proofs.is_new.Reads as is-new-reads
-use Rattle.taskset.proofs.judge_file.Reads as judge-file-reads
+use Rattle.file_loading.proofs.code_place.Reads as code-place-reads
+use Rattle.file_judging.proofs.is_new.Reads as is-new-reads
+use Rattle.file_judging.proofs.judge_file.Reads as judge-file-reads
 
 -- past its tests a file has the new mark and is accepted, and its code ends where the start values begin
 has-mark : (c : tie.Else2) → isNew (c .before .before .before .before .before .args .f .now) ≡ true

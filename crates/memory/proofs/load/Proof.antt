@@ -1,12 +1,9 @@
 -- `memory::load` meets its contract. The invariant: v is the number in the bytes from i on.
 -- Assumes nothing.
-use mathlib.Core.Path.{_≡_, refl, sym, ap, _∙_}
-use mathlib.Core.List.{List, [], _∷_, _++_}
-use Prim.Native.Nat.{ℕ, _+_, _-_, _*_, _^_, _≤_, _<_}
-use native.Mathlib.Nat.{add-zero, sub-zero}
+use mathlib.Core.Path.{_≡_}
+use Prim.Native.Nat.{_+_, _-_, _^_, _≤_, _<_}
 use native.Mathlib.Omega.{arith}
-use lib.ListN.{length, take, drop, getD, set, length-set, replicate}
-use Rattle.memory.specs.Memory.{splice, part, bytesLE, valueLE, readLE}
+use Rattle.memory.specs.Memory.{readLE}
 use Rattle.memory.proofs.Turns.{load-turn, load-start, load-done}
 use Rattle.memory.proofs.Number.{read-fits}
 use Rattle.memory.proofs.load.Statement.{statement}

@@ -1,12 +1,11 @@
 -- `memory::store` meets its contract. The invariant: what is left to write makes of the buffer what the whole makes of it at entry.
 -- Assumes nothing.
-use mathlib.Core.Path.{_≡_, refl, sym, ap, _∙_}
-use mathlib.Core.List.{List, [], _∷_, _++_}
-use Prim.Native.Nat.{ℕ, _+_, _-_, _*_, _^_, _≤_, _<_}
+use mathlib.Core.Path.{_≡_, refl, sym, _∙_}
+use Prim.Native.Nat.{_+_, _-_, _≤_}
 use native.Mathlib.Nat.{add-zero, sub-zero}
 use native.Mathlib.Omega.{arith}
-use lib.ListN.{length, take, drop, getD, set, length-set, replicate}
-use Rattle.memory.specs.Memory.{splice, part, bytesLE, valueLE, readLE}
+use lib.ListN.{length, length-set}
+use Rattle.memory.specs.Memory.{splice, bytesLE}
 use Rattle.memory.proofs.Turns.{store-turn, store-done}
 use Rattle.memory.proofs.store.Statement.{statement}
 use Rattle.memory.proofs.store.Tie as tie

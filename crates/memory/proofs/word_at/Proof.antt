@@ -1,5 +1,5 @@
 use borrow.Author.Needs.{needs}
-use mathlib.Core.Path.{sym, ap, _∙_}
+use mathlib.Core.Path.{sym}
 use native.Mathlib.Omega.{arith}
 use Rattle.memory.proofs.Number.{read-word, read-beyond}
 use Rattle.memory.proofs.word_at.Statement.{statement}

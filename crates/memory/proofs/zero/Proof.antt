@@ -1,12 +1,10 @@
 -- `memory::zero` meets its contract. The invariant: the first i bytes are zeros.
 -- Assumes nothing.
-use mathlib.Core.Path.{_≡_, refl, sym, ap, _∙_}
-use mathlib.Core.List.{List, [], _∷_, _++_}
-use Prim.Native.Nat.{ℕ, _+_, _-_, _*_, _^_, _≤_, _<_}
-use native.Mathlib.Nat.{add-zero, sub-zero}
+use mathlib.Core.Path.{_≡_, refl, _∙_}
+use mathlib.Core.List.{_++_}
+use Prim.Native.Nat.{_+_, _-_, _≤_}
 use native.Mathlib.Omega.{arith}
-use lib.ListN.{length, take, drop, getD, set, length-set, replicate}
-use Rattle.memory.specs.Memory.{splice, part, bytesLE, valueLE, readLE}
+use lib.ListN.{length, drop, length-set, replicate}
 use borrow.Author.Fill.{fill-more}
 use Rattle.memory.proofs.Turns.{fill-done}
 use Rattle.memory.proofs.zero.Statement.{statement}

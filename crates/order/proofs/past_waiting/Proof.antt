@@ -1,9 +1,9 @@
 -- `order::past_waiting` meets its contract. The invariant: the steps passed are of cores that wait. Assumes nothing.
-use mathlib.Core.Path.{_≡_, refl, sym, ap, _∙_}
+use mathlib.Core.Path.{sym, ap, _∙_}
 use Prim.Native.Nat.{_-_, _≤_}
 use native.Mathlib.Omega.{arith}
 use borrow.Author.Tests.{not-false}
-use lib.ListN.{length, getD}
+use lib.ListN.{length}
 use Rattle.semaphore.specs.Line.{semaphoreOf, waitsAt}
 use Rattle.order.specs.Order.{Waits}
 use Rattle.order.proofs.Stretches.{waits-none, waits-on}

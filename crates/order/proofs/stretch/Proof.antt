@@ -1,5 +1,4 @@
 -- `order::stretch` meets its contract. The invariant of both loops: the m steps looked at are of core k. Assumes nothing.
-use mathlib.Core.Path.{_≡_}
 use Prim.Native.Nat.{_+_, _-_, _≤_}
 use native.Mathlib.Omega.{arith}
 use borrow.Author.Needs.{needs}

@@ -1,7 +1,7 @@
 -- `packed::all_digits` meets its contract: each turn tests the lowest digit that is left, and the rest is tested by the turns after it. Assumes nothing.
 use mathlib.Core.Bool.{Bool, _&&_}
 use borrow.Author.Tests.{lt-ltb, le-ltb}
-use Rattle.packed.proofs.Decimal as D
+use Rattle.packed.proofs.Decimal as Decimal
 use Rattle.packed.specs.Packed.{digitsBelow}
 use native.Mathlib.Omega.{arith}
 use mathlib.Core.Path.{_≡_, sym, ap, _∙_}
@@ -25,7 +25,7 @@ returns c =
     let l = c .before .before .loop in
     let a = c .before .before .before .args in
     let h : l .i < a .d = omega arith in
-    sym (l .inv .1 ∙ D.step-below 16 10 (a .d) (l .i) (l .rest) h ∙ ap (λ (b : Bool). b && digitsBelow 16 10 (a .d - (l .i + 1)) (l .rest / 16)) (le-ltb (l .rest % 16) 10 (c .if1 .taken)))
+    sym (l .inv .1 ∙ Decimal.step-below 16 10 (a .d) (l .i) (l .rest) h ∙ ap (λ (b : Bool). b && digitsBelow 16 10 (a .d - (l .i + 1)) (l .rest / 16)) (le-ltb (l .rest % 16) 10 (c .if1 .taken)))
 
 add-i : tie.Need-add-i Inv-loop μ-loop
 add-i c = record { fits = omega arith }
@@ -39,13 +39,13 @@ loop-again c =
     let a = c .before .before .before .args in
     let h : l .i < a .d = omega arith in
     let g : l .rest % 16 < 10 = omega arith in
-    (omega arith, l .inv .1 ∙ D.step-below 16 10 (a .d) (l .i) (l .rest) h ∙ ap (λ (b : Bool). b && digitsBelow 16 10 (a .d - (l .i + 1)) (l .rest / 16)) (lt-ltb (l .rest % 16) 10 g))
+    (omega arith, l .inv .1 ∙ Decimal.step-below 16 10 (a .d) (l .i) (l .rest) h ∙ ap (λ (b : Bool). b && digitsBelow 16 10 (a .d - (l .i + 1)) (l .rest / 16)) (lt-ltb (l .rest % 16) 10 g))
 
 returns-2 : tie.Need-returns-2 Inv-loop μ-loop
 returns-2 c =
     let l = c .before .loop in
     let a = c .before .before .args in
-    sym (l .inv .1 ∙ D.none-below 16 10 (a .d) (l .i) (l .rest) (omega arith))
+    sym (l .inv .1 ∙ Decimal.none-below 16 10 (a .d) (l .i) (l .rest) (omega arith))
 
 pub all-digits-spec : {M : Type 1} → statement M
 all-digits-spec =

@@ -1,7 +1,7 @@
 -- `packed::pack` meets its contract: after i turns r has the lowest i digits, and the rest has those above them. Assumes nothing.
 use native.Mathlib.Nat.{mul-zero}
 use native.Mathlib.Nat.{one-mul, div-one, zero-add}
-use Rattle.packed.proofs.Decimal as D
+use Rattle.packed.proofs.Decimal as Decimal
 use Rattle.packed.specs.Packed.{packedDigits}
 use native.Mathlib.Omega.{arith}
 use mathlib.Core.Path.{_≡_, sym, ap, subst, _∙_}
@@ -28,18 +28,18 @@ mul-r : tie.Need-mul-r Inv-loop μ-loop
 mul-r c =
     let l = c .before .before .loop in
     let a = c .before .before .before .args in
-    let w : 2 ^ (4 * l .i) * 16 ≤ 2 ^ 64 = D.weight-le (l .i) (a .d) (omega arith) (omega arith) in
+    let w : 2 ^ (4 * l .i) * 16 ≤ 2 ^ 64 = Decimal.weight-le (l .i) (a .d) (omega arith) (omega arith) in
     let g : l .rest % 10 < 10 = omega arith in
-    let b : l .r + l .rest % 10 * 2 ^ (4 * l .i) < 2 ^ (4 * l .i) * 16 = D.pack-lt (l .r) (l .rest % 10) (2 ^ (4 * l .i)) (l .inv .2) g in
+    let b : l .r + l .rest % 10 * 2 ^ (4 * l .i) < 2 ^ (4 * l .i) * 16 = Decimal.pack-lt (l .r) (l .rest % 10) (2 ^ (4 * l .i)) (l .inv .2) g in
     record { fits = subst (λ (x : ℕ). l .rest % 10 * x < 2 ^ 64) (sym (c .weight-at .ensures)) (omega (arith, b, w)) }
 
 add-r : tie.Need-add-r Inv-loop μ-loop
 add-r c =
     let l = c .before .before .loop in
     let a = c .before .before .before .args in
-    let w : 2 ^ (4 * l .i) * 16 ≤ 2 ^ 64 = D.weight-le (l .i) (a .d) (omega arith) (omega arith) in
+    let w : 2 ^ (4 * l .i) * 16 ≤ 2 ^ 64 = Decimal.weight-le (l .i) (a .d) (omega arith) (omega arith) in
     let g : l .rest % 10 < 10 = omega arith in
-    let b : l .r + l .rest % 10 * 2 ^ (4 * l .i) < 2 ^ (4 * l .i) * 16 = D.pack-lt (l .r) (l .rest % 10) (2 ^ (4 * l .i)) (l .inv .2) g in
+    let b : l .r + l .rest % 10 * 2 ^ (4 * l .i) < 2 ^ (4 * l .i) * 16 = Decimal.pack-lt (l .r) (l .rest % 10) (2 ^ (4 * l .i)) (l .inv .2) g in
     record { fits = subst (λ (x : ℕ). l .r + l .rest % 10 * x < 2 ^ 64) (sym (c .weight-at .ensures)) (omega (arith, b, w)) }
 
 add-i : tie.Need-add-i Inv-loop μ-loop
@@ -59,19 +59,19 @@ loop-again c =
     let e = c .weight-at .ensures in (
       omega arith,
       ap (λ (x : ℕ). l .r + l .rest % 10 * x + 2 ^ (4 * (i + 1)) * q) e
-          ∙ ap (λ (x : ℕ). l .r + l .rest % 10 * 2 ^ (4 * i) + x * q) (D.weight i)
-          ∙ D.pack-step (l .r) (l .rest % 10) (2 ^ (4 * i)) q
-          ∙ ap (λ (x : ℕ). l .r + 2 ^ (4 * i) * x) (sym (D.step 10 16 (a .d) i (l .rest) h))
+          ∙ ap (λ (x : ℕ). l .r + l .rest % 10 * 2 ^ (4 * i) + x * q) (Decimal.weight i)
+          ∙ Decimal.pack-step (l .r) (l .rest % 10) (2 ^ (4 * i)) q
+          ∙ ap (λ (x : ℕ). l .r + 2 ^ (4 * i) * x) (sym (Decimal.step 10 16 (a .d) i (l .rest) h))
           ∙ l .inv .1,
-      subst (λ (x : ℕ). l .r + l .rest % 10 * x < 2 ^ (4 * (i + 1))) (sym e) (subst (λ (x : ℕ). l .r + l .rest % 10 * 2 ^ (4 * i) < x) (sym (D.weight i)) (D.pack-lt (l .r) (l .rest % 10) (2 ^ (4 * i)) (l .inv .2) g)),
-      ap (λ (x : ℕ). x / 10) (l .inv .3) ∙ D.next-rest (a .n) i,
+      subst (λ (x : ℕ). l .r + l .rest % 10 * x < 2 ^ (4 * (i + 1))) (sym e) (subst (λ (x : ℕ). l .r + l .rest % 10 * 2 ^ (4 * i) < x) (sym (Decimal.weight i)) (Decimal.pack-lt (l .r) (l .rest % 10) (2 ^ (4 * i)) (l .inv .2) g)),
+      ap (λ (x : ℕ). x / 10) (l .inv .3) ∙ Decimal.next-rest (a .n) i,
     )
 
 returns : tie.Need-returns Inv-loop μ-loop
 returns c =
     let l = c .before .loop in
     let a = c .before .before .args in
-    let z : packedDigits (a .d - l .i) (l .rest) ≡ 0 = D.none 10 16 (a .d) (l .i) (l .rest) (omega arith) in
+    let z : packedDigits (a .d - l .i) (l .rest) ≡ 0 = Decimal.none 10 16 (a .d) (l .i) (l .rest) (omega arith) in
     let e : l .i ≡ a .d = omega arith in
     let m : 2 ^ (4 * l .i) * packedDigits (a .d - l .i) (l .rest) ≡ 0 = ap (λ (x : ℕ). 2 ^ (4 * l .i) * x) z ∙ mul-zero (2 ^ (4 * l .i)) in
     (omega (arith, m, l .inv .1), l .inv .3 ∙ ap (λ (x : ℕ). a .n / 10 ^ x) e)

@@ -1,7 +1,7 @@
 -- `packed::unpack` meets its contract: from the top digit down, r has the digits above place i. Assumes nothing.
 use native.Mathlib.Nat.{div-one, le-refl}
 use lib.Pow.{pow-pos}
-use Rattle.packed.proofs.Decimal as D
+use Rattle.packed.proofs.Decimal as Decimal
 use Rattle.packed.specs.Packed.{unpackedDigits}
 use native.Mathlib.Omega.{arith}
 use mathlib.Core.Path.{_≡_, sym, ap, subst, _∙_}
@@ -19,7 +19,7 @@ loop-holds : tie.Need-loop-holds Inv-loop μ-loop
 loop-holds c =
     let d = c .args .d in
     let z : d - d ≡ 0 = omega arith in
-    (omega arith, sym (D.none 16 10 d d (c .args .p / 2 ^ (4 * d)) (le-refl d)), subst (λ (x : ℕ). 0 < 2 ^ (4 * x)) (sym z) (omega arith))
+    (omega arith, sym (Decimal.none 16 10 d d (c .args .p / 2 ^ (4 * d)) (le-refl d)), subst (λ (x : ℕ). 0 < 2 ^ (4 * x)) (sym z) (omega arith))
 
 sub-i : tie.Need-sub-i Inv-loop μ-loop
 sub-i c = omega arith
@@ -28,7 +28,7 @@ mul-r : tie.Need-mul-r Inv-loop μ-loop
 mul-r c =
     let l = c .before .loop in
     let a = c .before .before .args in
-    record { fits = omega (arith, l .inv .2, D.unpack-room (a .d) (l .i) (omega arith) (omega arith)) }
+    record { fits = omega (arith, l .inv .2, Decimal.unpack-room (a .d) (l .i) (omega arith) (omega arith)) }
 
 weight-at-requires : tie.Need-weight-at-requires Inv-loop μ-loop
 weight-at-requires c κs = omega arith
@@ -40,7 +40,7 @@ add-r : tie.Need-add-r Inv-loop μ-loop
 add-r c =
     let l = c .before .before .loop in
     let a = c .before .before .before .args in
-    record { fits = omega (arith, l .inv .2, D.unpack-room (a .d) (l .i) (omega arith) (omega arith)) }
+    record { fits = omega (arith, l .inv .2, Decimal.unpack-room (a .d) (l .i) (omega arith) (omega arith)) }
 
 loop-less : tie.Need-loop-less Inv-loop μ-loop
 loop-less c = omega arith
@@ -53,8 +53,8 @@ loop-again c =
     let p : 0 < i = omega arith in
     let g : a .p / c .weight-at .result % 16 < 16 = omega arith in (
       omega arith,
-      ap (λ (x : ℕ). l .r * 10 + a .p / x % 16) (c .weight-at .ensures) ∙ ap (λ (x : ℕ). x * 10 + a .p / 2 ^ (4 * (i - 1)) % 16) (l .inv .1) ∙ D.unpack-step (a .d) i (a .p) p (l .inv .0),
-      D.unpack-lt (a .d) i (l .r) (a .p / c .weight-at .result % 16) p (l .inv .0) (l .inv .2) g,
+      ap (λ (x : ℕ). l .r * 10 + a .p / x % 16) (c .weight-at .ensures) ∙ ap (λ (x : ℕ). x * 10 + a .p / 2 ^ (4 * (i - 1)) % 16) (l .inv .1) ∙ Decimal.unpack-step (a .d) i (a .p) p (l .inv .0),
+      Decimal.unpack-lt (a .d) i (l .r) (a .p / c .weight-at .result % 16) p (l .inv .0) (l .inv .2) g,
     )
 
 returns : tie.Need-returns Inv-loop μ-loop

@@ -1,6 +1,5 @@
 -- The variables passed rise, and `end` is the end of the last.
 use Prim.Native.Nat.{_-_}
-use mathlib.Core.Path.{sym}
 use native.Mathlib.Omega.{arith}
 use borrow.Author.Needs.{needs}
 use Rattle.verdict.proofs.Verdict.{absurd-bool}

@@ -33,15 +33,15 @@ use denote.Slice.{sliceVal, sliceTy, ShrSlice, Room, slice-vals, shr-slice-tells
 use denote.Index.{place-is, elem-out, elem-back, looks-slice, shuts-slice}
 use denote.Signature.{plain}
 use denote.Steps.{owned, nothing}
-use denote.Struct.Laws as LL
+use denote.Struct.Laws as StructLaws
 use denote.Triple.Entry.{onEntry}
 use denote.Triple.Spec.{Meets, tripleOf}
 use denote.Triple.Table.{entered}
 use denote.Triple.Walked.{says, Stays, stay-none-slice, stay-none, walkOf, goes-none-slice, goes-none, Walks, ends-at, walked, walk-meets}
 use denote.Exit.{yes}
 use Rattle.snapshot.specs.declared.CoreRecord.{CoreRecord}
-use Rattle.snapshot.proofs.CoreRecord as T
-use Rattle.snapshot.proofs.CoreRecord.Laws as T′
+use Rattle.snapshot.proofs.CoreRecord as CoreRecordType
+use Rattle.snapshot.proofs.CoreRecord.Laws as CoreRecordLaws
 use Rattle.rikzord.proofs.get_or.Key.{name as #rikzord·get-or}
 use Rattle.rikzord.proofs.get_or as f
 use Rattle.rikzord.proofs.get_or.Statement as stated
@@ -49,7 +49,7 @@ use Rattle.rikzord.proofs.get_or.Code as code
 use Rattle.rikzord.proofs.get_or.Code.Mir as code-mir
 
 abbrev R : RattleType
-R = T.the-row
+R = CoreRecordType.the-row
 
 abbrev Arg : Type 0
 Arg = RefT (List CoreRecord) × (ℕ × (CoreRecord × Unit {0}))
@@ -58,7 +58,7 @@ abbrev stayed : Stays (f.ended .signature .params) (f.ended .kept)
 stayed = (stay-none-slice (0 ∷ []) tt (plain (λ _. R)) yes, (stay-none (λ _. usize) yes, (stay-none (λ _. R) yes, tt)))
 
 abbrev mach : CoreRecord → Val
-mach c = LL.tuple-val T.the-type T′.the-laws (T.the-type .to c)
+mach c = StructLaws.tuple-val CoreRecordType.the-type CoreRecordLaws.the-laws (CoreRecordType.the-type .to c)
 
 -- the place of a record of the slice is computed without a wrap
 in-range : (ys : List CoreRecord) (i : ℕ) → Room R (length ys) → i < length ys → i * 84 < 2 ^ 64
@@ -84,13 +84,14 @@ module _ {M : Type 1} (𝓤 : URA M) (H : Heap 𝓤) (A : Atoms 𝓤) (W : Given
   exits r e is =
       qed W (‵ (flft κ q) ∷ ‵ (ShrSlice (named 0) κ R .own (a .0) (s ∷ [])) ∷ []) ∵
       suffices ! _ (ends-at 𝓤 H A f.ended stayed (f.clauses 𝓤 H A at-mem run) W (((κ, tt), (q, tt), tt, a, at), tt) (mach r) r (tt, (tt, (tt, tt))) (tt, (tt, (tt, tt)))) $ says ! e $
-      nothing ! $ move ! (1 ∷ 0 ∷ []) $ join ! $ frame ! $ nothing ! $ owned ! R (Is R) (LL.makes T.the-type T′.the-plain 𝓤 H A) other _ other-is $ fjoin ! $ owned ! usize (Is usize) (uint-makes 𝓤 H A W w64) i _ (refl, i-fits) $ fjoin ! $ move ! (1 ∷ 0 ∷ []) $ fjoin ! $ frame ! $
-      owned ! R (Is R) (LL.makes T.the-type T′.the-plain 𝓤 H A) r _ is $ done !
+      nothing ! $ move ! (1 ∷ 0 ∷ []) $ join ! $ frame ! $ nothing ! $ owned ! R (Is R) (StructLaws.makes CoreRecordType.the-type CoreRecordLaws.the-plain 𝓤 H A) other _ other-is $ fjoin ! $ owned ! usize (Is usize)
+      (uint-makes 𝓤 H A W w64) i _ (refl, i-fits) $ fjoin ! $ move ! (1 ∷ 0 ∷ []) $ fjoin ! $ frame ! $
+      owned ! R (Is R) (StructLaws.makes CoreRecordType.the-type CoreRecordLaws.the-plain 𝓤 H A) r _ is $ done !
 
   module _ (C : Calls 𝓤 H) (Λ : Loops 𝓤 H) where
     -- the locals
     abbrev E : ℕ → ℕ → ℕ → ℕ → ℕ → ℕ → ℕ → ℕ → Env 𝓤 H
-    E l₀ l₁ l₂ l₃ l₄ l₅ l₆ l₇ = (T′.mir, l₀) ∷ (sliceTy (tyRef (named 0) imm (pointee (R .written))), l₁) ∷ (tyInt w64, l₂) ∷ (T′.mir, l₃) ∷ (tyInt w64, l₄) ∷ (tyBool, l₅) ∷ (tyPtr, l₆) ∷ (T′.mir, l₇) ∷ []
+    E l₀ l₁ l₂ l₃ l₄ l₅ l₆ l₇ = (CoreRecordLaws.mir, l₀) ∷ (sliceTy (tyRef (named 0) imm (pointee (R .written))), l₁) ∷ (tyInt w64, l₂) ∷ (CoreRecordLaws.mir, l₃) ∷ (tyInt w64, l₄) ∷ (tyBool, l₅) ∷ (tyPtr, l₆) ∷ (CoreRecordLaws.mir, l₇) ∷ []
 
     walk : Room R (length ys) → ent 𝓤 (onEntry 𝓤 H A f.signature (κ, tt) (q, tt) a at) (WpFn 𝓤 H C Λ code.function (s ∷ vint w64 i ∷ mach other ∷ []) Post)
     walk room =
@@ -112,23 +113,24 @@ module _ {M : Type 1} (𝓤 : URA M) (H : Heap 𝓤) (A : Atoms 𝓤) (W : Given
         assigns ! (bin ! (load ! (from ! (fld ! refl (stop !))) (look-in ! 12 (sub ! 0 refl (whole !)))) (load ! (from ! (stop !)) (look ! 6 refl)) tt) (from ! (stop !)) (init ! 2 refl (tt, tt)) $
         rewrite ! 2 (λ (p : ℕ). ‵ (fat fullShare tyPtr l₆ 0 (vptr b p))) (sym (place-is 84 o i)) refl $
         move ! (17 ∷ []) $ fsplit ! $ fsplit ! $ move ! (1 ∷ []) $ fsplit ! $ move ! (20 ∷ []) $ split ! $ move ! (3 ∷ 0 ∷ []) $
-        looks-slice ! tt R (Is R) (shows 𝓤 H A R) (LL.vals T.the-type T′.the-laws) (LL.tells T.the-type T′.the-laws) (LL.copy T.the-type T′.the-copy 𝓤 H A W) ys b o (λ q′.
-        elem-out ! R (Is R) (shows 𝓤 H A R) (LL.vals T.the-type T′.the-laws) (LL.tells T.the-type T′.the-laws) q′ ys i other b o (nleb→lt (length ys) i there) (λ is.
+        looks-slice ! tt R (Is R) (shows 𝓤 H A R) (StructLaws.vals CoreRecordType.the-type CoreRecordLaws.the-laws) (StructLaws.tells CoreRecordType.the-type CoreRecordLaws.the-laws) (StructLaws.copy CoreRecordType.the-type CoreRecordLaws.the-copy 𝓤 H A W) ys b o (λ q′.
+        elem-out ! R (Is R) (shows 𝓤 H A R) (StructLaws.vals CoreRecordType.the-type CoreRecordLaws.the-laws) (StructLaws.tells CoreRecordType.the-type CoreRecordLaws.the-laws) q′ ys i other b o (nleb→lt (length ys) i there) (λ is.
         -- [t[i]; what it owns; the others; what shuts; the fractured borrow; true; res; t's fact; i's and other's; _7; …; _6; …; _5; …; _4; …; _3; …; _2; …; _1; …; room for _0; …]
-        assigns ! (of-opd ! (load ! (from ! (hop ! (look ! 11 refl) (stop !))) (look-raw ! 0 refl))) (from ! (stop !)) (init ! 9 refl (LL.lawful T.the-type T′.the-laws 𝓤 H A W .typed elem _ is .0)) $
-        assigns ! (of-opd ! (load ! (from ! (stop !)) (look ! 9 refl))) (from ! (stop !)) (init ! 23 refl (LL.lawful T.the-type T′.the-laws 𝓤 H A W .typed elem _ is .0)) $
+        assigns ! (of-opd ! (load ! (from ! (hop ! (look ! 11 refl) (stop !))) (look-raw ! 0 refl))) (from ! (stop !)) (init ! 9 refl (StructLaws.lawful CoreRecordType.the-type CoreRecordLaws.the-laws 𝓤 H A W .typed elem _ is .0)) $
+        assigns ! (of-opd ! (load ! (from ! (stop !)) (look ! 9 refl))) (from ! (stop !)) (init ! 23 refl (StructLaws.lawful CoreRecordType.the-type CoreRecordLaws.the-laws 𝓤 H A W .typed elem _ is .0)) $
         elem-back ! R q′ ys i other (mach elem ∷ []) b o (nleb→lt (length ys) i there) $ shuts-slice ! tt R q′ ys b o $
         -- [the token; the fractured borrow; true; res; t's fact; i's and other's; _7; …; _6; …; _5; …; _4; …; _3; …; _2; …; _1; …; _0; …]
         returns ! (look ! 20 refl) $ forget ! 6 refl $ forget ! 8 refl $ forget ! 10 refl $ forget ! 12 refl $ forget ! 14 refl $ forget ! 16 refl $ forget ! 18 refl $ forget ! 20 refl $
         move ! (20 ∷ 21 ∷ []) $ free1 ! $ move ! (18 ∷ 19 ∷ []) $ free1 ! $ move ! (16 ∷ 17 ∷ []) $ free1 ! $ move ! (14 ∷ 15 ∷ []) $ free1 ! $ move ! (12 ∷ 13 ∷ []) $ free1 ! $ move ! (10 ∷ 11 ∷ []) $ free1 ! $ move ! (8 ∷ 9 ∷ []) $ free1 ! $ move ! (6 ∷ 7 ∷ []) $ free1 ! $ free0 ! $
         move ! (3 ∷ 1 ∷ []) $ fjoin ! $ move ! (3 ∷ 0 ∷ []) $ fjoin ! $ keep ! (1 ∷ 0 ∷ []) $ by ! (exits elem refl is))))))))))))
       where
-        typed : Holds (hasTy T′.mir (mach other)) × WT (mach other)
-        typed = LL.lawful T.the-type T′.the-laws 𝓤 H A W .typed other _ other-is .0
+        typed : Holds (hasTy CoreRecordLaws.mir (mach other)) × WT (mach other)
+        typed = StructLaws.lawful CoreRecordType.the-type CoreRecordLaws.the-laws 𝓤 H A W .typed other _ other-is .0
 
 module _ {M : Type 1} (𝓤 : URA M) (H : Heap 𝓤) (A : Atoms 𝓤) (W : Given 𝓤 H A) (at-mem : Memory → SProp 𝓤) (run : Routine → Fun 𝓤) where
   walks : (C : Calls 𝓤 H) (Λ : Loops 𝓤 H) → Walks 𝓤 H A f.ended stayed (WpFn 𝓤 H C Λ code.function) (f.clauses 𝓤 H A at-mem run)
-  walks C Λ = walked 𝓤 H A f.ended stayed (f.clauses 𝓤 H A at-mem run) (WpFn 𝓤 H C Λ code.function) (λ κs. (slice-vals, (uint-vals w64, (LL.vals T.the-type T′.the-laws, tt)))) (λ κs. (shr-slice-tells (named 0) (κs .0) R, (uint-tells w64, (LL.tells T.the-type T′.the-laws, tt))))
+  walks C Λ = walked 𝓤 H A f.ended stayed (f.clauses 𝓤 H A at-mem run) (WpFn 𝓤 H C Λ code.function) (λ κs. (slice-vals, (uint-vals w64, (StructLaws.vals CoreRecordType.the-type CoreRecordLaws.the-laws, tt))))
+      (λ κs. (shr-slice-tells (named 0) (κs .0) R, (uint-tells w64, (StructLaws.tells CoreRecordType.the-type CoreRecordLaws.the-laws, tt))))
       (λ κs qs bounds a g are. via 𝓤 _ (fst∗ 𝓤 _ (emp 𝓤)) (walk 𝓤 H A W at-mem run (κs .0) (qs .0) (a .0 .ptr .0) (a .0 .ptr .1) (a .0 .name) (a .0 .now) (a .1 .0) (are .1 .0 .1) (a .1 .1 .0) (are .1 .1 .0) C Λ (are .0 .0 .1)))
 
 meets : {M : Type 1} (𝓤 : URA M) (H : Heap 𝓤) (A : Atoms 𝓤) → Given 𝓤 H A → (at-mem : Memory → SProp 𝓤) (run : Routine → Fun 𝓤) (𝓣 : Tables 𝓤 H)

@@ -2,7 +2,7 @@
 -- All that the proof knows of the three is that each meets its contract.
 -- Assumes nothing.
 use mathlib.Core.Path.{_≡_, refl, _∙_}
-use Prim.Native.Nat.{ℕ, _<_, _^_}
+use Prim.Native.Nat.{ℕ, _<_}
 use mathlib.Core.List.{List, [], _∷_}
 use lib.Dec.{lit<}
 use lib.ListN.{length}
@@ -29,7 +29,7 @@ use denote.Ref.{RefT}
 use denote.Slice.{sliceVal, ShrSlice, Room, slice-vals, shr-slice-tells}
 use denote.Signature.{plain}
 use denote.Steps.{owned, peeks, heard, nothing}
-use denote.Struct.Laws as LL
+use denote.Struct.Laws as StructLaws
 use denote.Triple.Entry.{onEntry}
 use denote.Triple.Statement.{Contract, Triple}
 use denote.Triple.Call.{calls-at}
@@ -42,10 +42,10 @@ use Rattle.snapshot.specs.Snapshot.{tableFrom}
 use Rattle.rikzord.specs.Lent.{loaded}
 use Rattle.snapshot.specs.declared.CoreRecord.{CoreRecord}
 use Rattle.snapshot.specs.declared.Table.{Table}
-use Rattle.snapshot.proofs.CoreRecord as T
-use Rattle.snapshot.proofs.CoreRecord.Laws as T′
-use Rattle.snapshot.proofs.Table as N
-use Rattle.snapshot.proofs.Table.Laws as N′
+use Rattle.snapshot.proofs.CoreRecord as CoreRecordType
+use Rattle.snapshot.proofs.CoreRecord.Laws as CoreRecordLaws
+use Rattle.snapshot.proofs.Table as TableType
+use Rattle.snapshot.proofs.Table.Laws as TableLaws
 use Rattle.rikzord.proofs.Asking.{R, GetOr, NoRecord, typed, from-none, begins, asks}
 use Rattle.rikzord.proofs.get_or.Symbol as get-or-def
 use Rattle.rikzord.proofs.get_or.Symbol.{name as #rikzord·get-or}
@@ -93,9 +93,9 @@ module _ {M : Type 1} (𝓤 : URA M) (H : Heap 𝓤) (A : Atoms 𝓤) (W : Given
   abbrev Post : Val → SProp 𝓤
   Post = walkOf 𝓤 H A f.ended stayed (f.clauses 𝓤 H A at-mem run) .post (((κ, tt), (q, tt), tt, a, at), tt)
 
-  exits : (r : Table) (w : Val) → r ≡ loaded ys → ent 𝓤 (⋆ 𝓤 H A ((‵ (flft κ q) ⊛ ‵ ftrue) ∷ ‵ Own ∷ ‵ (N.the-row .own r (w ∷ [])) ∷ [])) (Post w)
+  exits : (r : Table) (w : Val) → r ≡ loaded ys → ent 𝓤 (⋆ 𝓤 H A ((‵ (flft κ q) ⊛ ‵ ftrue) ∷ ‵ Own ∷ ‵ (TableType.the-row .own r (w ∷ [])) ∷ [])) (Post w)
   exits r w e =
-      qed W ((‵ (flft κ q) ⊛ ‵ ftrue) ∷ ‵ Own ∷ ‵ (N.the-row .own r (w ∷ [])) ∷ []) ∵
+      qed W ((‵ (flft κ q) ⊛ ‵ ftrue) ∷ ‵ Own ∷ ‵ (TableType.the-row .own r (w ∷ [])) ∷ []) ∵
       suffices ! _ (ends-at 𝓤 H A f.ended stayed (f.clauses 𝓤 H A at-mem run) W (((κ, tt), (q, tt), tt, a, at), tt) w r (tt, tt) (tt, tt)) $ says ! e $
       frame ! $ nothing ! $ move ! (1 ∷ 0 ∷ []) $ fjoin ! $ frame ! $ done !
 
@@ -106,8 +106,8 @@ module _ {M : Type 1} (𝓤 : URA M) (H : Heap 𝓤) (A : Atoms 𝓤) (W : Given
   goes-table : (c₀ c₁ c₂ c₃ : CoreRecord) (v₀ v₁ v₂ v₃ : Val) → Is R c₀ (v₀ ∷ []) → Is R c₁ (v₁ ∷ []) → Is R c₂ (v₂ ∷ []) → Is R c₃ (v₃ ∷ []) → ent 𝓤 (emp 𝓤) (TableFrom 𝓤 H A at-mem run .pre (to-table c₀ c₁ c₂ c₃ v₀ v₁ v₂ v₃))
   goes-table c₀ c₁ c₂ c₃ v₀ v₁ v₂ v₃ i₀ i₁ i₂ i₃ =
       qed W [] ∵ nothing ! $ owned ! usize (Is usize) (uint-makes 𝓤 H A W w64) (length ys) _ (refl, room .0) $ fjoin ! $
-      owned ! R (Is R) (LL.makes T.the-type T′.the-plain 𝓤 H A) c₃ _ i₃ $ fjoin ! $ owned ! R (Is R) (LL.makes T.the-type T′.the-plain 𝓤 H A) c₂ _ i₂ $ fjoin ! $
-      owned ! R (Is R) (LL.makes T.the-type T′.the-plain 𝓤 H A) c₁ _ i₁ $ fjoin ! $ owned ! R (Is R) (LL.makes T.the-type T′.the-plain 𝓤 H A) c₀ _ i₀ $ fjoin ! $ nothing ! $ join ! $ frame ! $ done !
+      owned ! R (Is R) (StructLaws.makes CoreRecordType.the-type CoreRecordLaws.the-plain 𝓤 H A) c₃ _ i₃ $ fjoin ! $ owned ! R (Is R) (StructLaws.makes CoreRecordType.the-type CoreRecordLaws.the-plain 𝓤 H A) c₂ _ i₂ $ fjoin ! $
+      owned ! R (Is R) (StructLaws.makes CoreRecordType.the-type CoreRecordLaws.the-plain 𝓤 H A) c₁ _ i₁ $ fjoin ! $ owned ! R (Is R) (StructLaws.makes CoreRecordType.the-type CoreRecordLaws.the-plain 𝓤 H A) c₀ _ i₀ $ fjoin ! $ nothing ! $ join ! $ frame ! $ done !
 
   module _ (C : Calls 𝓤 H) (Λ : Loops 𝓤 H) (fm : FmC 𝓤 H (W .laws) C) (known-get : Triple 𝓤 (C #rikzord·get-or) (GetOr 𝓤 H A at-mem run)) (known-none : Triple 𝓤 (C #snapshot·no-record) (NoRecord 𝓤 H A at-mem run)) (known-table : Triple 𝓤 (C #snapshot·table-from) (TableFrom 𝓤 H A at-mem run)) where
     walk : ent 𝓤 (onEntry 𝓤 H A f.signature (κ, tt) (q, tt) a at) (WpFn 𝓤 H C Λ code.function (s ∷ []) Post)
@@ -139,11 +139,11 @@ module _ {M : Type 1} (𝓤 : URA M) (H : Heap 𝓤) (A : Atoms 𝓤) (W : Given
         (and-then ! (load ! (from ! (stop !)) (look ! 9 refl))
         (and-then ! (load ! (from ! (stop !)) (look ! 7 refl))
         (and-then ! (load ! (from ! (stop !)) (look ! 5 refl)) (and-then ! (load ! (from ! (stop !)) (look ! 3 refl)) (no-more !)))))) (λ w.
-        use1 W (later (some (λ (r : Table). (‵ ftrue ⊛ ‵ (N.the-row .own r (w ∷ []))) ⊛ raw (ensured 𝓤 H A table-from.ended (table-from.clauses 𝓤 H A at-mem run) tt (c₀, (c₁, (c₂, (c₃, (length ys, tt))))) tt r)))) (id⊢ 𝓤 _) $ await ! tt $ pick ! (λ r.
+        use1 W (later (some (λ (r : Table). (‵ ftrue ⊛ ‵ (TableType.the-row .own r (w ∷ []))) ⊛ raw (ensured 𝓤 H A table-from.ended (table-from.clauses 𝓤 H A at-mem run) tt (c₀, (c₁, (c₂, (c₃, (length ys, tt))))) tt r)))) (id⊢ 𝓤 _) $ await ! tt $ pick ! (λ r.
         split ! $ move ! (1 ∷ []) $ use1 W (raw (fact 𝓤 (r ≡ tableFrom c₀ c₁ c₂ c₃ (length ys)))) (table-is 𝓤 H A at-mem run c₀ c₁ c₂ c₃ (length ys) r) $ heard ! (r ≡ tableFrom c₀ c₁ c₂ c₃ (length ys)) (λ e.
-        split ! $ drop ! $ peeks ! N.the-row (Is N.the-row) (shows 𝓤 H A N.the-row) r (w ∷ []) (λ is.
+        split ! $ drop ! $ peeks ! TableType.the-row (Is TableType.the-row) (shows 𝓤 H A TableType.the-row) r (w ∷ []) (λ is.
         -- [what the result owns; the token; what t owns; _7; …; _6; …; _5; …; _4; …; _3; …; _2; …; _1; …; room for _0; …]
-        land ! (from ! (stop !)) (init ! 17 refl (LL.lawful N.the-type N′.the-laws 𝓤 H A W .typed r _ is .0)) $
+        land ! (from ! (stop !)) (init ! 17 refl (StructLaws.lawful TableType.the-type TableLaws.the-laws 𝓤 H A W .typed r _ is .0)) $
         returns ! (look ! 17 refl) $ forget ! 3 refl $ forget ! 5 refl $ forget ! 7 refl $ forget ! 9 refl $ forget ! 11 refl $ forget ! 13 refl $ forget ! 15 refl $ forget ! 17 refl $
         move ! (17 ∷ 18 ∷ []) $ free1 ! $ move ! (15 ∷ 16 ∷ []) $ free1 ! $ move ! (13 ∷ 14 ∷ []) $ free1 ! $ move ! (11 ∷ 12 ∷ []) $ free1 ! $ move ! (9 ∷ 10 ∷ []) $ free1 ! $ move ! (7 ∷ 8 ∷ []) $ free1 ! $ move ! (5 ∷ 6 ∷ []) $ free1 ! $ move ! (3 ∷ 4 ∷ []) $ free1 ! $ free0 ! $
         keep ! (1 ∷ 2 ∷ 0 ∷ []) $ by ! (exits r w (e ∙ λ k. tableFrom (from-none ys c₀ n 0 en e₀ k) (from-none ys c₁ n 1 en e₁ k) (from-none ys c₂ n 2 en e₂ k) (from-none ys c₃ n 3 en e₃ k) (length ys))))))))))))))))))))

@@ -13,7 +13,7 @@ use lib.Dec.{T as Holds, leb→le, nleb→lt}
 use lib.Seq.{set-out}
 use mir.Val.{Val, WT, hasTy, vunit, vint, vptr}
 use base.Logic.{SProp, ent, emp, via, fst∗}
-use base.Fml.{Lft, GName, Share, ftrue, fat, flft, fobs, fbor}
+use base.Fml.{Lft, GName, Share, ftrue, fat, flft}
 use prog.Memory.{Memory}
 use prog.Routine.{Routine}
 use prog.Wp.{Heap, Env, Calls, Loops, WpFn, Tables}
@@ -31,12 +31,11 @@ use denote.Plain.{uint-vals, uint-tells, uint-makes}
 use denote.Builtin.{usize}
 use denote.Ref.{RefT}
 use denote.Memory.{pointee}
-use denote.Slice.{sliceVal, sliceTy, MutSlice, Room, heres, codedHoleys, at-slice, slice-vals, mut-slice-tells}
-use denote.Lend.{Held}
+use denote.Slice.{sliceVal, sliceTy, MutSlice, Room, at-slice, slice-vals, mut-slice-tells}
 use denote.Index.{place-is, elem-out, elem-put, opens-slice, closes-slice}
 use denote.Signature.{plain}
 use denote.Steps.{owned, nothing}
-use denote.Struct.Laws as LL
+use denote.Struct.Laws as StructLaws
 use denote.Triple.Entry.{onEntry}
 use denote.Triple.Spec.{Meets, tripleOf}
 use denote.Triple.Table.{entered}
@@ -44,8 +43,8 @@ use denote.Triple.Walked.{says, Stays, stay-slice, stay-none, walkOf, goes-slice
 use denote.Exit.{yes}
 use Rattle.snapshot.specs.Snapshot.{noRecord}
 use Rattle.snapshot.specs.declared.CoreRecord.{CoreRecord}
-use Rattle.snapshot.proofs.CoreRecord as T
-use Rattle.snapshot.proofs.CoreRecord.Laws as T′
+use Rattle.snapshot.proofs.CoreRecord as CoreRecordType
+use Rattle.snapshot.proofs.CoreRecord.Laws as CoreRecordLaws
 use Rattle.rikzord.proofs.put_or.Key.{name as #rikzord·put-or}
 use Rattle.rikzord.proofs.put_or as f
 use Rattle.rikzord.proofs.put_or.Statement as stated
@@ -53,7 +52,7 @@ use Rattle.rikzord.proofs.put_or.Code as code
 use Rattle.rikzord.proofs.put_or.Code.Mir as code-mir
 
 abbrev R : RattleType
-R = T.the-row
+R = CoreRecordType.the-row
 
 abbrev Arg : Type 0
 Arg = RefT (List CoreRecord) × (ℕ × (CoreRecord × Unit {0}))
@@ -62,7 +61,7 @@ abbrev stayed : Stays (f.ended .signature .params) (f.ended .kept)
 stayed = (stay-slice (0 ∷ []) tt (plain (λ _. R)), (stay-none (λ _. usize) yes, (stay-none (λ _. R) yes, tt)))
 
 abbrev mach : CoreRecord → Val
-mach d = LL.tuple-val T.the-type T′.the-laws (T.the-type .to d)
+mach d = StructLaws.tuple-val CoreRecordType.the-type CoreRecordLaws.the-laws (CoreRecordType.the-type .to d)
 
 -- the place of a record of the slice is computed without a wrap
 in-range : (ys : List CoreRecord) (i : ℕ) → Room R (length ys) → i < length ys → i * 84 < 2 ^ 64
@@ -89,13 +88,13 @@ module _ {M : Type 1} (𝓤 : URA M) (H : Heap 𝓤) (A : Atoms 𝓤) (W : Given
       qed W (‵ (flft κ q) ∷ ‵ (MutSlice (named 0) κ R .own (x zs) (s ∷ [])) ∷ []) ∵
       suffices ! _ (ends-at 𝓤 H A f.ended stayed (f.clauses 𝓤 H A at-mem run) W (((κ, tt), (q, tt), tt, a, at), tt) vunit tt (zs, (tt, (tt, tt))) (l, (tt, (tt, tt)))) $ says ! e $
       nothing ! $ move ! (1 ∷ 0 ∷ []) $ join ! $ frame ! $
-      nothing ! $ owned ! R (Is R) (LL.makes T.the-type T′.the-plain 𝓤 H A) c _ c-is $ fjoin ! $ owned ! usize (Is usize) (uint-makes 𝓤 H A W w64) i _ (refl, i-fits) $ fjoin ! $ move ! (1 ∷ 0 ∷ []) $ fjoin ! $
+      nothing ! $ owned ! R (Is R) (StructLaws.makes CoreRecordType.the-type CoreRecordLaws.the-plain 𝓤 H A) c _ c-is $ fjoin ! $ owned ! usize (Is usize) (uint-makes 𝓤 H A W w64) i _ (refl, i-fits) $ fjoin ! $ move ! (1 ∷ 0 ∷ []) $ fjoin ! $
       feqI ! (List Val) (vunit ∷ []) (vunit ∷ []) refl $ move ! (1 ∷ 0 ∷ []) $ done !
 
   module _ (C : Calls 𝓤 H) (Λ : Loops 𝓤 H) where
     -- the locals
     abbrev E : ℕ → ℕ → ℕ → ℕ → ℕ → ℕ → ℕ → Env 𝓤 H
-    E l₀ l₁ l₂ l₃ l₄ l₅ l₆ = (tyUnit, l₀) ∷ (sliceTy (tyRef (named 0) mut (pointee (R .written))), l₁) ∷ (tyInt w64, l₂) ∷ (T′.mir, l₃) ∷ (tyInt w64, l₄) ∷ (tyBool, l₅) ∷ (tyPtr, l₆) ∷ []
+    E l₀ l₁ l₂ l₃ l₄ l₅ l₆ = (tyUnit, l₀) ∷ (sliceTy (tyRef (named 0) mut (pointee (R .written))), l₁) ∷ (tyInt w64, l₂) ∷ (CoreRecordLaws.mir, l₃) ∷ (tyInt w64, l₄) ∷ (tyBool, l₅) ∷ (tyPtr, l₆) ∷ []
 
     walk : Room R (length ys) → ent 𝓤 (onEntry 𝓤 H A f.signature (κ, tt) (q, tt) a at) (WpFn 𝓤 H C Λ code.function (s ∷ vint w64 i ∷ mach c ∷ []) Post)
     walk room =
@@ -117,10 +116,10 @@ module _ {M : Type 1} (𝓤 : URA M) (H : Heap 𝓤) (A : Atoms 𝓤) (W : Given
         assigns ! (bin ! (load ! (from ! (fld ! refl (stop !))) (look-in ! 10 (sub ! 0 refl (whole !)))) (load ! (from ! (stop !)) (look ! 4 refl)) tt) (from ! (stop !)) (init ! 0 refl (tt, tt)) $
         rewrite ! 0 (λ (p : ℕ). ‵ (fat fullShare tyPtr l₆ 0 (vptr b p))) (sym (place-is 84 o i)) refl $
         move ! (15 ∷ []) $ fsplit ! $ fsplit ! $ move ! (1 ∷ []) $ fsplit ! $ move ! (18 ∷ []) $ split ! $ move ! (2 ∷ 3 ∷ 0 ∷ []) $
-        opens-slice ! tt R ys b o $ elem-out ! R (Is R) (shows 𝓤 H A R) (LL.vals T.the-type T′.the-laws) (LL.tells T.the-type T′.the-laws) fullShare ys i noRecord b o (nleb→lt (length ys) i there) (λ _.
+        opens-slice ! tt R ys b o $ elem-out ! R (Is R) (shows 𝓤 H A R) (StructLaws.vals CoreRecordType.the-type CoreRecordLaws.the-laws) (StructLaws.tells CoreRecordType.the-type CoreRecordLaws.the-laws) fullShare ys i noRecord b o (nleb→lt (length ys) i there) (λ _.
         -- [t[i]; what it owns; the others; the open borrow; obs; auth; true; t's fact; i's and c's; _6; …; _5; …; _4; …; _3; …; _2; …; _1; …; room for _0; …]
         assigns ! (of-opd ! (load ! (from ! (stop !)) (look ! 15 refl))) (from ! (hop ! (look ! 9 refl) (stop !))) (store-raw ! 0 refl typed) $
-        move ! (1 ∷ []) $ drop ! $ owned ! R (Is R) (LL.makes T.the-type T′.the-plain 𝓤 H A) c _ c-is $ move ! (1 ∷ 0 ∷ []) $ elem-put ! R fullShare ys i c (mach c ∷ []) b o (nleb→lt (length ys) i there) $
+        move ! (1 ∷ []) $ drop ! $ owned ! R (Is R) (StructLaws.makes CoreRecordType.the-type CoreRecordLaws.the-plain 𝓤 H A) c _ c-is $ move ! (1 ∷ 0 ∷ []) $ elem-put ! R fullShare ys i c (mach c ∷ []) b o (nleb→lt (length ys) i there) $
         closes-slice ! tt R ys (set ys i c) (length-set ys i c) b o $
         -- [obs; the borrow; the token; true; t's fact; i's and c's; _6; …; _5; …; _4; …; _3; …; _2; …; _1; …; room for _0; …]
         assigns ! (of-opd ! (unit-lit !)) (from ! (stop !)) (init ! 18 refl (tt, tt)) $
@@ -129,13 +128,13 @@ module _ {M : Type 1} (𝓤 : URA M) (H : Heap 𝓤) (A : Atoms 𝓤) (W : Given
         fjoin ! $ pureI ! (at-slice R (x (set ys i c)) (s ∷ [])) (tt, (tt, tt)) (ap (λ (m : ℕ). sliceVal (b, o) m ∷ []) (sym (length-set ys i c)), subst (Room R) (sym (length-set ys i c)) room) $ fjoin ! $
         keep ! (1 ∷ 0 ∷ []) $ by ! (exits (set ys i c) refl (length-set ys i c)))))))))))
       where
-        typed : Holds (hasTy T′.mir (mach c)) × WT (mach c)
-        typed = LL.lawful T.the-type T′.the-laws 𝓤 H A W .typed c _ c-is .0
+        typed : Holds (hasTy CoreRecordLaws.mir (mach c)) × WT (mach c)
+        typed = StructLaws.lawful CoreRecordType.the-type CoreRecordLaws.the-laws 𝓤 H A W .typed c _ c-is .0
 
 module _ {M : Type 1} (𝓤 : URA M) (H : Heap 𝓤) (A : Atoms 𝓤) (W : Given 𝓤 H A) (at-mem : Memory → SProp 𝓤) (run : Routine → Fun 𝓤) where
   walks : (C : Calls 𝓤 H) (Λ : Loops 𝓤 H) → Walks 𝓤 H A f.ended stayed (WpFn 𝓤 H C Λ code.function) (f.clauses 𝓤 H A at-mem run)
   walks C Λ = walked 𝓤 H A f.ended stayed (f.clauses 𝓤 H A at-mem run) (WpFn 𝓤 H C Λ code.function)
-      (λ κs. (slice-vals, (uint-vals w64, (LL.vals T.the-type T′.the-laws, tt)))) (λ κs. (mut-slice-tells (named 0) (κs .0) R, (uint-tells w64, (LL.tells T.the-type T′.the-laws, tt))))
+      (λ κs. (slice-vals, (uint-vals w64, (StructLaws.vals CoreRecordType.the-type CoreRecordLaws.the-laws, tt)))) (λ κs. (mut-slice-tells (named 0) (κs .0) R, (uint-tells w64, (StructLaws.tells CoreRecordType.the-type CoreRecordLaws.the-laws, tt))))
       (λ κs qs bounds a g are. via 𝓤 _ (fst∗ 𝓤 _ (emp 𝓤)) (walk 𝓤 H A W at-mem run (κs .0) (qs .0) (a .0 .ptr .0) (a .0 .ptr .1) (a .0 .name) (a .0 .now) (a .1 .0) (a .1 .1 .0) (are .1 .0 .1) (are .1 .1 .0) C Λ (are .0 .0 .1)))
 
 meets : {M : Type 1} (𝓤 : URA M) (H : Heap 𝓤) (A : Atoms 𝓤) → Given 𝓤 H A → (at-mem : Memory → SProp 𝓤) (run : Routine → Fun 𝓤) (𝓣 : Tables 𝓤 H)

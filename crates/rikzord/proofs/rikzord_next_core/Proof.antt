@@ -30,7 +30,7 @@ use denote.Slice.{sliceVal, ShrSlice, Room, slice-vals, shr-slice-tells, shr-sli
 use denote.Signature.{plain}
 use denote.Steps.{looks, shuts, owned, peeks, heard, nothing}
 use denote.Struct.Steps.{spelt}
-use denote.Struct.Laws as LL
+use denote.Struct.Laws as StructLaws
 use denote.Triple.Entry.{onEntry}
 use denote.Triple.Statement.{Contract, Triple}
 use denote.Triple.Call.{calls-at}
@@ -40,23 +40,23 @@ use denote.Triple.Table.{entered, cited}
 use denote.Triple.Walked.{says, Stays, gave-ref, stay-none-slice, stay-none, stay-none-ref, walkOf, AllGo, goes-gave-ref, goes-none-slice, goes-none, goes-none-ref, Walks, ends-at, walked, walk-meets}
 use denote.Exit.{yes}
 use Rattle.semaphore.specs.declared.Semaphore.{Semaphore}
-use Rattle.semaphore.proofs.Semaphore as P
-use Rattle.semaphore.proofs.Semaphore.Laws as P′
+use Rattle.semaphore.proofs.Semaphore as SemaphoreType
+use Rattle.semaphore.proofs.Semaphore.Laws as SemaphoreLaws
 use Rattle.snapshot.specs.declared.CoreRecord.{CoreRecord}
 use Rattle.snapshot.specs.declared.Table.{Table}
 use Rattle.snapshot.specs.Snapshot.{ringOf, answered, ringAnswer}
 use Rattle.rikzord.specs.Lent.{loaded, scanned, nextLent}
 use Rattle.rikzord.proofs.Lending.{R, mach-semaphore, Load, load-of}
 use Rattle.rikzord.proofs.Scanning.{next-lent}
-use Rattle.snapshot.proofs.Table as F
-use Rattle.snapshot.proofs.Table.Laws as F′
+use Rattle.snapshot.proofs.Table as TableType
+use Rattle.snapshot.proofs.Table.Laws as TableLaws
 use Rattle.rikzord.proofs.load_table as load′
 use Rattle.rikzord.proofs.load_table.Symbol as load-def
 use Rattle.rikzord.proofs.load_table.Symbol.{name as #rikzord·load-table}
 use Rattle.rikzord.proofs.load_table.Met as load-thm
 use Rattle.snapshot.specs.declared.Ring.{Ring}
-use Rattle.snapshot.proofs.Ring as Q
-use Rattle.snapshot.proofs.Ring.Laws as Q′
+use Rattle.snapshot.proofs.Ring as RingType
+use Rattle.snapshot.proofs.Ring.Laws as RingLaws
 use Rattle.snapshot.proofs.ring_of as ring-of
 use Rattle.snapshot.proofs.ring_of.Symbol as ring-of-def
 use Rattle.snapshot.proofs.ring_of.Symbol.{name as #snapshot·ring-of}
@@ -75,7 +75,16 @@ use Rattle.rikzord.proofs.rikzord_next_core.Statement as stated
 use Rattle.rikzord.proofs.rikzord_next_core.Code as code
 
 abbrev stayed : Stays (f.ended .signature .params) (f.ended .kept)
-stayed = (stay-none-slice (0 ∷ []) tt (plain (λ _. u8)) yes, (stay-none-slice (1 ∷ []) tt (plain (λ _. u8)) yes, (stay-none-slice (2 ∷ []) tt (plain (λ _. R)) yes, (stay-none-ref (3 ∷ []) tt (plain (λ _. P.the-row)) yes, (stay-none (λ _. u8) yes, (gave-ref (4 ∷ []) tt (plain (λ _. u8)), tt))))))
+stayed = (
+  stay-none-slice (0 ∷ []) tt (plain (λ _. u8)) yes,
+  (
+    stay-none-slice (1 ∷ []) tt (plain (λ _. u8)) yes,
+    (
+      stay-none-slice (2 ∷ []) tt (plain (λ _. R)) yes,
+      (stay-none-ref (3 ∷ []) tt (plain (λ _. SemaphoreType.the-row)) yes, (stay-none (λ _. u8) yes, (gave-ref (4 ∷ []) tt (plain (λ _. u8)), tt))),
+    ),
+  ),
+)
 
 module _ {M : Type 1} (𝓤 : URA M) (H : Heap 𝓤) (A : Atoms 𝓤) (at-mem : Memory → SProp 𝓤) (run : Routine → Fun 𝓤) where
   -- the contracts that the proof cites beside that of `load_table`
@@ -158,9 +167,10 @@ module _ {M : Type 1} (𝓤 : URA M) (H : Heap 𝓤) (A : Atoms 𝓤) (W : Given
   tokens = ‵ (flft κ₀ q₀) ⊛ ‵ (flft κ₁ q₁) ⊛ ‵ (flft κ₂ q₂) ⊛ ‵ (flft κ₃ q₃) ⊛ ‵ (flft κ₄ q₄) ⊛ ‵ ftrue
 
   exits : (r : ℕ) (w : Val) (found′ : ℕ) → answered r found′ ≡ nextLent file trace table semaphore given found
-      → ent 𝓤 (⋆ 𝓤 H A (tokens ∷ ‵ file-own ∷ ‵ trace-own ∷ ‵ table-own ∷ ‵ (fres γ-semaphore (P.the-row .coded .code semaphore)) ∷ ‵ (fshr-bor κ₃ (λ s. partAt P.the-row s semaphore b-semaphore o-semaphore)) ∷ ‵ (fres γ-found (u8 .coded .code found′)) ∷ ‵ (u8 .own r (w ∷ [])) ∷ [])) (Post w)
+      → ent 𝓤 (⋆ 𝓤 H A (tokens ∷ ‵ file-own ∷ ‵ trace-own ∷ ‵ table-own ∷ ‵ (fres γ-semaphore (SemaphoreType.the-row .coded .code semaphore)) ∷ ‵ (fshr-bor κ₃ (λ s. partAt SemaphoreType.the-row s semaphore b-semaphore o-semaphore)) ∷ ‵
+      (fres γ-found (u8 .coded .code found′)) ∷ ‵ (u8 .own r (w ∷ [])) ∷ [])) (Post w)
   exits r w found′ e =
-      qed W (tokens ∷ ‵ file-own ∷ ‵ trace-own ∷ ‵ table-own ∷ ‵ (fres γ-semaphore (P.the-row .coded .code semaphore)) ∷ ‵ (fshr-bor κ₃ (λ s. partAt P.the-row s semaphore b-semaphore o-semaphore)) ∷ ‵ (fres γ-found (u8 .coded .code found′)) ∷ ‵ (u8 .own r (w ∷ [])) ∷ []) ∵
+      qed W (tokens ∷ ‵ file-own ∷ ‵ trace-own ∷ ‵ table-own ∷ ‵ (fres γ-semaphore (SemaphoreType.the-row .coded .code semaphore)) ∷ ‵ (fshr-bor κ₃ (λ s. partAt SemaphoreType.the-row s semaphore b-semaphore o-semaphore)) ∷ ‵ (fres γ-found (u8 .coded .code found′)) ∷ ‵ (u8 .own r (w ∷ [])) ∷ []) ∵
       suffices ! _ (ends-at 𝓤 H A f.ended stayed (f.clauses 𝓤 H A at-mem run) W (((κ₀, (κ₁, (κ₂, (κ₃, (κ₄, tt))))), (q₀, (q₁, (q₂, (q₃, (q₄, tt))))), tt, a, at), tt) w r (tt, (tt, (tt, (tt, (tt, (found′, tt)))))) (tt, (tt, (tt, (tt, (tt, (tt, tt))))))) $ says ! e $
       frame ! $ move ! (3 ∷ 4 ∷ []) $ feqI ! (List Val) (vptr b-semaphore o-semaphore ∷ []) (vptr b-semaphore o-semaphore ∷ []) refl $ fjoin3 ! $ nothing ! $
       move ! (5 ∷ 0 ∷ []) $ fjoin ! $ owned ! u8 (Is u8) (uint-makes 𝓤 H A W w8) given _ (refl, given-fits) $ fjoin ! $ move ! (1 ∷ 0 ∷ []) $ fjoin ! $
@@ -183,7 +193,7 @@ module _ {M : Type 1} (𝓤 : URA M) (H : Heap 𝓤) (A : Atoms 𝓤) (W : Given
   to-ring t v = (((κ₀, (κ₁, tt)), (q₀, (q₁, tt)), tt, ring-args t, (file-val ∷ [], (trace-val ∷ [], (v ∷ [], (mach-semaphore semaphore ∷ [], (vint w8 given ∷ [], tt)))))), tt)
 
   abbrev Given-over : Table → Val → Fml
-  Given-over t v = owns (ShrSlice (named 0) κ₀ u8 ∷ ShrSlice (named 1) κ₁ u8 ∷ F.the-row ∷ P.the-row ∷ u8 ∷ []) (ring-args t) (file-val ∷ [], (trace-val ∷ [], (v ∷ [], (mach-semaphore semaphore ∷ [], (vint w8 given ∷ [], tt)))))
+  Given-over t v = owns (ShrSlice (named 0) κ₀ u8 ∷ ShrSlice (named 1) κ₁ u8 ∷ TableType.the-row ∷ SemaphoreType.the-row ∷ u8 ∷ []) (ring-args t) (file-val ∷ [], (trace-val ∷ [], (v ∷ [], (mach-semaphore semaphore ∷ [], (vint w8 given ∷ [], tt)))))
 
   goes-ring : (t : Table) (v : Val) → ent 𝓤 (sep 𝓤 (sep 𝓤 (A .lft κ₀ q₀) (sep 𝓤 (A .lft κ₁ q₁) (sem 𝓤 H A ftrue))) (sem 𝓤 H A (Given-over t v))) (RingOf 𝓤 H A at-mem run .pre (to-ring t v))
   goes-ring t v = qed W ((‵ (flft κ₀ q₀) ⊛ ‵ (flft κ₁ q₁) ⊛ ‵ ftrue) ∷ ‵ (Given-over t v) ∷ []) ∵ join ! $ frame ! $ done !
@@ -191,9 +201,9 @@ module _ {M : Type 1} (𝓤 : URA M) (H : Heap 𝓤) (A : Atoms 𝓤) (W : Given
   abbrev to-scan : Ring → Val → Scan 𝓤 H A at-mem run .Ghost
   to-scan r v = (((κ₂, tt), (q₂, tt), tt, (table-ref, (r, tt)), (table-val ∷ [], (v ∷ [], tt))), tt)
 
-  goes-scan : (r : Ring) (v : Val) → Is Q.the-row r (v ∷ []) → ent 𝓤 (sep 𝓤 (sep 𝓤 (A .lft κ₂ q₂) (sem 𝓤 H A ftrue)) (sem 𝓤 H A table-own)) (Scan 𝓤 H A at-mem run .pre (to-scan r v))
+  goes-scan : (r : Ring) (v : Val) → Is RingType.the-row r (v ∷ []) → ent 𝓤 (sep 𝓤 (sep 𝓤 (A .lft κ₂ q₂) (sem 𝓤 H A ftrue)) (sem 𝓤 H A table-own)) (Scan 𝓤 H A at-mem run .pre (to-scan r v))
   goes-scan r v is =
-      qed W ((‵ (flft κ₂ q₂) ⊛ ‵ ftrue) ∷ ‵ table-own ∷ []) ∵ nothing ! $ owned ! Q.the-row (Is Q.the-row) (LL.makes Q.the-type Q′.the-plain 𝓤 H A) r _ is $ fjoin ! $ move ! (2 ∷ 0 ∷ []) $ fjoin ! $ move ! (1 ∷ 0 ∷ []) $ join ! $ frame ! $ done !
+      qed W ((‵ (flft κ₂ q₂) ⊛ ‵ ftrue) ∷ ‵ table-own ∷ []) ∵ nothing ! $ owned ! RingType.the-row (Is RingType.the-row) (StructLaws.makes RingType.the-type RingLaws.the-plain 𝓤 H A) r _ is $ fjoin ! $ move ! (2 ∷ 0 ∷ []) $ fjoin ! $ move ! (1 ∷ 0 ∷ []) $ join ! $ frame ! $ done !
 
   abbrev FoundArg : Type 0
   FoundArg = Ring × (ℕ × (RefT ℕ × Unit {0}))
@@ -205,7 +215,7 @@ module _ {M : Type 1} (𝓤 : URA M) (H : Heap 𝓤) (A : Atoms 𝓤) (W : Given
   to-found r k v w = (((κ₄, tt), (q₄, tt), tt, found-args r k, (v ∷ [], (w ∷ [], (found-val ∷ [], tt)))), tt)
 
   abbrev Found-over : Ring → ℕ → Val → Val → Fml
-  Found-over r k v w = owns (Q.the-row ∷ u8 ∷ MutRef (named 0) κ₄ u8 ∷ []) (found-args r k) (v ∷ [], (w ∷ [], (found-val ∷ [], tt)))
+  Found-over r k v w = owns (RingType.the-row ∷ u8 ∷ MutRef (named 0) κ₄ u8 ∷ []) (found-args r k) (v ∷ [], (w ∷ [], (found-val ∷ [], tt)))
 
   goes-found : (r : Ring) (k : ℕ) (v w : Val) → ent 𝓤 (sep 𝓤 (sep 𝓤 (A .lft κ₄ q₄) (sem 𝓤 H A ftrue)) (sem 𝓤 H A (Found-over r k v w))) (FoundIn 𝓤 H A at-mem run .pre (to-found r k v w))
   goes-found r k v w = qed W ((‵ (flft κ₄ q₄) ⊛ ‵ ftrue) ∷ ‵ (Found-over r k v w) ∷ []) ∵ join ! $ frame ! $ done !
@@ -223,7 +233,7 @@ module _ {M : Type 1} (𝓤 : URA M) (H : Heap 𝓤) (A : Atoms 𝓤) (W : Given
       (known-found : Triple 𝓤 (C #snapshot·found-in) (FoundIn 𝓤 H A at-mem run)) where
     walk : ent 𝓤 (onEntry 𝓤 H A f.signature (κ₀, (κ₁, (κ₂, (κ₃, (κ₄, tt))))) (q₀, (q₁, (q₂, (q₃, (q₄, tt))))) a at) (WpFn 𝓤 H C Λ code.function (file-val ∷ trace-val ∷ table-val ∷ semaphore-val ∷ vint w8 given ∷ found-val ∷ []) Post)
     walk =
-        qed W (tokens ∷ ‵ (owns (ShrSlice (named 0) κ₀ u8 ∷ ShrSlice (named 1) κ₁ u8 ∷ ShrSlice (named 2) κ₂ R ∷ ShrRef (named 3) κ₃ P.the-row ∷ u8
+        qed W (tokens ∷ ‵ (owns (ShrSlice (named 0) κ₀ u8 ∷ ShrSlice (named 1) κ₁ u8 ∷ ShrSlice (named 2) κ₂ R ∷ ShrRef (named 3) κ₃ SemaphoreType.the-row ∷ u8
         ∷ MutRef (named 4) κ₄ u8 ∷ []) a at) ∷ []) ∵ enter ! C Λ code.function (file-val ∷ trace-val ∷ table-val ∷ semaphore-val ∷ vint w8 given ∷ found-val ∷ []) _ $
         alloc1 ! (λ l₀. alloc1 ! (λ l₁. alloc1 ! (λ l₂. alloc1 ! (λ l₃. alloc1 ! (λ l₄. alloc1 ! (λ l₅. alloc1 ! (λ l₆. alloc1 ! (λ l₇. alloc1 ! (λ l₈. alloc1 ! (λ l₉. alloc1 ! (λ l₁₀. alloc1 ! (λ l₁₁. alloc0 ! $ params1 ! $
         pass1 ! (init ! 20 refl (tt, (tt, (record { fits = room-file .0 }, tt)))) $ pass1 ! (init ! 18 refl (tt, (tt, (record { fits = room-trace .0 }, tt)))) $
@@ -240,21 +250,23 @@ module _ {M : Type 1} (𝓤 : URA M) (H : Heap 𝓤) (A : Atoms 𝓤) (W : Given
         nothing ! $ move ! (10 ∷ 0 ∷ []) $ join ! $ use2 W (raw (Load 𝓤 H A at-mem run .pre to-load)) goes-load $
         -- [what `load_table` asks; what table owns, twice; what trace owns, twice; what file owns, twice; found's token; semaphore's token; trace's token; file's token; what found owns; what semaphore owns; _11; …; down to _0]
         calls-at ! fm (Load 𝓤 H A at-mem run) known-load to-load (and-then ! (load ! (from ! (stop !)) (look ! 29 refl)) (no-more !)) (λ v.
-        use1 W (later (some (λ (t : Table). ((‵ (flft κ₂ q₂) ⊛ ‵ ftrue) ⊛ ‵ (F.the-row .own t (v ∷ []))) ⊛ raw (ensured 𝓤 H A load′.ended (load′.clauses 𝓤 H A at-mem run) (κ₂, tt) (table-ref, tt) tt t)))) (id⊢ 𝓤 _) $ await ! tt $ pick ! (λ t.
+        use1 W (later (some (λ (t : Table). ((‵ (flft κ₂ q₂) ⊛ ‵ ftrue) ⊛ ‵ (TableType.the-row .own t (v ∷ []))) ⊛ raw (ensured 𝓤 H A load′.ended (load′.clauses 𝓤 H A at-mem run) (κ₂, tt) (table-ref, tt) tt t)))) (id⊢ 𝓤 _) $ await ! tt $ pick ! (λ t.
         split ! $ move ! (1 ∷ []) $ use1 W (raw (fact 𝓤 (t ≡ loaded table))) (load-of 𝓤 H A at-mem run κ₂ table-ref t) $ heard ! (t ≡ loaded table) (λ e₁.
-        split ! $ move ! (1 ∷ []) $ peeks ! F.the-row (Is F.the-row) (shows 𝓤 H A F.the-row) t (v ∷ []) (λ is₁. land ! (from ! (stop !)) (init ! 22 refl (LL.lawful F.the-type F′.the-laws 𝓤 H A W .typed t _ is₁ .0)) $ drop ! $ split ! $ move ! (1 ∷ []) $ drop ! $
+        split ! $ move ! (1 ∷ []) $ peeks ! TableType.the-row (Is TableType.the-row) (shows 𝓤 H A TableType.the-row) t (v ∷ []) (λ is₁. land ! (from ! (stop !))
+        (init ! 22 refl (StructLaws.lawful TableType.the-type TableLaws.the-laws 𝓤 H A W .typed t _ is₁ .0)) $ drop ! $ split ! $ move ! (1 ∷ []) $ drop ! $
         -- the semaphore is copied out
-        move ! (12 ∷ []) $ fsplit3 ! $ drop ! $ move ! (1 ∷ 10 ∷ []) $ looks ! tt P.the-row (Is P.the-row) (shows 𝓤 H A P.the-row) (LL.vals P.the-type P′.the-laws) (LL.tells P.the-type P′.the-laws) (LL.copy P.the-type P′.the-copy 𝓤 H A W) semaphore b-semaphore o-semaphore (λ q′ vs.
-        spelt ! P.the-row (Is P.the-row) (shows 𝓤 H A P.the-row) (LL.vals P.the-type P′.the-laws)
-        (LL.tells P.the-type P′.the-laws) q′ semaphore vs b-semaphore o-semaphore $ move ! (1 ∷ []) $
-        peeks ! P.the-row (Is P.the-row) (shows 𝓤 H A P.the-row) semaphore (mach-semaphore semaphore ∷ []) (λ is₀. move ! (1 ∷ 0 ∷ []) $
+        move ! (12 ∷ []) $ fsplit3 ! $ drop ! $ move ! (1 ∷ 10 ∷ []) $ looks ! tt SemaphoreType.the-row (Is SemaphoreType.the-row) (shows 𝓤 H A SemaphoreType.the-row) (StructLaws.vals SemaphoreType.the-type SemaphoreLaws.the-laws)
+        (StructLaws.tells SemaphoreType.the-type SemaphoreLaws.the-laws) (StructLaws.copy SemaphoreType.the-type SemaphoreLaws.the-copy 𝓤 H A W) semaphore b-semaphore o-semaphore (λ q′ vs.
+        spelt ! SemaphoreType.the-row (Is SemaphoreType.the-row) (shows 𝓤 H A SemaphoreType.the-row) (StructLaws.vals SemaphoreType.the-type SemaphoreLaws.the-laws)
+        (StructLaws.tells SemaphoreType.the-type SemaphoreLaws.the-laws) q′ semaphore vs b-semaphore o-semaphore $ move ! (1 ∷ []) $
+        peeks ! SemaphoreType.the-row (Is SemaphoreType.the-row) (shows 𝓤 H A SemaphoreType.the-row) semaphore (mach-semaphore semaphore ∷ []) (λ is₀. move ! (1 ∷ 0 ∷ []) $
         -- [a share of the semaphore's cell; what the semaphore owns; what shuts it; the fractured borrow; res; table's token; what table owns, twice; what trace owns, twice; what file owns, twice; found's token; trace's token; file's token; what found owns; _11; …; down to _0]
-        assigns ! (of-opd ! (load ! (from ! (hop ! (look ! 30 refl) (stop !))) (look-raw ! 0 refl))) (from ! (stop !)) (init ! 18 refl (LL.lawful P.the-type P′.the-laws 𝓤 H A W .typed semaphore _ is₀ .0)) $
-        shuts ! tt P.the-row q′ semaphore (mach-semaphore semaphore ∷ []) b-semaphore o-semaphore $ move ! (3 ∷ 4 ∷ 5 ∷ 6 ∷ 7 ∷ 8 ∷ 9 ∷ 10 ∷ 11 ∷ 12 ∷ 13 ∷ []) $
+        assigns ! (of-opd ! (load ! (from ! (hop ! (look ! 30 refl) (stop !))) (look-raw ! 0 refl))) (from ! (stop !)) (init ! 18 refl (StructLaws.lawful SemaphoreType.the-type SemaphoreLaws.the-laws 𝓤 H A W .typed semaphore _ is₀ .0)) $
+        shuts ! tt SemaphoreType.the-row q′ semaphore (mach-semaphore semaphore ∷ []) b-semaphore o-semaphore $ move ! (3 ∷ 4 ∷ 5 ∷ 6 ∷ 7 ∷ 8 ∷ 9 ∷ 10 ∷ 11 ∷ 12 ∷ 13 ∷ []) $
         -- `ring_of`, on the copy
         nothing ! $ owned ! u8 (Is u8) (uint-makes 𝓤 H A W w8) given _ (refl, given-fits) $ fjoin ! $
-        owned ! P.the-row (Is P.the-row) (LL.makes P.the-type P′.the-plain 𝓤 H A) semaphore _ is₀ $ fjoin ! $
-        owned ! F.the-row (Is F.the-row) (LL.makes F.the-type F′.the-plain 𝓤 H A) t _ is₁ $ fjoin ! $ move ! (4 ∷ 0 ∷ []) $ fjoin ! $ move ! (5 ∷ 0 ∷ []) $ fjoin ! $
+        owned ! SemaphoreType.the-row (Is SemaphoreType.the-row) (StructLaws.makes SemaphoreType.the-type SemaphoreLaws.the-plain 𝓤 H A) semaphore _ is₀ $ fjoin ! $
+        owned ! TableType.the-row (Is TableType.the-row) (StructLaws.makes TableType.the-type TableLaws.the-plain 𝓤 H A) t _ is₁ $ fjoin ! $ move ! (4 ∷ 0 ∷ []) $ fjoin ! $ move ! (5 ∷ 0 ∷ []) $ fjoin ! $
         nothing ! $ move ! (8 ∷ 0 ∷ []) $ join ! $ move ! (8 ∷ 0 ∷ []) $ join ! $ use2 W (raw (RingOf 𝓤 H A at-mem run .pre (to-ring t v))) (goes-ring t v) $
         -- [what `ring_of` asks; table's token; what table owns, twice; what trace owns; what file owns; found's token; what found owns; semaphore's token; its fractured borrow; its res; _11; …; down to _0]
         calls-at ! fm (RingOf 𝓤 H A at-mem run) known-ring (to-ring t v)
@@ -262,9 +274,9 @@ module _ {M : Type 1} (𝓤 : URA M) (H : Heap 𝓤) (A : Atoms 𝓤) (W : Given
         (and-then ! (load ! (from ! (stop !)) (look ! 29 refl))
         (and-then ! (load ! (from ! (stop !)) (look ! 19 refl))
         (and-then ! (load ! (from ! (stop !)) (look ! 13 refl)) (and-then ! (load ! (from ! (stop !)) (look ! 23 refl)) (no-more !)))))) (λ vr.
-        use1 W (later (some (λ (r : Ring). ((‵ (flft κ₀ q₀) ⊛ ‵ (flft κ₁ q₁) ⊛ ‵ ftrue) ⊛ ‵ (Q.the-row .own r (vr ∷ []))) ⊛ raw (ensured 𝓤 H A ring-of.ended (ring-of.clauses 𝓤 H A at-mem run) (κ₀, (κ₁, tt)) (ring-args t) tt r)))) (id⊢ 𝓤 _) $ await ! tt $ pick ! (λ r.
+        use1 W (later (some (λ (r : Ring). ((‵ (flft κ₀ q₀) ⊛ ‵ (flft κ₁ q₁) ⊛ ‵ ftrue) ⊛ ‵ (RingType.the-row .own r (vr ∷ []))) ⊛ raw (ensured 𝓤 H A ring-of.ended (ring-of.clauses 𝓤 H A at-mem run) (κ₀, (κ₁, tt)) (ring-args t) tt r)))) (id⊢ 𝓤 _) $ await ! tt $ pick ! (λ r.
         split ! $ move ! (1 ∷ []) $ use1 W (raw (fact 𝓤 (r ≡ ringOf file trace t semaphore given))) (ring-is 𝓤 H A at-mem run κ₀ κ₁ file-ref trace-ref t semaphore given r) $ heard ! (r ≡ ringOf file trace t semaphore given) (λ e₂.
-        split ! $ move ! (1 ∷ []) $ peeks ! Q.the-row (Is Q.the-row) (shows 𝓤 H A Q.the-row) r (vr ∷ []) (λ is₂. land ! (from ! (stop !)) (init ! 18 refl (LL.lawful Q.the-type Q′.the-laws 𝓤 H A W .typed r _ is₂ .0)) $ drop ! $
+        split ! $ move ! (1 ∷ []) $ peeks ! RingType.the-row (Is RingType.the-row) (shows 𝓤 H A RingType.the-row) r (vr ∷ []) (λ is₂. land ! (from ! (stop !)) (init ! 18 refl (StructLaws.lawful RingType.the-type RingLaws.the-laws 𝓤 H A W .typed r _ is₂ .0)) $ drop ! $
         -- `scan`, over the lent table
         nothing ! $ move ! (2 ∷ 0 ∷ []) $ join ! $ move ! (0 ∷ 2 ∷ []) $ use2 W (raw (Scan 𝓤 H A at-mem run .pre (to-scan r vr))) (goes-scan r vr is₂) $
         -- [what `scan` asks; the tokens of file and trace; what table owns; what trace owns; what file owns; found's token; what found owns; semaphore's token; its fractured borrow; its res; _11; …; down to _0]
@@ -274,7 +286,7 @@ module _ {M : Type 1} (𝓤 : URA M) (H : Heap 𝓤) (A : Atoms 𝓤) (W : Given
         split ! $ move ! (1 ∷ []) $ peeks ! u8 (Is u8) (shows 𝓤 H A u8) k (vk ∷ []) (λ is₃. land ! (from ! (stop !)) (init ! 15 refl (uint-lawful 𝓤 H A W w8 .typed k _ is₃ .0)) $ drop ! $
         -- `found_in`: found is given up for good
         assigns ! (addr ! (from ! (hop ! (look ! 20 refl) (stop !)))) (from ! (stop !)) (init ! 10 refl (tt, tt)) $
-        nothing ! $ move ! (7 ∷ 0 ∷ []) $ fjoin ! $ owned ! u8 (Is u8) (uint-makes 𝓤 H A W w8) k _ is₃ $ fjoin ! $ owned ! Q.the-row (Is Q.the-row) (LL.makes Q.the-type Q′.the-plain 𝓤 H A) r _ is₂ $ fjoin ! $
+        nothing ! $ move ! (7 ∷ 0 ∷ []) $ fjoin ! $ owned ! u8 (Is u8) (uint-makes 𝓤 H A W w8) k _ is₃ $ fjoin ! $ owned ! RingType.the-row (Is RingType.the-row) (StructLaws.makes RingType.the-type RingLaws.the-plain 𝓤 H A) r _ is₂ $ fjoin ! $
         nothing ! $ move ! (7 ∷ 0 ∷ []) $ join ! $ use2 W (raw (FoundIn 𝓤 H A at-mem run .pre (to-found r k vr vk))) (goes-found r k vr vk) $
         -- [what `found_in` asks; table's token; the tokens of file and trace; what table owns; what trace owns; what file owns; semaphore's token; its fractured borrow; its res; _11; …; down to _0]
         calls-at ! fm (FoundIn 𝓤 H A at-mem run) known-found (to-found r k vr vk) (and-then ! (load ! (from ! (stop !)) (look ! 15 refl)) (and-then ! (load ! (from ! (stop !)) (look ! 13 refl)) (and-then ! (load ! (from ! (stop !)) (look ! 9 refl)) (no-more !)))) (λ w.
@@ -301,7 +313,7 @@ module _ {M : Type 1} (𝓤 : URA M) (H : Heap 𝓤) (A : Atoms 𝓤) (W : Given
       → Triple 𝓤 (C #snapshot·ring-of) (RingOf 𝓤 H A at-mem run) → Triple 𝓤 (C #rikzord·scan) (Scan 𝓤 H A at-mem run)
       → Triple 𝓤 (C #snapshot·found-in) (FoundIn 𝓤 H A at-mem run) → Walks 𝓤 H A f.ended stayed (WpFn 𝓤 H C Λ code.function) (f.clauses 𝓤 H A at-mem run)
   walks C Λ fm k₁ k₂ k₃ k₄ = walked 𝓤 H A f.ended stayed (f.clauses 𝓤 H A at-mem run) (WpFn 𝓤 H C Λ code.function) (λ κs. (slice-vals, (slice-vals, (slice-vals, (ptr-vals, (uint-vals w8, (ptr-vals, tt)))))))
-      (λ κs. (shr-slice-tells (named 0) (κs .0) u8, (shr-slice-tells (named 1) (κs .1 .0) u8, (shr-slice-tells (named 2) (κs .1 .1 .0) R, (shr-tells (named 3) (κs .1 .1 .1 .0) P.the-row, (uint-tells w8, (mut-tells (named 4) (κs .1 .1 .1 .1 .0) u8, tt)))))))
+      (λ κs. (shr-slice-tells (named 0) (κs .0) u8, (shr-slice-tells (named 1) (κs .1 .0) u8, (shr-slice-tells (named 2) (κs .1 .1 .0) R, (shr-tells (named 3) (κs .1 .1 .1 .0) SemaphoreType.the-row, (uint-tells w8, (mut-tells (named 4) (κs .1 .1 .1 .1 .0) u8, tt)))))))
       (λ κs qs bounds a g are. via 𝓤 _ (fst∗ 𝓤 _ (emp 𝓤))
       (walk 𝓤 H A W at-mem run (κs .0) (κs .1 .0) (κs .1 .1 .0) (κs .1 .1 .1 .0) (κs .1 .1 .1 .1 .0) (qs .0) (qs .1 .0) (qs .1 .1 .0) (qs .1 .1 .1 .0)
       (qs .1 .1 .1 .1 .0) (a .0 .ptr .0) (a .0 .ptr .1) (a .0 .name) (a .0 .now) (a .1 .0 .ptr .0) (a .1 .0 .ptr .1) (a .1 .0 .name) (a .1 .0 .now) (a .1 .1 .0 .ptr .0)
@@ -316,7 +328,7 @@ module _ {M : Type 1} (𝓤 : URA M) (H : Heap 𝓤) (A : Atoms 𝓤) (W : Given
       goes-none-slice 𝓤 H A W 5 (1 ∷ []) tt (plain (λ _. u8)) yes,
       (
         goes-none-slice 𝓤 H A W 5 (2 ∷ []) tt (plain (λ _. R)) yes,
-        (goes-none-ref 𝓤 H A W 5 (3 ∷ []) tt (plain (λ _. P.the-row)) yes, (goes-none 𝓤 H A W 5 (λ _. u8) yes (λ κs x f. refl), (goes-gave-ref 𝓤 H A W 5 4 tt (plain (λ _. u8)), tt))),
+        (goes-none-ref 𝓤 H A W 5 (3 ∷ []) tt (plain (λ _. SemaphoreType.the-row)) yes, (goes-none 𝓤 H A W 5 (λ _. u8) yes (λ κs x f. refl), (goes-gave-ref 𝓤 H A W 5 4 tt (plain (λ _. u8)), tt))),
       ),
     ),
   )

@@ -32,7 +32,7 @@ use denote.Slice.{sliceVal, MutSlice, ShrSlice, Room, finally, slice-vals, mut-s
 use denote.Signature.{plain}
 use denote.Steps.{only, opens, closes, owned, peeks, heard, nothing}
 use denote.Struct.Steps.{spelt}
-use denote.Struct.Laws as LL
+use denote.Struct.Laws as StructLaws
 use denote.Triple.Entry.{onEntry}
 use denote.Triple.Statement.{Contract, Triple}
 use denote.Triple.Call.{calls-at}
@@ -42,15 +42,15 @@ use denote.Triple.Table.{entered, cited}
 use denote.Triple.Walked.{says, Stays, gave-slice, gave-ref, stay-none-slice, walkOf, AllGo, goes-gave-slice, goes-gave-ref, goes-none-slice, Walks, ends-at, walked, walk-meets}
 use denote.Exit.{yes}
 use Rattle.semaphore.specs.declared.Semaphore.{Semaphore}
-use Rattle.semaphore.proofs.Semaphore as P
-use Rattle.semaphore.proofs.Semaphore.Laws as P′
+use Rattle.semaphore.proofs.Semaphore as SemaphoreType
+use Rattle.semaphore.proofs.Semaphore.Laws as SemaphoreLaws
 use Rattle.snapshot.specs.declared.CoreRecord.{CoreRecord}
 use Rattle.snapshot.specs.declared.Table.{Table}
 use Rattle.snapshot.specs.declared.After.{After}
-use Rattle.snapshot.proofs.Table as F
-use Rattle.snapshot.proofs.Table.Laws as F′
-use Rattle.snapshot.proofs.After as N
-use Rattle.snapshot.proofs.After.Laws as N′
+use Rattle.snapshot.proofs.Table as TableType
+use Rattle.snapshot.proofs.Table.Laws as TableLaws
+use Rattle.snapshot.proofs.After as AfterType
+use Rattle.snapshot.proofs.After.Laws as AfterLaws
 use Rattle.rikzord.proofs.Shared.{LentShared, lends-shared, shared-back}
 use Rattle.snapshot.specs.Snapshot.{tableLeft, runTable, takenTable}
 use Rattle.rikzord.specs.Lent.{loaded, lent, runLent, takenLent}
@@ -81,7 +81,7 @@ stayed = (
     (
       gave-slice (2 ∷ []) tt (plain (λ _. R)),
       (
-        gave-ref (3 ∷ []) tt (plain (λ _. P.the-row)),
+        gave-ref (3 ∷ []) tt (plain (λ _. SemaphoreType.the-row)),
         (gave-slice (4 ∷ []) tt (plain (λ _. u8)), (gave-slice (5 ∷ []) tt (plain (λ _. u8)), (stay-none-slice (6 ∷ []) tt (plain (λ _. u8)) yes, (gave-slice (7 ∷ []) tt (plain (λ _. u8)), (gave-ref (8 ∷ []) tt (plain (λ _. usize)), tt))))),
       ),
     ),
@@ -191,10 +191,10 @@ module _ {M : Type 1} (𝓤 : URA M) (H : Heap 𝓤) (A : Atoms 𝓤) (W : Given
   exits : (n : ℕ) (u : Val) (table′ : List CoreRecord) (semaphore′ : Semaphore) (buffer′ : List ℕ) (shared′ : List ℕ) (list′ : List ℕ) (taken′ : ℕ)
       → (lent n table′ semaphore′ buffer′ shared′ list′ ≡ runLent file trace table semaphore buffer shared order list) × (taken′ ≡ takenLent file trace table semaphore buffer shared order list taken)
       → length table′ ≡ length table → length buffer′ ≡ length buffer → length shared′ ≡ length shared → length list′ ≡ length list
-      → ent 𝓤 (⋆ 𝓤 H A (tokens ∷ ‵ file-own ∷ ‵ trace-own ∷ ‵ (finally R γ-table table′) ∷ ‵ (fres γ-semaphore (P.the-row .coded .code semaphore′)) ∷ ‵ (finally u8 γ-buffer buffer′)
+      → ent 𝓤 (⋆ 𝓤 H A (tokens ∷ ‵ file-own ∷ ‵ trace-own ∷ ‵ (finally R γ-table table′) ∷ ‵ (fres γ-semaphore (SemaphoreType.the-row .coded .code semaphore′)) ∷ ‵ (finally u8 γ-buffer buffer′)
       ∷ ‵ (finally u8 γ-shared shared′) ∷ ‵ order-own ∷ ‵ (finally u8 γ-list list′) ∷ ‵ (fres γ-taken (usize .coded .code taken′)) ∷ ‵ (u8 .own n (u ∷ [])) ∷ [])) (Post u)
   exits n u table′ semaphore′ buffer′ shared′ list′ taken′ e l-table l-buffer l-shared l-list =
-      qed W (tokens ∷ ‵ file-own ∷ ‵ trace-own ∷ ‵ (finally R γ-table table′) ∷ ‵ (fres γ-semaphore (P.the-row .coded .code semaphore′)) ∷ ‵ (finally u8 γ-buffer buffer′) ∷ ‵ (finally u8 γ-shared shared′)
+      qed W (tokens ∷ ‵ file-own ∷ ‵ trace-own ∷ ‵ (finally R γ-table table′) ∷ ‵ (fres γ-semaphore (SemaphoreType.the-row .coded .code semaphore′)) ∷ ‵ (finally u8 γ-buffer buffer′) ∷ ‵ (finally u8 γ-shared shared′)
       ∷ ‵ order-own ∷ ‵ (finally u8 γ-list list′) ∷ ‵ (fres γ-taken (usize .coded .code taken′)) ∷ ‵ (u8 .own n (u ∷ [])) ∷ []) ∵
       suffices ! _ (ends-at 𝓤 H A f.ended stayed (f.clauses 𝓤 H A at-mem run) W
       (((κ₀, (κ₁, (κ₂, (κ₃, (κ₄, (κ₅, (κ₆, (κ₇, (κ₈, tt))))))))), (q₀, (q₁, (q₂, (q₃, (q₄, (q₅, (q₆, (q₇, (q₈, tt))))))))), tt, a, at), tt) u n
@@ -222,7 +222,7 @@ module _ {M : Type 1} (𝓤 : URA M) (H : Heap 𝓤) (A : Atoms 𝓤) (W : Given
 
   abbrev Given-over : Table → Val → Fml
   Given-over t v =
-      owns (ShrSlice (named 0) κ₀ u8 ∷ ShrSlice (named 1) κ₁ u8 ∷ F.the-row ∷ P.the-row ∷ MutSlice (named 2) κ₄ u8 ∷ MutSlice (named 3) κ₅ u8 ∷ ShrSlice (named 4) κ₆ u8 ∷ MutSlice (named 5) κ₇ u8
+      owns (ShrSlice (named 0) κ₀ u8 ∷ ShrSlice (named 1) κ₁ u8 ∷ TableType.the-row ∷ SemaphoreType.the-row ∷ MutSlice (named 2) κ₄ u8 ∷ MutSlice (named 3) κ₅ u8 ∷ ShrSlice (named 4) κ₆ u8 ∷ MutSlice (named 5) κ₇ u8
       ∷ MutRef (named 6) κ₈ usize ∷ []) (callee-args t)
       (file-val ∷ [], (trace-val ∷ [], (v ∷ [], (mach-semaphore semaphore ∷ [], (buffer-val ∷ [], (shared-val ∷ [], (order-val ∷ [], (list-val ∷ [], (taken-val ∷ [], tt)))))))))
 
@@ -243,7 +243,7 @@ module _ {M : Type 1} (𝓤 : URA M) (H : Heap 𝓤) (A : Atoms 𝓤) (W : Given
     walk : ent 𝓤 (onEntry 𝓤 H A f.signature (κ₀, (κ₁, (κ₂, (κ₃, (κ₄, (κ₅, (κ₆, (κ₇, (κ₈, tt))))))))) (q₀, (q₁, (q₂, (q₃, (q₄, (q₅, (q₆, (q₇, (q₈, tt))))))))) a at)
         (WpFn 𝓤 H C Λ code.function (file-val ∷ trace-val ∷ table-val ∷ semaphore-val ∷ buffer-val ∷ shared-val ∷ order-val ∷ list-val ∷ taken-val ∷ []) Post)
     walk =
-        qed W (tokens ∷ ‵ (owns (ShrSlice (named 0) κ₀ u8 ∷ ShrSlice (named 1) κ₁ u8 ∷ MutSlice (named 2) κ₂ R ∷ MutRef (named 3) κ₃ P.the-row ∷ MutSlice (named 4) κ₄ u8 ∷ MutSlice (named 5) κ₅ u8
+        qed W (tokens ∷ ‵ (owns (ShrSlice (named 0) κ₀ u8 ∷ ShrSlice (named 1) κ₁ u8 ∷ MutSlice (named 2) κ₂ R ∷ MutRef (named 3) κ₃ SemaphoreType.the-row ∷ MutSlice (named 4) κ₄ u8 ∷ MutSlice (named 5) κ₅ u8
         ∷ ShrSlice (named 6) κ₆ u8 ∷ MutSlice (named 7) κ₇ u8 ∷ MutRef (named 8) κ₈ usize ∷ []) a at)
         ∷ []) ∵ enter ! C Λ code.function (file-val ∷ trace-val ∷ table-val ∷ semaphore-val ∷ buffer-val ∷ shared-val ∷ order-val ∷ list-val ∷ taken-val ∷ []) _ $
         alloc1 ! (λ l₀. alloc1 ! (λ l₁. alloc1 ! (λ l₂. alloc1 ! (λ l₃. alloc1 ! (λ l₄. alloc1 ! (λ l₅. alloc1 ! (λ l₆. alloc1 ! (λ l₇. alloc1 ! (λ l₈. alloc1 ! (λ l₉. alloc1 ! (λ l₁₀. alloc1 ! (λ l₁₁.
@@ -267,17 +267,18 @@ module _ {M : Type 1} (𝓤 : URA M) (H : Heap 𝓤) (A : Atoms 𝓤) (W : Given
         (lends-shared R κ₂ (ν ∷ []) q₂ γ-table b-table o-table 𝓤 H A W (named 2) (named 0) table) $ await ! tt $ pick ! (λ δ. split ! $
         move ! (2 ∷ 0 ∷ []) $ use2 W (raw (Load 𝓤 H A at-mem run .pre (to-load ν δ))) (goes-load ν δ) $
         calls-at ! fm (Load 𝓤 H A at-mem run) known-load (to-load ν δ) (and-then ! (load ! (from ! (stop !)) (look ! 40 refl)) (no-more !)) (λ v.
-        use1 W (later (some (λ (r : Table). ((‵ (flft (ν ∷ []) fullShare) ⊛ ‵ ftrue) ⊛ ‵ (F.the-row .own r (v ∷ []))) ⊛ raw (ensured 𝓤 H A load′.ended (load′.clauses 𝓤 H A at-mem run) (ν ∷ [], tt) (lent-ref δ, tt) tt r)))) (id⊢ 𝓤 _) $ await ! tt $ pick ! (λ r.
+        use1 W (later (some (λ (r : Table). ((‵ (flft (ν ∷ []) fullShare) ⊛ ‵ ftrue) ⊛ ‵ (TableType.the-row .own r (v ∷ []))) ⊛ raw (ensured 𝓤 H A load′.ended (load′.clauses 𝓤 H A at-mem run) (ν ∷ [], tt) (lent-ref δ, tt) tt r)))) (id⊢ 𝓤 _) $ await ! tt $ pick ! (λ r.
         split ! $ move ! (1 ∷ []) $ use1 W (raw (fact 𝓤 (r ≡ loaded table))) (load-of 𝓤 H A at-mem run (ν ∷ []) (lent-ref δ) r) $ heard ! (r ≡ loaded table) (λ e₁.
-        split ! $ move ! (1 ∷ []) $ peeks ! F.the-row (Is F.the-row) (shows 𝓤 H A F.the-row) r (v ∷ []) (λ is₁. land ! (from ! (stop !)) (init ! 47 refl (LL.lawful F.the-type F′.the-laws 𝓤 H A W .typed r _ is₁ .0)) $ drop ! $
+        split ! $ move ! (1 ∷ []) $ peeks ! TableType.the-row (Is TableType.the-row) (shows 𝓤 H A TableType.the-row) r (v ∷ []) (λ is₁. land ! (from ! (stop !)) (init ! 47 refl (StructLaws.lawful TableType.the-type TableLaws.the-laws 𝓤 H A W .typed r _ is₁ .0)) $ drop ! $
         -- the lifetime is ended, and the table comes back
         split ! $ lft-end ! tt $ move ! (0 ∷ 2 ∷ []) $ use2 W (later (‵ table-own ⊛ ‵ (flft κ₂ q₂))) (shared-back R κ₂ (ν ∷ []) q₂ γ-table b-table o-table 𝓤 H A W (named 2) (named 0) table room-table) $ await ! tt $ split ! $ move ! (2 ∷ []) $ drop ! $
         -- the semaphore's borrow is opened, it is copied out, and the borrow is closed at it
         move ! (15 ∷ []) $ fsplit3 ! $ drop ! $ move ! (0 ∷ 1 ∷ 9 ∷ []) $
-        opens ! tt P.the-row {h = semaphore} b-semaphore o-semaphore (λ vs. spelt ! P.the-row (Is P.the-row) (shows 𝓤 H A P.the-row) (LL.vals P.the-type P′.the-laws) (LL.tells P.the-type P′.the-laws) fullShare semaphore vs b-semaphore o-semaphore $
-        move ! (1 ∷ []) $ peeks ! P.the-row (Is P.the-row) (shows 𝓤 H A P.the-row) semaphore (mach-semaphore semaphore ∷ []) (λ is₀. move ! (1 ∷ 0 ∷ []) $
-        assigns ! (of-opd ! (load ! (from ! (hop ! (look ! 61 refl) (stop !))) (look-raw ! 0 refl))) (from ! (stop !)) (init ! 41 refl (LL.lawful P.the-type P′.the-laws 𝓤 H A W .typed semaphore _ is₀ .0)) $
-        closes ! tt P.the-row semaphore (mach-semaphore semaphore ∷ []) b-semaphore o-semaphore $ feqI ! (List Val) (semaphore-val ∷ []) (semaphore-val ∷ []) refl $ fjoin3 ! $
+        opens ! tt SemaphoreType.the-row {h = semaphore} b-semaphore o-semaphore (λ vs. spelt ! SemaphoreType.the-row (Is SemaphoreType.the-row) (shows 𝓤 H A SemaphoreType.the-row)
+        (StructLaws.vals SemaphoreType.the-type SemaphoreLaws.the-laws) (StructLaws.tells SemaphoreType.the-type SemaphoreLaws.the-laws) fullShare semaphore vs b-semaphore o-semaphore $
+        move ! (1 ∷ []) $ peeks ! SemaphoreType.the-row (Is SemaphoreType.the-row) (shows 𝓤 H A SemaphoreType.the-row) semaphore (mach-semaphore semaphore ∷ []) (λ is₀. move ! (1 ∷ 0 ∷ []) $
+        assigns ! (of-opd ! (load ! (from ! (hop ! (look ! 61 refl) (stop !))) (look-raw ! 0 refl))) (from ! (stop !)) (init ! 41 refl (StructLaws.lawful SemaphoreType.the-type SemaphoreLaws.the-laws 𝓤 H A W .typed semaphore _ is₀ .0)) $
+        closes ! tt SemaphoreType.the-row semaphore (mach-semaphore semaphore ∷ []) b-semaphore o-semaphore $ feqI ! (List Val) (semaphore-val ∷ []) (semaphore-val ∷ []) refl $ fjoin3 ! $
         -- `run_table`, on what is passed on
         assigns ! (addr ! (from ! (fld ! refl (hop ! (look-in ! 56 (sub ! 0 refl (whole !))) (stop !))))) (from ! (stop !)) (init ! 36 refl (tt, tt)) $
         assigns ! (agg ! (and-then ! (load ! (from ! (stop !)) (look ! 36 refl)) (and-then ! (load ! (from ! (fld ! refl (stop !))) (look-in ! 56 (sub ! 1 refl (whole !)))) (no-more !)))) (from ! (stop !)) (init ! 34 refl (tt, (tt, (record { fits = room-buffer .0 }, tt)))) $
@@ -290,7 +291,7 @@ module _ {M : Type 1} (𝓤 : URA M) (H : Heap 𝓤) (A : Atoms 𝓤) (W : Given
         move ! (18 ∷ []) $ use1 W (‵ trace-own ⊛ ‵ trace-own) (shr-slice-copy 𝓤 H A W (named 1) κ₁ u8 .twice trace-ref (trace-val ∷ [])) $ split ! $
         move ! (17 ∷ []) $ use1 W (‵ order-own ⊛ ‵ order-own) (shr-slice-copy 𝓤 H A W (named 6) κ₆ u8 .twice order-ref (order-val ∷ [])) $ split ! $
         nothing ! $ move ! (18 ∷ 0 ∷ []) $ fjoin ! $ move ! (18 ∷ 0 ∷ []) $ fjoin ! $ move ! (1 ∷ 0 ∷ []) $ fjoin ! $ move ! (17 ∷ 0 ∷ []) $ fjoin ! $ move ! (17 ∷ 0 ∷ []) $ fjoin ! $
-        owned ! P.the-row (Is P.the-row) (LL.makes P.the-type P′.the-plain 𝓤 H A) semaphore _ is₀ $ fjoin ! $ owned ! F.the-row (Is F.the-row) (LL.makes F.the-type F′.the-plain 𝓤 H A) r _ is₁ $ fjoin ! $
+        owned ! SemaphoreType.the-row (Is SemaphoreType.the-row) (StructLaws.makes SemaphoreType.the-type SemaphoreLaws.the-plain 𝓤 H A) semaphore _ is₀ $ fjoin ! $ owned ! TableType.the-row (Is TableType.the-row) (StructLaws.makes TableType.the-type TableLaws.the-plain 𝓤 H A) r _ is₁ $ fjoin ! $
         move ! (2 ∷ 0 ∷ []) $ fjoin ! $ move ! (3 ∷ 0 ∷ []) $ fjoin ! $
         nothing ! $ move ! (9 ∷ 0 ∷ []) $ join ! $ move ! (9 ∷ 0 ∷ []) $ join ! $ move ! (9 ∷ 0 ∷ []) $ join ! $ move ! (9 ∷ 0 ∷ []) $ join ! $ move ! (9 ∷ 0 ∷ []) $ join ! $ move ! (9 ∷ 0 ∷ []) $ join ! $
         move ! (9 ∷ 0 ∷ []) $ join ! $ use2 W (raw (Callee 𝓤 H A at-mem run .pre (to-callee r v))) (goes-callee r v) $
@@ -303,15 +304,15 @@ module _ {M : Type 1} (𝓤 : URA M) (H : Heap 𝓤) (A : Atoms 𝓤) (W : Given
         (and-then ! (load ! (from ! (stop !)) (look ! 24 refl))
         (and-then ! (load ! (from ! (stop !)) (look ! 20 refl))
         (and-then ! (load ! (from ! (stop !)) (look ! 42 refl)) (and-then ! (load ! (from ! (stop !)) (look ! 16 refl)) (and-then ! (load ! (from ! (stop !)) (look ! 14 refl)) (no-more !)))))))))) (λ w.
-        use1 W (later (some (λ (y : After). (passed-tokens ⊛ ‵ (N.the-row .own y (w ∷ []))) ⊛ raw (ensured 𝓤 H A run-table.ended (run-table.clauses 𝓤 H A at-mem run) (κ₀, (κ₁, (κ₄, (κ₅, (κ₆, (κ₇, (κ₈, tt))))))) (callee-args r) tt y)))) (id⊢ 𝓤 _) $ await ! tt $ pick ! (λ y.
+        use1 W (later (some (λ (y : After). (passed-tokens ⊛ ‵ (AfterType.the-row .own y (w ∷ []))) ⊛ raw (ensured 𝓤 H A run-table.ended (run-table.clauses 𝓤 H A at-mem run) (κ₀, (κ₁, (κ₄, (κ₅, (κ₆, (κ₇, (κ₈, tt))))))) (callee-args r) tt y)))) (id⊢ 𝓤 _) $ await ! tt $ pick ! (λ y.
         split ! $ move ! (1 ∷ []) $ use1 W (some (λ (zs : Lasts). ‵ (lasts run-table.ended (κ₀, (κ₁, (κ₄, (κ₅, (κ₆, (κ₇, (κ₈, tt))))))) (callee-args r) zs)
         ⊛ raw (fact 𝓤 (Says r y (zs .1 .1 .1 .1 .0) (zs .1 .1 .1 .1 .1 .0) (zs .1 .1 .1 .1 .1 .1 .1 .0) (zs .1 .1 .1 .1 .1 .1 .1 .1 .0))))) (id⊢ 𝓤 _) $ pick ! (λ zs.
         split ! $ move ! (1 ∷ []) $ heard ! (Says r y (zs .1 .1 .1 .1 .0) (zs .1 .1 .1 .1 .1 .0) (zs .1 .1 .1 .1 .1 .1 .1 .0) (zs .1 .1 .1 .1 .1 .1 .1 .1 .0)) (λ e₂. fsplit ! $ drop ! $ fsplit ! $ drop ! $
         fsplit ! $ drop ! $ fsplit ! $ drop ! $ fsplit ! $ fsplit ! $ move ! (1 ∷ []) $ feqL ! (λ l-buffer. move ! (1 ∷ []) $ fsplit ! $ fsplit ! $ move ! (1 ∷ []) $ feqL ! (λ l-shared. move ! (1 ∷ []) $ fsplit ! $
         drop ! $ fsplit ! $ fsplit ! $ move ! (1 ∷ []) $ feqL ! (λ l-list. move ! (1 ∷ []) $ fsplit ! $ move ! (1 ∷ []) $ drop ! $
-        move ! (4 ∷ []) $ split ! $ move ! (1 ∷ []) $ peeks ! N.the-row (Is N.the-row) (shows 𝓤 H A N.the-row) y (w ∷ []) (λ is₂.
-        land ! (from ! (stop !)) (init ! 39 refl (LL.lawful N.the-type N′.the-laws 𝓤 H A W .typed y _ is₂ .0)) $ drop ! $
-        rewrite ! 38 (λ (u : Val). ‵ (fat fullShare N′.mir l₁₁ 0 u)) (ap only (LL.tells N.the-type N′.the-laws y _ is₂)) refl $
+        move ! (4 ∷ []) $ split ! $ move ! (1 ∷ []) $ peeks ! AfterType.the-row (Is AfterType.the-row) (shows 𝓤 H A AfterType.the-row) y (w ∷ []) (λ is₂.
+        land ! (from ! (stop !)) (init ! 39 refl (StructLaws.lawful AfterType.the-type AfterLaws.the-laws 𝓤 H A W .typed y _ is₂ .0)) $ drop ! $
+        rewrite ! 38 (λ (u : Val). ‵ (fat fullShare AfterLaws.mir l₁₁ 0 u)) (ap only (StructLaws.tells AfterType.the-type AfterLaws.the-laws y _ is₂)) refl $
         -- `save`: the table and the semaphore are given up for good
         move ! (10 ∷ 11 ∷ 8 ∷ 9 ∷ []) $
         assigns ! (addr ! (from ! (fld ! refl (hop ! (look-in ! 54 (sub ! 0 refl (whole !))) (stop !))))) (from ! (stop !)) (init ! 16 refl (tt, tt)) $
@@ -347,7 +348,7 @@ module _ {M : Type 1} (𝓤 : URA M) (H : Heap 𝓤) (A : Atoms 𝓤) (W : Given
           (
             mut-slice-tells (named 2) (κs .1 .1 .0) R,
             (
-              mut-tells (named 3) (κs .1 .1 .1 .0) P.the-row,
+              mut-tells (named 3) (κs .1 .1 .1 .0) SemaphoreType.the-row,
               (
                 mut-slice-tells (named 4) (κs .1 .1 .1 .1 .0) u8,
                 (mut-slice-tells (named 5) (κs .1 .1 .1 .1 .1 .0) u8, (shr-slice-tells (named 6) (κs .1 .1 .1 .1 .1 .1 .0) u8, (mut-slice-tells (named 7) (κs .1 .1 .1 .1 .1 .1 .1 .0) u8, (mut-tells (named 8) (κs .1 .1 .1 .1 .1 .1 .1 .1 .0) usize, tt)))),
@@ -374,7 +375,7 @@ module _ {M : Type 1} (𝓤 : URA M) (H : Heap 𝓤) (A : Atoms 𝓤) (W : Given
       (
         goes-gave-slice 𝓤 H A W 9 2 tt (plain (λ _. R)),
         (
-          goes-gave-ref 𝓤 H A W 9 3 tt (plain (λ _. P.the-row)),
+          goes-gave-ref 𝓤 H A W 9 3 tt (plain (λ _. SemaphoreType.the-row)),
           (goes-gave-slice 𝓤 H A W 9 4 tt (plain (λ _. u8)), (goes-gave-slice 𝓤 H A W 9 5 tt (plain (λ _. u8)), (goes-none-slice 𝓤 H A W 9 (6 ∷ []) tt (plain (λ _. u8)) yes, (goes-gave-slice 𝓤 H A W 9 7 tt (plain (λ _. u8)), (goes-gave-ref 𝓤 H A W 9 8 tt (plain (λ _. usize)), tt))))),
         ),
       ),

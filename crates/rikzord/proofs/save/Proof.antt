@@ -35,7 +35,7 @@ use denote.Slice.{sliceVal, sliceTy, MutSlice, Room, slice-vals, mut-slice-tells
 use denote.Signature.{plain}
 use denote.Steps.{only, opens, closes, owned, heard, nothing}
 use denote.Struct.Steps.{spelt}
-use denote.Struct.Laws as LL
+use denote.Struct.Laws as StructLaws
 use denote.Triple.Entry.{onEntry}
 use denote.Triple.Statement.{Contract, Triple}
 use denote.Triple.Call.{calls-at}
@@ -47,15 +47,15 @@ use denote.Exit.{yes}
 use borrow.Author.Tests.{eqb-true}
 use Rattle.verdict.proofs.Verdict.{pick-true, pick-false}
 use Rattle.semaphore.specs.declared.Semaphore.{Semaphore}
-use Rattle.semaphore.proofs.Semaphore as P
-use Rattle.semaphore.proofs.Semaphore.Laws as P′
+use Rattle.semaphore.proofs.Semaphore as SemaphoreType
+use Rattle.semaphore.proofs.Semaphore.Laws as SemaphoreLaws
 use Rattle.snapshot.specs.declared.CoreRecord.{CoreRecord}
 use Rattle.snapshot.specs.declared.After.{After}
 use Rattle.rikzord.specs.Lent.{saved, savedSemaphore}
-use Rattle.snapshot.proofs.CoreRecord as T
-use Rattle.snapshot.proofs.CoreRecord.Laws as T′
-use Rattle.snapshot.proofs.After as N
-use Rattle.snapshot.proofs.After.Laws as N′
+use Rattle.snapshot.proofs.CoreRecord as CoreRecordType
+use Rattle.snapshot.proofs.CoreRecord.Laws as CoreRecordLaws
+use Rattle.snapshot.proofs.After as AfterType
+use Rattle.snapshot.proofs.After.Laws as AfterLaws
 use Rattle.rikzord.proofs.Outcomes.{fails, passes}
 use Rattle.rikzord.proofs.Again.{LentAgain, lends-again, comes-back}
 use Rattle.rikzord.proofs.put_or as put-or
@@ -69,22 +69,22 @@ use Rattle.rikzord.proofs.save.Code as code
 use Rattle.rikzord.proofs.save.Code.Mir as code-mir
 
 abbrev R : RattleType
-R = T.the-row
+R = CoreRecordType.the-row
 
 abbrev mach : CoreRecord → Val
-mach c = LL.tuple-val T.the-type T′.the-laws (T.the-type .to c)
+mach c = StructLaws.tuple-val CoreRecordType.the-type CoreRecordLaws.the-laws (CoreRecordType.the-type .to c)
 
 abbrev mach-after : After → Val
-mach-after y = LL.tuple-val N.the-type N′.the-laws (N.the-type .to y)
+mach-after y = StructLaws.tuple-val AfterType.the-type AfterLaws.the-laws (AfterType.the-type .to y)
 
 abbrev mach-semaphore : Semaphore → Val
-mach-semaphore p = LL.tuple-val P.the-type P′.the-laws (P.the-type .to p)
+mach-semaphore p = StructLaws.tuple-val SemaphoreType.the-type SemaphoreLaws.the-laws (SemaphoreType.the-type .to p)
 
 abbrev Fine : CoreRecord → Type 0
 Fine c = Is R c (mach c ∷ [])
 
 abbrev stayed : Stays (f.ended .signature .params) (f.ended .kept)
-stayed = (stay-slice (0 ∷ []) tt (plain (λ _. R)), (stay-ref (1 ∷ []) tt (plain (λ _. P.the-row)), (stay-none (λ _. N.the-row) yes, tt)))
+stayed = (stay-slice (0 ∷ []) tt (plain (λ _. R)), (stay-ref (1 ∷ []) tt (plain (λ _. SemaphoreType.the-row)), (stay-none (λ _. AfterType.the-row) yes, tt)))
 
 -- the contract that the proof cites
 abbrev PutOr : {M : Type 1} (𝓤 : URA M) (H : Heap 𝓤) (A : Atoms 𝓤) (at-mem : Memory → SProp 𝓤) (run : Routine → Fun 𝓤) → Contract 𝓤
@@ -108,7 +108,7 @@ module _ {M : Type 1} (𝓤 : URA M) (H : Heap 𝓤) (A : Atoms 𝓤) (W : Given
   goes-put : (ν : ℕ) (δ : GName) (l : List CoreRecord) (i : ℕ) (c : CoreRecord) → i < 2 ^ 64 → Fine c
       → ent 𝓤 (sep 𝓤 (A .lft (ν ∷ []) fullShare) (sem 𝓤 H A (MutSlice (named 0) (ν ∷ []) R .own (x δ l) (s ∷ [])))) (PutOr 𝓤 H A at-mem run .pre (to-put ν δ l i c))
   goes-put ν δ l i c i-fits c-is =
-      qed W (‵ (flft (ν ∷ []) fullShare) ∷ ‵ (MutSlice (named 0) (ν ∷ []) R .own (x δ l) (s ∷ [])) ∷ []) ∵ nothing ! $ owned ! R (Is R) (LL.makes T.the-type T′.the-plain 𝓤 H A) c _ c-is $ fjoin ! $
+      qed W (‵ (flft (ν ∷ []) fullShare) ∷ ‵ (MutSlice (named 0) (ν ∷ []) R .own (x δ l) (s ∷ [])) ∷ []) ∵ nothing ! $ owned ! R (Is R) (StructLaws.makes CoreRecordType.the-type CoreRecordLaws.the-plain 𝓤 H A) c _ c-is $ fjoin ! $
       owned ! usize (Is usize) (uint-makes 𝓤 H A W w64) i _ (refl, i-fits) $ fjoin ! $ move ! (2 ∷ 0 ∷ []) $ fjoin ! $ nothing ! $ move ! (2 ∷ 0 ∷ []) $ join ! $ join ! $ frame ! $ done !
 
   module _ (C : Calls 𝓤 H) (Λ : Loops 𝓤 H) (fm : FmC 𝓤 H (W .laws) C) (known : Triple 𝓤 (C #rikzord·put-or) (PutOr 𝓤 H A at-mem run)) where
@@ -132,13 +132,13 @@ module _ {M : Type 1} (𝓤 : URA M) (H : Heap 𝓤) (A : Atoms 𝓤) (W : Given
         rewrite ! 0 (λ (m : ℕ). ‵ (MutSlice (named 0) κ R .own (x γ (zs .0)) (sliceVal (b, o) m ∷ []))) len refl $ rewrite ! 0 (λ (l′ : List CoreRecord). ‵ (Own l′)) e refl $
         move ! (2 ∷ []) $ drop ! $ move ! (2 ∷ []) $ drop ! $ k w (subst (λ (y : Val). Holds (hasTy tyUnit y) × WT y) (sym (ap only eu)) (tt, tt))))))))))
 
-  module _ (κ′ : Lft) (q′ : Share) (b′ o′ : ℕ) (γ′ : GName) (p : Semaphore) (y : After) (y-is : Is N.the-row y (mach-after y ∷ [])) where
+  module _ (κ′ : Lft) (q′ : Share) (b′ o′ : ℕ) (γ′ : GName) (p : Semaphore) (y : After) (y-is : Is AfterType.the-row y (mach-after y ∷ [])) where
     abbrev semaphore : Semaphore → RefT Semaphore
     semaphore p′ = record { ptr = (b′, o′); name = γ′; now = p′ }
 
     -- what the lent semaphore owns at p′
     abbrev OwnSemaphore : Semaphore → Fml
-    OwnSemaphore p′ = MutRef (named 1) κ′ P.the-row .own (semaphore p′) (vptr b′ o′ ∷ [])
+    OwnSemaphore p′ = MutRef (named 1) κ′ SemaphoreType.the-row .own (semaphore p′) (vptr b′ o′ ∷ [])
 
     abbrev Arg : Type 0
     Arg = RefT (List CoreRecord) × (RefT Semaphore × (After × Unit {0}))
@@ -176,10 +176,10 @@ module _ {M : Type 1} (𝓤 : URA M) (H : Heap 𝓤) (A : Atoms 𝓤) (W : Given
 
     -- what whoever holds the answer knows of its fields
     abbrev Fields : Type 0
-    Fields = (y .refusal < 2 ^ 8) × (Fine (y .a) × (Fine (y .b) × (Fine (y .c) × (Fine (y .d) × Is P.the-row (y .semaphore) (mach-semaphore (y .semaphore) ∷ [])))))
+    Fields = (y .refusal < 2 ^ 8) × (Fine (y .a) × (Fine (y .b) × (Fine (y .c) × (Fine (y .d) × Is SemaphoreType.the-row (y .semaphore) (mach-semaphore (y .semaphore) ∷ [])))))
 
     is : Fields
-    is = let k = LL.owed N.the-type N′.the-laws y _ y-is in (k .0 .1, (k .1 .0, (k .1 .1 .0, (k .1 .1 .1 .0, (k .1 .1 .1 .1 .0, k .1 .1 .1 .1 .1 .0)))))
+    is = let k = StructLaws.owed AfterType.the-type AfterLaws.the-laws y _ y-is in (k .0 .1, (k .1 .0, (k .1 .1 .0, (k .1 .1 .1 .0, (k .1 .1 .1 .1 .0, k .1 .1 .1 .1 .1 .0)))))
 
     abbrev Post : Val → SProp 𝓤
     Post = walkOf 𝓤 H A f.ended stayed (f.clauses 𝓤 H A at-mem run) .post (((κ, (κ′, tt)), (q, (q′, tt)), tt, a, at), tt)
@@ -190,14 +190,14 @@ module _ {M : Type 1} (𝓤 : URA M) (H : Heap 𝓤) (A : Atoms 𝓤) (W : Given
         qed W (‵ (Own zs) ∷ ‵ (flft κ q) ∷ ‵ (OwnSemaphore p′) ∷ ‵ (flft κ′ q′) ∷ []) ∵
         suffices ! _ (ends-at 𝓤 H A f.ended stayed (f.clauses 𝓤 H A at-mem run) W (((κ, (κ′, tt)), (q, (q′, tt)), tt, a, at), tt) (vint w8 r) r (zs, (p′, (tt, tt))) (len, (tt, (tt, tt)))) $ says ! (e, (e′, er)) $
         nothing ! $ move ! (4 ∷ 0 ∷ []) $ join ! $ move ! (2 ∷ 0 ∷ []) $ join ! $ frame ! $
-        nothing ! $ owned ! N.the-row (Is N.the-row) (LL.makes N.the-type N′.the-plain 𝓤 H A) y _ y-is $ fjoin ! $ move ! (2 ∷ 0 ∷ []) $ fjoin ! $ move ! (1 ∷ 0 ∷ []) $ fjoin ! $ frame ! $
+        nothing ! $ owned ! AfterType.the-row (Is AfterType.the-row) (StructLaws.makes AfterType.the-type AfterLaws.the-plain 𝓤 H A) y _ y-is $ fjoin ! $ move ! (2 ∷ 0 ∷ []) $ fjoin ! $ move ! (1 ∷ 0 ∷ []) $ fjoin ! $ frame ! $
         owned ! u8 (Is u8) (uint-makes 𝓤 H A W w8) r _ (refl, fits) $ done !
 
     module _ (C : Calls 𝓤 H) (Λ : Loops 𝓤 H) (fm : FmC 𝓤 H (W .laws) C) (known : Triple 𝓤 (C #rikzord·put-or) (PutOr 𝓤 H A at-mem run)) where
       -- the locals
       abbrev E : ℕ → ℕ → ℕ → ℕ → ℕ → ℕ → ℕ → ℕ → ℕ → ℕ → ℕ → ℕ → ℕ → ℕ → Env 𝓤 H
       E l₀ l₁ l₂ l₃ l₄ l₅ l₆ l₇ l₈ l₉ l₁₀ l₁₁ l₁₂ l₁₃ =
-          (tyInt w8, l₀) ∷ (sliceTy (tyRef (named 0) mut (pointee (R .written))), l₁) ∷ (tyRef (named 1) mut (pointee (P.the-row .written)), l₂) ∷ (N′.mir, l₃)
+          (tyInt w8, l₀) ∷ (sliceTy (tyRef (named 0) mut (pointee (R .written))), l₁) ∷ (tyRef (named 1) mut (pointee (SemaphoreType.the-row .written)), l₂) ∷ (AfterLaws.mir, l₃)
           ∷ (tyBool, l₄) ∷ (tyUnit, l₅) ∷ (tyRef erased mut (pointee (R .written)), l₆) ∷ (sliceTy (tyRef erased mut (pointee (R .written))), l₇)
           ∷ (tyRef erased mut (pointee (R .written)), l₈) ∷ (sliceTy (tyRef erased mut (pointee (R .written))), l₉) ∷ (tyRef erased mut (pointee (R .written)), l₁₀)
           ∷ (sliceTy (tyRef erased mut (pointee (R .written))), l₁₁) ∷ (tyRef erased mut (pointee (R .written)), l₁₂)
@@ -205,7 +205,7 @@ module _ {M : Type 1} (𝓤 : URA M) (H : Heap 𝓤) (A : Atoms 𝓤) (W : Given
 
       walk : ent 𝓤 (onEntry 𝓤 H A f.signature (κ, (κ′, tt)) (q, (q′, tt)) a at) (WpFn 𝓤 H C Λ code.function (s ∷ vptr b′ o′ ∷ mach-after y ∷ []) Post)
       walk =
-          qed W ((‵ (flft κ q) ⊛ ‵ (flft κ′ q′) ⊛ ‵ ftrue) ∷ ‵ (owns (MutSlice (named 0) κ R ∷ MutRef (named 1) κ′ P.the-row ∷ N.the-row ∷ []) a at) ∷ []) ∵ enter ! C Λ code.function (s ∷ vptr b′ o′ ∷ mach-after y ∷ []) _ $
+          qed W ((‵ (flft κ q) ⊛ ‵ (flft κ′ q′) ⊛ ‵ ftrue) ∷ ‵ (owns (MutSlice (named 0) κ R ∷ MutRef (named 1) κ′ SemaphoreType.the-row ∷ AfterType.the-row ∷ []) a at) ∷ []) ∵ enter ! C Λ code.function (s ∷ vptr b′ o′ ∷ mach-after y ∷ []) _ $
           alloc1 ! (λ l₀. alloc1 ! (λ l₁. alloc1 ! (λ l₂. alloc1 ! (λ l₃. alloc1 ! (λ l₄. alloc1 ! (λ l₅. alloc1 ! (λ l₆. alloc1 ! (λ l₇. alloc1 ! (λ l₈. alloc1 ! (λ l₉. alloc1 ! (λ l₁₀. alloc1 ! (λ l₁₁. alloc1 ! (λ l₁₂. alloc1 ! (λ l₁₃. alloc0 ! $ params1 ! $
           pass1 ! (init ! 24 refl (tt, (tt, (record { fits = room .0 }, tt)))) $ pass1 ! (init ! 22 refl (tt, tt)) $ pass1 ! (init ! 20 refl typed) $ pass0 ! $
           -- [_13; …; _12; …; down to _1; …; room for _0; …; the tokens; what the parameters own]
@@ -249,10 +249,12 @@ module _ {M : Type 1} (𝓤 : URA M) (H : Heap 𝓤) (A : Atoms 𝓤) (W : Given
           land ! (from ! (stop !)) (store ! 20 refl t₃) $
           -- the semaphore's borrow is opened, stored to and closed
           move ! (2 ∷ []) $ fsplit3 ! $ drop ! $ move ! (0 ∷ 1 ∷ 4 ∷ []) $
-          opens ! tt P.the-row {h = p} b′ o′ (λ vs. spelt ! P.the-row (Is P.the-row) (shows 𝓤 H A P.the-row) (LL.vals P.the-type P′.the-laws) (LL.tells P.the-type P′.the-laws) fullShare p vs b′ o′ $ move ! (1 ∷ []) $ drop ! $
+          opens ! tt SemaphoreType.the-row {h = p} b′ o′ (λ vs. spelt ! SemaphoreType.the-row (Is SemaphoreType.the-row) (shows 𝓤 H A SemaphoreType.the-row) (StructLaws.vals SemaphoreType.the-type SemaphoreLaws.the-laws)
+          (StructLaws.tells SemaphoreType.the-type SemaphoreLaws.the-laws) fullShare p vs b′ o′ $ move ! (1 ∷ []) $ drop ! $
           -- [the cell; the open borrow; obs; auth; what t owns; its token; _13; …; _12; …; down to _1; …; room for _0; …]
-          assigns ! (of-opd ! (load ! (from ! (fld ! refl (stop !))) (look-in ! 26 (sub ! 5 refl (whole !))))) (from ! (hop ! (look ! 28 refl) (stop !))) (store-raw ! 0 refl (LL.lawful P.the-type P′.the-laws 𝓤 H A W .typed (y .semaphore) _ (is .1 .1 .1 .1 .1) .0)) $
-          owned ! P.the-row (Is P.the-row) (LL.makes P.the-type P′.the-plain 𝓤 H A) (y .semaphore) _ (is .1 .1 .1 .1 .1) $ move ! (1 ∷ 0 ∷ 2 ∷ 3 ∷ 4 ∷ []) $ closes ! tt P.the-row (y .semaphore) (mach-semaphore (y .semaphore) ∷ []) b′ o′ $
+          assigns ! (of-opd ! (load ! (from ! (fld ! refl (stop !))) (look-in ! 26 (sub ! 5 refl (whole !))))) (from ! (hop ! (look ! 28 refl) (stop !))) (store-raw ! 0 refl (StructLaws.lawful SemaphoreType.the-type SemaphoreLaws.the-laws 𝓤 H A W .typed (y .semaphore) _ (is .1 .1 .1 .1 .1) .0)) $
+          owned ! SemaphoreType.the-row (Is SemaphoreType.the-row) (StructLaws.makes SemaphoreType.the-type SemaphoreLaws.the-plain 𝓤 H A) (y .semaphore) _ (is .1 .1 .1 .1 .1) $ move ! (1 ∷ 0 ∷ 2 ∷ 3 ∷ 4 ∷ []) $ closes ! tt
+          SemaphoreType.the-row (y .semaphore) (mach-semaphore (y .semaphore) ∷ []) b′ o′ $
           feqI ! (List Val) (vptr b′ o′ ∷ []) (vptr b′ o′ ∷ []) refl $ fjoin3 ! $
           -- [what semaphore owns; its token; what t owns; its token; _13; …; _12; …; down to _1; …; room for _0; …]
           assigns ! (of-opd ! (lit ! tt)) (from ! (stop !)) (init ! 30 refl (tt, record { fits = lit< tt })) $
@@ -266,19 +268,19 @@ module _ {M : Type 1} (𝓤 : URA M) (H : Heap 𝓤) (A : Atoms 𝓤) (W : Given
           (sym (pick-true _ _ _ (passes (eqb (y .refusal) 0) accepted))) (sym (eqb-true (y .refusal) 0 (passes (eqb (y .refusal) 0) accepted))) n₄
           (lit< tt))))))))))))))))))))))
         where
-          typed : Holds (hasTy N′.mir (mach-after y)) × WT (mach-after y)
-          typed = LL.lawful N.the-type N′.the-laws 𝓤 H A W .typed y _ y-is .0
+          typed : Holds (hasTy AfterLaws.mir (mach-after y)) × WT (mach-after y)
+          typed = StructLaws.lawful AfterType.the-type AfterLaws.the-laws 𝓤 H A W .typed y _ y-is .0
 
 module _ {M : Type 1} (𝓤 : URA M) (H : Heap 𝓤) (A : Atoms 𝓤) (W : Given 𝓤 H A) (at-mem : Memory → SProp 𝓤) (run : Routine → Fun 𝓤) where
   walks : (C : Calls 𝓤 H) (Λ : Loops 𝓤 H) → FmC 𝓤 H (W .laws) C → Triple 𝓤 (C #rikzord·put-or) (PutOr 𝓤 H A at-mem run) → Walks 𝓤 H A f.ended stayed (WpFn 𝓤 H C Λ code.function) (f.clauses 𝓤 H A at-mem run)
   walks C Λ fm known = walked 𝓤 H A f.ended stayed (f.clauses 𝓤 H A at-mem run) (WpFn 𝓤 H C Λ code.function)
-      (λ κs. (slice-vals, (ptr-vals, (LL.vals N.the-type N′.the-laws, tt)))) (λ κs. (mut-slice-tells (named 0) (κs .0) R, (mut-tells (named 1) (κs .1 .0) P.the-row, (LL.tells N.the-type N′.the-laws, tt))))
+      (λ κs. (slice-vals, (ptr-vals, (StructLaws.vals AfterType.the-type AfterLaws.the-laws, tt)))) (λ κs. (mut-slice-tells (named 0) (κs .0) R, (mut-tells (named 1) (κs .1 .0) SemaphoreType.the-row, (StructLaws.tells AfterType.the-type AfterLaws.the-laws, tt))))
       (λ κs qs bounds a g are. via 𝓤 _ (fst∗ 𝓤 _ (emp 𝓤)) (walk 𝓤 H A W at-mem run (κs .0) (qs .0) (a .0 .ptr .0) (a .0 .ptr .1) (a .0 .name) (a .0 .now) (are .0 .0 .1) (κs .1 .0) (qs .1 .0) (a .1 .0 .ptr .0) (a .1 .0 .ptr .1) (a .1 .0 .name) (a .1 .0 .now) (a .1 .1 .0) (are .1 .1 .0) C Λ fm known))
 
 meets : {M : Type 1} (𝓤 : URA M) (H : Heap 𝓤) (A : Atoms 𝓤) → Given 𝓤 H A → (at-mem : Memory → SProp 𝓤) (run : Routine → Fun 𝓤) (𝓣 : Tables 𝓤 H) → Triple 𝓤 (𝓣 .C #rikzord·put-or) (PutOr 𝓤 H A at-mem run)
     → Meets 𝓤 H A f.signature (WpFn 𝓤 H (𝓣 .C) (𝓣 .Λ) code.function) (f.spec 𝓤 H A at-mem run)
 meets 𝓤 H A W at-mem run 𝓣 known =
-    walk-meets 𝓤 H A f.ended stayed W (goes-slice 𝓤 H A W 2 0 tt (plain (λ _. R)), (goes-ref 𝓤 H A W 2 1 tt (plain (λ _. P.the-row)), (goes-none 𝓤 H A W 2 (λ _. N.the-row) yes (λ κs x f. refl), tt))) (f.clauses 𝓤 H A at-mem run)
+    walk-meets 𝓤 H A f.ended stayed W (goes-slice 𝓤 H A W 2 0 tt (plain (λ _. R)), (goes-ref 𝓤 H A W 2 1 tt (plain (λ _. SemaphoreType.the-row)), (goes-none 𝓤 H A W 2 (λ _. AfterType.the-row) yes (λ κs x f. refl), tt))) (f.clauses 𝓤 H A at-mem run)
     (WpFn 𝓤 H (𝓣 .C) (𝓣 .Λ) code.function) (WpFn-mono 𝓤 H (W .laws) 𝓣 code.function) (walks 𝓤 H A W at-mem run (𝓣 .C) (𝓣 .Λ) (fmOf 𝓤 H (W .laws) 𝓣) known)
 
 pub save-spec : {M : Type 1} → stated.statement M

@@ -2,10 +2,10 @@
 -- whole scan (`Turn` of `Scanning`); the variant is how many are left. A turn reads one record of the lent slice by `get_or` (`Asking`), and the
 -- test by value says whether it is the one.
 -- Assumes nothing.
-use mathlib.Core.Path.{_≡_, refl, _∙_, ap}
+use mathlib.Core.Path.{_≡_, refl, ap}
 use mathlib.Core.Bool.{Bool, true, false}
 use mathlib.Core.WellFounded.{WellFounded, InvImage·accessible}
-use Prim.Native.Nat.{ℕ, _+_, _<_, _≤_, _^_}
+use Prim.Native.Nat.{ℕ, _+_, _<_, _^_}
 use native.Mathlib.Omega.{arith}
 use mathlib.Core.List.{List, [], _∷_}
 use lib.Dec.{lit<, ltb}
@@ -36,7 +36,7 @@ use denote.Ref.{RefT}
 use denote.Slice.{sliceVal, ShrSlice, Room, slice-vals, shr-slice-tells}
 use denote.Signature.{plain}
 use denote.Steps.{only, owned, peeks, heard, nothing}
-use denote.Struct.Laws as LL
+use denote.Struct.Laws as StructLaws
 use denote.Triple.Entry.{onEntry}
 use denote.Triple.Statement.{Contract, Triple}
 use denote.Triple.Call.{calls-at}
@@ -49,10 +49,10 @@ use Rattle.snapshot.specs.Snapshot.{noRecord, placeAfter, recordMoves}
 use Rattle.rikzord.specs.Lent.{scanned}
 use Rattle.snapshot.specs.declared.CoreRecord.{CoreRecord}
 use Rattle.snapshot.specs.declared.Ring.{Ring}
-use Rattle.snapshot.proofs.CoreRecord as T
-use Rattle.snapshot.proofs.CoreRecord.Laws as T′
-use Rattle.snapshot.proofs.Ring as Q
-use Rattle.snapshot.proofs.Ring.Laws as Q′
+use Rattle.snapshot.proofs.CoreRecord as CoreRecordType
+use Rattle.snapshot.proofs.CoreRecord.Laws as CoreRecordLaws
+use Rattle.snapshot.proofs.Ring as RingType
+use Rattle.snapshot.proofs.Ring.Laws as RingLaws
 use Rattle.rikzord.proofs.Outcomes.{holds, fails}
 use Rattle.rikzord.proofs.Asking.{R, GetOr, NoRecord, typed, from-none, begins, asks}
 use Rattle.rikzord.proofs.Scanning.{Turn, toGo, turn-first, turn-found, turn-next, turn-less, turn-last}
@@ -80,7 +80,7 @@ abbrev Arg : Type 0
 Arg = RefT (List CoreRecord) × (Ring × Unit {0})
 
 abbrev stayed : Stays (f.ended .signature .params) (f.ended .kept)
-stayed = (stay-none-slice (0 ∷ []) tt (plain (λ _. R)) yes, (stay-none (λ _. Q.the-row) yes, tt))
+stayed = (stay-none-slice (0 ∷ []) tt (plain (λ _. R)) yes, (stay-none (λ _. RingType.the-row) yes, tt))
 
 -- the types of the locals
 abbrev typeOf : Local → Ty
@@ -90,7 +90,7 @@ abbrev τ : ℕ → Ty
 τ k = typeOf (getD code-mir.locals k (local tyBool valueLocal))
 
 abbrev mach-ring : Ring → Val
-mach-ring r = LL.tuple-val Q.the-type Q′.the-laws (Q.the-type .to r)
+mach-ring r = StructLaws.tuple-val RingType.the-type RingLaws.the-laws (RingType.the-type .to r)
 
 module _ {M : Type 1} (𝓤 : URA M) (H : Heap 𝓤) (A : Atoms 𝓤) (at-mem : Memory → SProp 𝓤) (run : Routine → Fun 𝓤) where
   -- the contracts that the proof cites beside those of `Asking`
@@ -107,7 +107,7 @@ module _ {M : Type 1} (𝓤 : URA M) (H : Heap 𝓤) (A : Atoms 𝓤) (at-mem : 
   moves-of : (r : Ring) (k : ℕ) (c : CoreRecord) (z : Bool) → ent 𝓤 (ensured 𝓤 H A moves.ended (moves.clauses 𝓤 H A at-mem run) tt (r, (k, (c, tt))) tt z) (fact 𝓤 (z ≡ recordMoves r k c))
   moves-of r k c z = exE 𝓤 _ (λ ws. snd∗ 𝓤 (sem 𝓤 H A (lasts moves.ended tt (r, (k, (c, tt))) ws)) (fact 𝓤 (z ≡ recordMoves r k c)))
 
-module _ {M : Type 1} (𝓤 : URA M) (H : Heap 𝓤) (A : Atoms 𝓤) (W : Given 𝓤 H A) (at-mem : Memory → SProp 𝓤) (run : Routine → Fun 𝓤) (κ : Lft) (q : Share) (b o : ℕ) (γ : GName) (ys : List CoreRecord) (r : Ring) (room : Room R (length ys)) (r-is : Is Q.the-row r (mach-ring r ∷ [])) where
+module _ {M : Type 1} (𝓤 : URA M) (H : Heap 𝓤) (A : Atoms 𝓤) (W : Given 𝓤 H A) (at-mem : Memory → SProp 𝓤) (run : Routine → Fun 𝓤) (κ : Lft) (q : Share) (b o : ℕ) (γ : GName) (ys : List CoreRecord) (r : Ring) (room : Room R (length ys)) (r-is : Is RingType.the-row r (mach-ring r ∷ [])) where
   abbrev a : Arg
   a = (record { ptr = (b, o); name = γ; now = ys }, (r, tt))
 
@@ -127,10 +127,10 @@ module _ {M : Type 1} (𝓤 : URA M) (H : Heap 𝓤) (A : Atoms 𝓤) (W : Given
   exits k e fits =
       qed W ((‵ (flft κ q) ⊛ ‵ ftrue) ∷ ‵ Own ∷ []) ∵
       suffices ! _ (ends-at 𝓤 H A f.ended stayed (f.clauses 𝓤 H A at-mem run) W (((κ, tt), (q, tt), tt, a, at), tt) (vint w8 k) k (tt, (tt, tt)) (tt, (tt, tt))) $ says ! e $
-      frame ! $ nothing ! $ owned ! Q.the-row (Is Q.the-row) (LL.makes Q.the-type Q′.the-plain 𝓤 H A) r _ r-is $ fjoin ! $ move ! (1 ∷ 0 ∷ []) $ fjoin ! $ frame ! $ owned ! u8 (Is u8) (uint-makes 𝓤 H A W w8) k _ (refl, fits) $ done !
+      frame ! $ nothing ! $ owned ! RingType.the-row (Is RingType.the-row) (StructLaws.makes RingType.the-type RingLaws.the-plain 𝓤 H A) r _ r-is $ fjoin ! $ move ! (1 ∷ 0 ∷ []) $ fjoin ! $ frame ! $ owned ! u8 (Is u8) (uint-makes 𝓤 H A W w8) k _ (refl, fits) $ done !
 
   cores-fit : r .cores < 2 ^ 8
-  cores-fit = LL.owed Q.the-type Q′.the-laws r _ r-is .1 .0 .1
+  cores-fit = StructLaws.owed RingType.the-type RingLaws.the-laws r _ r-is .1 .0 .1
 
   -- what each callee's triple binds outside, and that the caller has what it asks
   abbrev to-place : ℕ → PlaceAfter 𝓤 H A at-mem run .Ghost
@@ -138,15 +138,15 @@ module _ {M : Type 1} (𝓤 : URA M) (H : Heap 𝓤) (A : Atoms 𝓤) (W : Given
 
   goes-place : (i : ℕ) → i < 2 ^ 8 → ent 𝓤 (emp 𝓤) (PlaceAfter 𝓤 H A at-mem run .pre (to-place i))
   goes-place i i-fits =
-      qed W [] ∵ nothing ! $ owned ! u8 (Is u8) (uint-makes 𝓤 H A W w8) i _ (refl, i-fits) $ fjoin ! $ owned ! Q.the-row (Is Q.the-row) (LL.makes Q.the-type Q′.the-plain 𝓤 H A) r _ r-is $ fjoin ! $ nothing ! $ join ! $ frame ! $ done !
+      qed W [] ∵ nothing ! $ owned ! u8 (Is u8) (uint-makes 𝓤 H A W w8) i _ (refl, i-fits) $ fjoin ! $ owned ! RingType.the-row (Is RingType.the-row) (StructLaws.makes RingType.the-type RingLaws.the-plain 𝓤 H A) r _ r-is $ fjoin ! $ nothing ! $ join ! $ frame ! $ done !
 
   abbrev to-moves : ℕ → CoreRecord → Val → Moves 𝓤 H A at-mem run .Ghost
   to-moves k c v = ((tt, tt, tt, (r, (k, (c, tt))), (mach-ring r ∷ [], (vint w8 k ∷ [], (v ∷ [], tt)))), tt)
 
   goes-moves : (k : ℕ) → k < 2 ^ 8 → (c : CoreRecord) (v : Val) → Is R c (v ∷ []) → ent 𝓤 (emp 𝓤) (Moves 𝓤 H A at-mem run .pre (to-moves k c v))
   goes-moves k k-fits c v c-is =
-      qed W [] ∵ nothing ! $ owned ! R (Is R) (LL.makes T.the-type T′.the-plain 𝓤 H A) c _ c-is $ fjoin ! $ owned ! u8 (Is u8) (uint-makes 𝓤 H A W w8) k _ (refl, k-fits) $ fjoin ! $
-      owned ! Q.the-row (Is Q.the-row) (LL.makes Q.the-type Q′.the-plain 𝓤 H A) r _ r-is $ fjoin ! $ nothing ! $ join ! $ frame ! $ done !
+      qed W [] ∵ nothing ! $ owned ! R (Is R) (StructLaws.makes CoreRecordType.the-type CoreRecordLaws.the-plain 𝓤 H A) c _ c-is $ fjoin ! $ owned ! u8 (Is u8) (uint-makes 𝓤 H A W w8) k _ (refl, k-fits) $ fjoin ! $
+      owned ! RingType.the-row (Is RingType.the-row) (StructLaws.makes RingType.the-type RingLaws.the-plain 𝓤 H A) r _ r-is $ fjoin ! $ nothing ! $ join ! $ frame ! $ done !
 
   -- a test whose outcome is known
   by-test : {Γ : List (Item 𝓤)} {G : Goal 𝓤 H} (z : Bool) → (z ≡ true → Sq W Γ G) → (z ≡ false → Sq W Γ G) → Sq W Γ G
@@ -274,9 +274,9 @@ module _ {M : Type 1} (𝓤 : URA M) (H : Heap 𝓤) (A : Atoms 𝓤) (W : Given
 
     walk : ent 𝓤 (onEntry 𝓤 H A f.signature (κ, tt) (q, tt) a at) (WpFn 𝓤 H (𝓣 .C) (𝓣 .Λ) code.function (s ∷ mach-ring r ∷ []) Post)
     walk =
-        qed W ((‵ (flft κ q) ⊛ ‵ ftrue) ∷ ‵ (owns (ShrSlice (named 0) κ R ∷ Q.the-row ∷ []) a at) ∷ []) ∵ enter ! (𝓣 .C) (𝓣 .Λ) code.function (s ∷ mach-ring r ∷ []) _ $
+        qed W ((‵ (flft κ q) ⊛ ‵ ftrue) ∷ ‵ (owns (ShrSlice (named 0) κ R ∷ RingType.the-row ∷ []) a at) ∷ []) ∵ enter ! (𝓣 .C) (𝓣 .Λ) code.function (s ∷ mach-ring r ∷ []) _ $
         alloc1 ! (λ l₀. alloc1 ! (λ l₁. alloc1 ! (λ l₂. alloc1 ! (λ l₃. alloc1 ! (λ l₄. alloc1 ! (λ l₅. alloc1 ! (λ l₆. alloc1 ! (λ l₇. alloc1 ! (λ l₈. alloc1 ! (λ l₉. alloc0 ! $ params1 ! $
-        pass1 ! (init ! 16 refl (tt, (tt, (record { fits = room .0 }, tt)))) $ pass1 ! (init ! 14 refl (LL.lawful Q.the-type Q′.the-laws 𝓤 H A W .typed r _ r-is .0)) $ pass0 ! $
+        pass1 ! (init ! 16 refl (tt, (tt, (record { fits = room .0 }, tt)))) $ pass1 ! (init ! 14 refl (StructLaws.lawful RingType.the-type RingLaws.the-laws 𝓤 H A W .typed r _ r-is .0)) $ pass0 ! $
         move ! (21 ∷ []) $ fsplit ! $ move ! (1 ∷ []) $ drop ! $ move ! (21 ∷ 0 ∷ []) $
         -- [the token; what t owns; _9; …; _8; …; down to _1; …; room for _0; …]
         keep ! (0 ∷ 1 ∷ 2 ∷ 3 ∷ 4 ∷ 5 ∷ 6 ∷ 7 ∷ 8 ∷ 9 ∷ 10 ∷ 11 ∷ 12 ∷ 13 ∷ 14 ∷ 15 ∷ 16 ∷ 17 ∷ 18 ∷ 19 ∷ 20 ∷ 21 ∷ []) $ by ! (begun l₀ l₁ l₂ l₃ l₄ l₅ l₆ l₇ l₈ l₉)))))))))))
@@ -286,14 +286,15 @@ module _ {M : Type 1} (𝓤 : URA M) (H : Heap 𝓤) (A : Atoms 𝓤) (W : Given
       → Triple 𝓤 (𝓣 .C #snapshot·no-record) (NoRecord 𝓤 H A at-mem run) → Triple 𝓤 (𝓣 .C #snapshot·place-after) (PlaceAfter 𝓤 H A at-mem run)
       → Triple 𝓤 (𝓣 .C #snapshot·moves) (Moves 𝓤 H A at-mem run)
       → Walks 𝓤 H A f.ended stayed (WpFn 𝓤 H (𝓣 .C) (𝓣 .Λ) code.function) (f.clauses 𝓤 H A at-mem run)
-  walks 𝓣 fm k₁ k₂ k₃ k₄ = walked 𝓤 H A f.ended stayed (f.clauses 𝓤 H A at-mem run) (WpFn 𝓤 H (𝓣 .C) (𝓣 .Λ) code.function) (λ κs. (slice-vals, (LL.vals Q.the-type Q′.the-laws, tt))) (λ κs. (shr-slice-tells (named 0) (κs .0) R, (LL.tells Q.the-type Q′.the-laws, tt)))
+  walks 𝓣 fm k₁ k₂ k₃ k₄ = walked 𝓤 H A f.ended stayed (f.clauses 𝓤 H A at-mem run) (WpFn 𝓤 H (𝓣 .C) (𝓣 .Λ) code.function) (λ κs. (slice-vals, (StructLaws.vals RingType.the-type RingLaws.the-laws, tt)))
+      (λ κs. (shr-slice-tells (named 0) (κs .0) R, (StructLaws.tells RingType.the-type RingLaws.the-laws, tt)))
       (λ κs qs bounds a g are. via 𝓤 _ (fst∗ 𝓤 _ (emp 𝓤)) (walk 𝓤 H A W at-mem run (κs .0) (qs .0) (a .0 .ptr .0) (a .0 .ptr .1) (a .0 .name) (a .0 .now) (a .1 .0) (are .0 .0 .1) (are .1 .0) 𝓣 fm k₁ k₂ k₃ k₄))
 
 meets : {M : Type 1} (𝓤 : URA M) (H : Heap 𝓤) (A : Atoms 𝓤) → Given 𝓤 H A → (at-mem : Memory → SProp 𝓤) (run : Routine → Fun 𝓤) (𝓣 : Tables 𝓤 H)
     → Triple 𝓤 (𝓣 .C #rikzord·get-or) (GetOr 𝓤 H A at-mem run) → Triple 𝓤 (𝓣 .C #snapshot·no-record) (NoRecord 𝓤 H A at-mem run)
     → Triple 𝓤 (𝓣 .C #snapshot·place-after) (PlaceAfter 𝓤 H A at-mem run) → Triple 𝓤 (𝓣 .C #snapshot·moves) (Moves 𝓤 H A at-mem run)
     → Meets 𝓤 H A f.signature (WpFn 𝓤 H (𝓣 .C) (𝓣 .Λ) code.function) (f.spec 𝓤 H A at-mem run)
-meets 𝓤 H A W at-mem run 𝓣 k₁ k₂ k₃ k₄ = walk-meets 𝓤 H A f.ended stayed W (goes-none-slice 𝓤 H A W 1 (0 ∷ []) tt (plain (λ _. R)) yes, (goes-none 𝓤 H A W 1 (λ _. Q.the-row) yes (λ κs x f. refl), tt)) (f.clauses 𝓤 H A at-mem run)
+meets 𝓤 H A W at-mem run 𝓣 k₁ k₂ k₃ k₄ = walk-meets 𝓤 H A f.ended stayed W (goes-none-slice 𝓤 H A W 1 (0 ∷ []) tt (plain (λ _. R)) yes, (goes-none 𝓤 H A W 1 (λ _. RingType.the-row) yes (λ κs x f. refl), tt)) (f.clauses 𝓤 H A at-mem run)
     (WpFn 𝓤 H (𝓣 .C) (𝓣 .Λ) code.function) (WpFn-mono 𝓤 H (W .laws) 𝓣 code.function) (walks 𝓤 H A W at-mem run 𝓣 (fmOf 𝓤 H (W .laws) 𝓣) k₁ k₂ k₃ k₄)
 
 pub scan-spec : {M : Type 1} → stated.statement M

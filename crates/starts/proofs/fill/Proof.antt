@@ -15,7 +15,7 @@ use Rattle.starts.proofs.fill.Lts as lts
 use Rattle.memory.proofs.zero.Reads as zero-reads
 use Rattle.starts.proofs.write_shared.Reads as write-shared-reads
 use Rattle.starts.proofs.write_data.Reads as write-data-reads
-use Rattle.taskset.proofs.is_new.Reads as is-new-reads
+use Rattle.file_judging.proofs.is_new.Reads as is-new-reads
 
 is-new-requires : tie.Need-is-new-requires
 is-new-requires c κs =

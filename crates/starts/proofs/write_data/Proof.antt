@@ -15,7 +15,7 @@ use Rattle.starts.proofs.write_data.Lts as lts
 use Rattle.memory.proofs.byte_at.Reads as byte-at-reads
 use Rattle.memory.proofs.word_at.Reads as word-at-reads
 use Rattle.starts.proofs.write_pairs.Reads as write-pairs-reads
-use Rattle.taskset.proofs.code_place.Reads as code-place-reads
+use Rattle.file_loading.proofs.code_place.Reads as code-place-reads
 
 abbrev Inv-loop : tie.InvT-loop
 Inv-loop f buffer₀ n p₀ a₀ k₀ buffer p a k = Filling f buffer p a k

@@ -7,7 +7,6 @@ use native.Mathlib.Omega.{arith}
 use lib.ListN.{length, set, replicate, length-set}
 use Rattle.memory.specs.Memory.{splice}
 use Rattle.memory.proofs.Turns.{splice-turn}
-use borrow.Author.Needs.{needs}
 use Rattle.steps.proofs.clear.Statement.{statement}
 use Rattle.steps.proofs.clear.Tie as tie
 

@@ -1,8 +1,8 @@
 -- `values::pattern_of` meets its contract. Each arm is the pattern of its kind. Assumes nothing.
 use mathlib.Core.Path.{sym, ap, _∙_}
 use Prim.Native.Nat.{_*_}
-use Rattle.values.proofs.Widths as W
-use Rattle.values.proofs.Signs as S
+use Rattle.values.proofs.Widths as Widths
+use Rattle.values.proofs.Signs as Signs
 use Rattle.values.specs.Values.{patternOf}
 use borrow.Author.Needs.{needs}
 use Rattle.values.proofs.pattern_of.Statement.{statement}
@@ -17,8 +17,8 @@ unfolding patternOf
 returns-2 c =
     let s = c .before .before .before .before .before in
     c .low-bytes .ensures
-    ∙ sym (W.cong-pattern (8 * s .args .w) (c .before .before .before .v2 .given .0 .0) (c .before .bits-of .result)
-    (S.bits-cong (s .args .w) (s .pre) (c .before .before .before .v2 .given .0 .0) (c .before .before .known-told2 .given .0 .1) (c .before .bits-of .ensures))) ∙ sym (ap (patternOf (c .before .before .before .before .before .args .w)) (c .before .before .before .v2 .given .1))
+    ∙ sym (Widths.cong-pattern (8 * s .args .w) (c .before .before .before .v2 .given .0 .0) (c .before .bits-of .result)
+    (Signs.bits-cong (s .args .w) (s .pre) (c .before .before .before .v2 .given .0 .0) (c .before .before .known-told2 .given .0 .1) (c .before .bits-of .ensures))) ∙ sym (ap (patternOf (c .before .before .before .before .before .args .w)) (c .before .before .before .v2 .given .1))
 
 returns-3 : tie.Need-returns-3
 unfolding patternOf

@@ -4,7 +4,6 @@ use lib.ListN.{getD}
 use Rattle.taskset.specs.declared.Layout.{Layout}
 use Rattle.taskset.specs.declared.CoreLayout.{CoreLayout}
 use Rattle.taskset.specs.Layout.{noCore}
-use Rattle.window.specs.declared.Place.{Place}
 use Rattle.taskset.proofs.Loading.{core-of}
 use borrow.Author.Needs.{needs}
 use Rattle.window.proofs.place_of.Statement.{statement}

@@ -1,6 +1,6 @@
 -- `window::window` meets its contract: the bytes, and that they stand where they stood. Assumes nothing.
-use mathlib.Core.Path.{_≡_, refl, sym, ap, _∙_}
-use Prim.Native.Nat.{ℕ, _+_}
+use mathlib.Core.Path.{refl, sym, ap, _∙_}
+use Prim.Native.Nat.{_+_}
 use native.Mathlib.Omega.{arith}
 use Rattle.window.specs.declared.Shown.the-variants.{Code, Data}
 use Rattle.window.specs.declared.Shown.{Shown}

@@ -5,7 +5,6 @@ use Prim.Native.Nat.{_+_, _-_, _≤_}
 use native.Mathlib.Nat.{add-zero, sub-zero}
 use native.Mathlib.Omega.{arith}
 use lib.ListN.{length, length-set}
-use borrow.Author.Needs.{needs}
 use Rattle.memory.specs.Memory.{splice, part}
 use Rattle.memory.proofs.Turns.{copy-turn, copy-done}
 use Rattle.snapshot.proofs.table_state.copy_entries.Statement.{statement}
