@@ -1,5 +1,5 @@
 // Whether an operand of a typed command is beyond the data, by the command and its type.
-// Not here: what the command does where none is (crates `dispatch` and `commands`).
+// Not here: what the command does where none is (crates `dispatch`, `arithmetic`, `comparisons` and `bitwise`).
 ghost use mathlib.Core.Path.{_≡_};
 ghost use Prim.Native.Nat.{_+_, _-_, _^_, _<_};
 ghost use Rattle.verdict.specs.Verdict.{either};

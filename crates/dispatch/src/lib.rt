@@ -1,5 +1,5 @@
 // A typed command of an instruction: its addresses are tried, then its type leads to code for that type alone.
-// Not here: whether an address leads beyond the data (crate `beyond`).
+// Not here: whether an address leads beyond the data (crate `beyond`); the commands themselves (crates `arithmetic`, `comparisons` and `bitwise`).
 ghost use mathlib.Core.Path.{_≡_};
 ghost use Prim.Native.Nat.{_+_, _*_};
 ghost use Rattle.commands.specs.Attempts.{attempt, attempted, OperandsGiven, ThreeOperands};

@@ -1,4 +1,4 @@
-// Document 01, "The task set file": judged front to back (refusals 1..7, 31 and 24).
+// Document 01, "The task set file": judged front to back (refusals 1..7, 31 and 24; under the small profile 27 too).
 // Not here: the refusals of a file's parts (src/refusals.rt); the definitions and their laws (crate `taskset`).
 mod refusals;
 

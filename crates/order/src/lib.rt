@@ -1,5 +1,5 @@
 // The order of a run: which core a step is of, and how many of the steps from one on are of the same core, or of cores that wait.
-// Not here: the steps themselves (crates steps and runner).
+// Not here: the steps themselves (crates `steps`, `core_runs` and `order_runs`).
 use memory::least;
 use protocol::Registers;
 use semaphore::Line;

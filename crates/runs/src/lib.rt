@@ -1,5 +1,5 @@
 // The calls that move the machine: a run, and a step, which is a run of one step. Each is judged whole before its first step, and a refused one changes no lent byte.
-// Not here: what a run and a step are for every input (machine/specs/Calls); the judging of a call and the fresh state (crate `machine`); the steps of an order (crate `runner`).
+// Not here: what a run and a step are for every input (machine/specs/Calls); the judging of a call and the fresh state (crate `machine`); the steps of an order (crate `order_runs`).
 use code::Profile;
 use exchange::Cursor;
 use machine::answer;
