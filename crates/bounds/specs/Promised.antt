@@ -7,6 +7,7 @@ use mathlib.Core.Path.{_≡_}
 use mathlib.Core.List.{List}
 use Prim.Native.Nat.{ℕ, _/_, _%_, _^_, _≤_}
 use lib.ListN.{getD}
+use Rattle.verdict.specs.Numbers.{limitBit, callBit}
 use Rattle.protocol.specs.State.{State, core}
 use Rattle.protocol.specs.Step.{run}
 use Rattle.records.specs.File.{limit}
@@ -33,8 +34,8 @@ abbrev pub flagOf : State → ℕ → ℕ → ℕ
 flagOf s k b = core (s .plant) k .registers .flags / 2 ^ b % 2
 
 pub record Spared (f : List ℕ) (k : ℕ) (s : State) : Type 0 where
-  pub limit-not-hit : countIn f k ≤ limit f k → flagOf s k 1 ≡ 0
-  pub calls-fit : depthIn f k ≤ 16 → flagOf s k 5 ≡ 0
+  pub limit-not-hit : countIn f k ≤ limit f k → flagOf s k limitBit ≡ 0
+  pub calls-fit : depthIn f k ≤ 16 → flagOf s k callBit ≡ 0
 
 -- ---- the steps ks from the fresh state, on the trace t
 
