@@ -1,5 +1,7 @@
 // The operands of an instruction: the places of its addresses, and whether they lie beyond the data.
 // Not here: what the instructions do with them (crate `execution`); what an address stands for, as a definition (crate `processor`).
+#![tactic(auto)]
+
 ghost use Rattle.std.specs.Prelude.{◌≡◌, ◌+◌, ◌<◌, ◌≤◌, true, length, nat_lt};
 ghost use Rattle.memory.specs.Memory.{word};
 ghost use Rattle.verdict.specs.Verdict.{pick};

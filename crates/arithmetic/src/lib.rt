@@ -2,6 +2,8 @@
 // and gives the pattern to be stored; the second stores it, DIV after it has tried the divisor. The second is called with the type as a constant, and of the first's `match`
 // the compiler keeps the one arm that a constant leads to (docs/PERFORMANCE.md).
 // Not here: the other typed commands (crates `comparisons` and `bitwise`); what they share (crate `commands`).
+#![tactic(auto)]
+
 ghost use Rattle.std.specs.Prelude.{◌≡◌, true, false, ◌+◌, ◌≤◌, ◌<◌, length};
 ghost use Rattle.memory.specs.Memory.{read_le};
 ghost use Rattle.values.specs.Types.{width_of, takes};

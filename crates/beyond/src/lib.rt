@@ -1,5 +1,7 @@
 // Whether an operand of a typed command is beyond the data, by the command and its type.
 // Not here: what the command does where none is (crates `dispatch`, `arithmetic`, `comparisons` and `bitwise`).
+#![tactic(auto)]
+
 ghost use Rattle.std.specs.Prelude.{◌≡◌, ◌+◌, ◌-◌, ◌^◌, ◌<◌};
 ghost use Rattle.verdict.specs.Verdict.{either};
 ghost use Rattle.values.specs.Types.{width_of};

@@ -1,5 +1,7 @@
 // AND OR XOR NOT and SHL SHR ROL ROR, on values and from memory to memory.
 // Not here: the other typed commands (crates `arithmetic` and `comparisons`); what they share (crate `commands`).
+#![tactic(auto)]
+
 mod logic;
 mod shifts;
 

@@ -1,4 +1,6 @@
 // Document 02, 2.7: what a task will take, before loading it. One pass over each core's code, from its last instruction back.
+#![tactic(auto)]
+
 ghost use Rattle.std.specs.Prelude.{◌≡◌, true, [], ◌∷◌, ◌+◌, ◌<◌, ◌≤◌, min, max, length};
 ghost use Rattle.memory.specs.Memory.{byte, splice, part};
 ghost use Rattle.code.specs.Commands.{length_of};

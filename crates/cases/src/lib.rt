@@ -1,6 +1,8 @@
 // Test cases as text, for the programs with stored results: a case is a line with fields between semicolons, the first its name, the others pairs of hex
 // digits, a decimal number, or words in small letters with decimal numbers behind them; other characters in a field are passed over. A line that starts with #
 // says something to the reader, and is none.
+#![tactic(auto)]
+
 ghost use Rattle.std.specs.Prelude.{◌≡◌, ◌<◌, ◌≤◌, length};
 ghost use Rattle.io.specs.Counts.{IsPrefixLen};
 

@@ -1,6 +1,8 @@
 // Document 01, "Types and commands": the instruction set, and what one instruction is judged by: its length, its operands, and whether the profile
 // carries it (document 02, 2.10). All definitions of the judging of a core's code stand in specs/Code.
 // Not here: the table of lengths (src/length_table.rt), an instruction's length where its operands are accepted (src/accepted_lengths.rt); the pass over a core's code (crate `code_judging`).
+#![tactic(auto)]
+
 mod accepted_lengths;
 mod length_table;
 

@@ -1,6 +1,8 @@
 // Document 01, "The task set file": one core's code, judged in one pass: instructions laid end to end (refusal 6), each of them carried by the profile
 // (27, document 02, 2.10), then targets and the last instruction (7).
 // Not here: the definitions and their laws, and what one instruction is judged by (crate `code`).
+#![tactic(auto)]
+
 ghost use Rattle.std.specs.Prelude.{◌≡◌, ◌+◌, ◌<◌, ◌≤◌, length};
 ghost use Rattle.verdict.specs.Verdict.{pick, next};
 ghost use Rattle.verdict.specs.Numbers.{bad_target};

@@ -1,5 +1,7 @@
 // A typed command of an instruction that is executed by itself: its addresses are tried, then its code byte leads to the command, and its type to code for that type.
 // Not here: the same by one jump, for a loop over instructions (crate `dispatch`); the commands themselves (crates `arithmetic`, `comparisons` and `bitwise`).
+#![tactic(auto)]
+
 ghost use Rattle.std.specs.Prelude.{◌≡◌};
 ghost use Rattle.commands.specs.Attempts.{attempt, attempted, OperandsGiven, ThreeOperands};
 

@@ -1,5 +1,7 @@
 // What the typed commands of document 01 share: their operands, what they answer, how a result is stored. What each does to the data is in specs/.
 // Not here: the commands themselves (crates `arithmetic`, `comparisons` and `bitwise`); the jump to one of them (crate `dispatch`).
+#![tactic(auto)]
+
 mod storing;
 
 pub use storing::{put, store_pattern};

@@ -1,5 +1,7 @@
 // GT GE EQ Le Lt NE, on values, and from memory to memory as in `arithmetic`. False is below true; with NaN only NE is true.
 // Not here: the other typed commands (crates `arithmetic` and `bitwise`); what they share (crate `commands`).
+#![tactic(auto)]
+
 ghost use Rattle.std.specs.Prelude.{◌≡◌, true, ◌+◌, ◌≤◌, ◌<◌, length};
 ghost use Rattle.memory.specs.Memory.{read_le};
 ghost use Rattle.values.specs.Types.{width_of, takes};

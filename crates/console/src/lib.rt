@@ -1,4 +1,6 @@
 // What the program `cores` prints, from the bytes of its three files, written into lent bytes.
+#![tactic(auto)]
+
 ghost use Rattle.std.specs.Prelude.{◌≡◌, ◌≤◌, length};
 ghost use Rattle.listing.specs.Writers.{text_left, text_call};
 ghost use Rattle.machine.specs.Judging.{LentTo};

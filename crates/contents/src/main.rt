@@ -1,5 +1,7 @@
 // What a run leaves in memory, for the examples: reads task.bin, trace.bin and order.bin as `cores` does, runs the order from the fresh
 // state, and prints the data of each core and shared memory in lines of eight bytes, up to the last line that has a byte other than 0.
+#![tactic(auto)]
+
 use taskset::{CoreLayout, Layout};
 
 fn text(s: &[u8]) {

@@ -1,6 +1,8 @@
 // Document 02, 2.3: conversions between the number types 1 to 10.
 // In order: whole numbers and powers of two; rounding to the nearest whole number; a float's pattern taken apart; to a whole type; to REAL
 // and LREAL; by type number; from memory to memory. A width w is in bytes. No float arithmetic: results are rounded as whole numbers, once.
+#![tactic(auto)]
+
 ghost use Rattle.std.specs.Prelude.{◌≡◌, ◌+◌, ◌-◌, ◌*◌, ◌/◌, ◌%◌, ◌^◌, ◌<◌, ◌≤◌, Bool, true, false, length, if◌then◌else◌, unsigned_abs};
 ghost use Rattle.std.specs.Float.Ieee as Ieee;
 ghost use Rattle.std.specs.Float.{binary32, binary64};

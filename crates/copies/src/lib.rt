@@ -1,5 +1,7 @@
 // MEMCP's copy (document 02, 2.5) in three ways with one contract, for the benchmark that times them beside each other: as the machine does it, by
 // single bytes, and through an array. The machine itself calls `memory::copy_within` and none of these.
+#![tactic(auto)]
+
 ghost use Rattle.std.specs.Prelude.{◌≡◌, ◌+◌, ◌≤◌, length};
 ghost use Rattle.memory.specs.Memory.{splice, part, Disjoint};
 ghost use Rattle.copies.specs.Copies.{copy_fits, copy_answer, copied};

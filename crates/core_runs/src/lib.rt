@@ -1,5 +1,7 @@
 // The instructions of one core, one after another.
 // Not here: the steps of an order, which name any core (crate `order_runs`); the definitions and their laws (crate `runner`).
+#![tactic(auto)]
+
 ghost use Rattle.std.specs.Prelude.{◌≡◌, true, ◌≢◌, ◌+◌, ◌-◌, ◌*◌, ◌<◌, min, length, get_or, set};
 ghost use Rattle.memory.specs.Memory.{byte};
 ghost use Rattle.commands.specs.Attempts.{flag_bit};

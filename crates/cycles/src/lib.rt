@@ -1,6 +1,8 @@
 // Document 02, 2.9, whole cycles, one after another: the test of its condition, which a user can ask of a task set file. The theorem itself, of the
 // real machine and its calls, and three cores in a ring are in specs and proofs.
 // In order: lines between two cores; cores that read each other; rings; the call; its numbers.
+#![tactic(auto)]
+
 ghost use Rattle.std.specs.Prelude.{◌≡◌, not, ◌+◌, ◌≤◌, ◌<◌, length};
 ghost use Rattle.verdict.specs.Verdict.{both};
 ghost use Rattle.protocol.specs.Variables.{reads_it, writes_it};

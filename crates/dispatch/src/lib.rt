@@ -1,5 +1,7 @@
 // A typed command of an instruction: its addresses are tried, then its type leads to code for that type alone.
 // Not here: whether an address leads beyond the data (crate `beyond`); the commands themselves (crates `arithmetic`, `comparisons` and `bitwise`).
+#![tactic(auto)]
+
 ghost use Rattle.std.specs.Prelude.{◌≡◌, ◌+◌, ◌*◌};
 ghost use Rattle.commands.specs.Attempts.{attempt, attempted, OperandsGiven, ThreeOperands};
 

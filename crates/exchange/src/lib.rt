@@ -3,6 +3,8 @@
 // In order: the search for a variable; the cursor; the bytes of an exchange; the copy of one byte; the copy of a stretch of bytes; the copy of all.
 // `first` and `end` are the places of the first variable's record and past the last; `bit` picks the exchange: k for the writing of
 // core k, 4 + k for its reading; x is the exchange number.
+#![tactic(auto)]
+
 ghost use Rattle.std.specs.Prelude.{◌≡◌, true, ◌+◌, ◌*◌, ◌≤◌, ◌<◌, length, take, drop};
 ghost use Rattle.memory.specs.Memory.{word, splice, part};
 ghost use Rattle.protocol.specs.Step.{copy};

@@ -2,6 +2,8 @@
 // registers and the call stack by the machine, which also tries the instruction limit first.
 // Not here: the places of its operands (crate `addresses`); what an instruction does, as a definition (crate `processor`).
 
+#![tactic(auto)]
+
 ghost use Rattle.std.specs.Prelude.{◌≡◌, true, false, ◌⊎◌, ◌+◌, ◌*◌, ◌≤◌, ◌<◌, length};
 ghost use Rattle.memory.specs.Memory.{byte, splice, part, word};
 ghost use Rattle.verdict.specs.Verdict.{pick};

@@ -1,5 +1,7 @@
 // Document 01, "A state is unfit if ..", the rules of an execution, one function a rule. In order: its places; its offsets and depth; freed entries; all of them.
 // Not here: the other rules (crate `fitness`); the definitions and their laws (crate `states`).
+#![tactic(auto)]
+
 ghost use Rattle.std.specs.Prelude.{◌≡◌, true, ◌<◌, ltb};
 ghost use Rattle.code.specs.Code.{is_start};
 ghost use Rattle.states.specs.Fit.{entry, places_fit, offsets_fit, depth_fit, freed_at, freed_fit, execution_fit};

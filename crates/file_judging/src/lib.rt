@@ -1,5 +1,7 @@
 // Document 01, "The task set file": judged front to back (refusals 1..7, 31 and 24; under the small profile 27 too).
 // Not here: the refusals of a file's parts (src/refusals.rt); the definitions and their laws (crate `taskset`).
+#![tactic(auto)]
+
 mod refusals;
 
 ghost use Rattle.std.specs.Prelude.{◌≡◌, ◌≤◌, length};

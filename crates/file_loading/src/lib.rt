@@ -1,5 +1,7 @@
 // Document 01, "The task set file": where everything stands in an accepted file.
 // Not here: whether it is accepted (crate `file_judging`); the definitions and their laws (crate `taskset`).
+#![tactic(auto)]
+
 ghost use Rattle.std.specs.Prelude.{◌≡◌, ◌<◌, ◌≤◌};
 ghost use Rattle.memory.specs.Memory.{total};
 ghost use Rattle.taskset.specs.Judge.{code_place, judge};

@@ -3,6 +3,8 @@
 // Not here: the samples of the table (src/refusal_samples.rt); the bounds of one core (src/size_bounds.rt); the largest file (src/largest_file.rt); damages and
 // cuts (src/damaged_file.rt); layouts (src/layouts.rt); traces (src/trace_samples.rt); changes to a file (src/changes.rt); the refusal of a beginning (src/judging.rt); what
 // is printed (src/printing.rt).
+#![tactic(auto)]
+
 mod changes;
 mod damaged_file;
 mod judging;

@@ -1,6 +1,8 @@
 // Document 01, "A state is unfit if ..", one function a rule: which states are refused (refusal 23), of an accepted file on a sound trace.
 // In order: exchange, cycles and holder; a core; the line; a state; a trace and a state one after the other.
 // Not here: the rules of an execution (crate `execution_fitness`); the definitions and their laws (crate `states`).
+#![tactic(auto)]
+
 ghost use Rattle.std.specs.Prelude.{◌≡◌, ◌<◌};
 ghost use Rattle.records.specs.File.{cores};
 ghost use Rattle.taskset.specs.Judge.{judge};

@@ -2,6 +2,8 @@
 // and four depths. The stored numbers were found by a walk of every path.
 // Not here: one case (src/one_case.rt); accepted files (src/accepted_files.rt); refusals 25 and 26 (src/refused_files.rt); files drawn at random
 // (src/drawn_files.rt); outputs in lent places (src/lent_outputs.rt).
+#![tactic(auto)]
+
 mod accepted_files;
 mod drawn_files;
 mod lent_outputs;

@@ -1,5 +1,7 @@
 // Document 02, 2.12: the converters between the two forms of a task set file. An old file becomes new with a count of 0 for each core; a new file goes back if
 // it has no start values. Each call judges the whole file before it writes; a refused call writes nothing.
+#![tactic(auto)]
+
 ghost use Rattle.std.specs.Prelude.{◌≡◌, ◌-◌, ◌≤◌, length};
 ghost use Rattle.memory.specs.Memory.{splice, part};
 ghost use Rattle.forms.specs.Forms.{ConversionLeft, to_new_call, to_old_call};

@@ -3,6 +3,8 @@
 // bytes each, a TIME and an INT.
 // Not here: one case (src/one_case.rt); numbers 28, 29 and 30 (src/refusal_numbers.rt); which records a window holds (src/held_records.rt); the ends of the
 // TIME range (src/time_range.rt).
+#![tactic(auto)]
+
 mod held_records;
 mod one_case;
 mod refusal_numbers;

@@ -1,5 +1,7 @@
 // Document 01, "One step of a core", mode 2: one instruction of core k, on the code and the data that are its own.
 // Not here: what a step in any other mode does (crate `steps`); the instructions themselves (crate `execution`).
+#![tactic(auto)]
+
 ghost use Rattle.std.specs.Prelude.{◌≡◌, true, false, ◌+◌, ◌<◌};
 ghost use Rattle.memory.specs.Memory.{byte};
 ghost use Rattle.code.specs.Commands.{three};

@@ -2,6 +2,8 @@
 //
 // The writers of parts answer the place after their part. Past the end of the lent bytes they write nothing and count on, so that with
 // no bytes at all they measure.
+#![tactic(auto)]
+
 ghost use Rattle.std.specs.Prelude.{◌≡◌, ◌∷◌, [], map, ◌+◌, ◌*◌, ◌<◌, ◌≤◌, min, length, take};
 ghost use Rattle.memory.specs.Memory.{splice, flat};
 ghost use Rattle.listing.specs.Listing.{decimal, column, core_line, core_lines, kind_letter, taking_text, head, listing, refused_text, long_text};

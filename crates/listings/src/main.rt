@@ -1,5 +1,7 @@
 // Texts of `cores` with known results: the refusals in their order, `long` before them, and runs; the listing of document 01, its first four
 // steps, and JMP 0 with limit 1 among them.
+#![tactic(auto)]
+
 use listing::Written;
 
 fn text(s: &[u8]) {

@@ -1,6 +1,8 @@
 // The machine that users call, by value. No call requires anything: each gives the refusal number of document 01 that fits, in the order
 // file, 21, 22, 23, 20, and then changes no lent byte. `load_lent` and `judge_call` have this order for all of them.
 // Not here: the judging of a call (src/judging.rt); the fresh state (src/fresh_state.rt); a run and a step (crate `runs`).
+#![tactic(auto)]
+
 mod fresh_state;
 mod judging;
 

@@ -1,4 +1,6 @@
 // Lent bytes: numbers of any width up to eight bytes, low byte first, and copies.
+#![tactic(auto)]
+
 ghost use Rattle.std.specs.Prelude.{◌≡◌, ◌+◌, ◌-◌, ◌^◌, ◌≤◌, ◌<◌, min, length, get_or, replicate};
 ghost use Rattle.memory.specs.Memory.{splice, part, Disjoint, bytes_le, read_le};
 

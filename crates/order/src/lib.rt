@@ -1,5 +1,7 @@
 // The order of a run: which core a step is of, and how many of the steps from one on are of the same core, or of cores that wait.
 // Not here: the steps themselves (crates `steps`, `core_runs` and `order_runs`).
+#![tactic(auto)]
+
 ghost use Rattle.std.specs.Prelude.{◌≡◌, true, false, ℕ, ◌+◌, ◌*◌, ◌<◌, ◌≤◌, length, get_or};
 ghost use Rattle.records.specs.File.{cores};
 ghost use Rattle.steps.specs.Bytes.{Ahead};

@@ -1,5 +1,7 @@
 // The steps of an order, one after another.
 // Not here: a stretch of one core's instructions (crate `core_runs`); the definitions and their laws (crate `runner`).
+#![tactic(auto)]
+
 ghost use Rattle.std.specs.Prelude.{◌≡◌, ◌+◌, ◌<◌};
 ghost use Rattle.runner.specs.Runs.{left_as, ran_answer, ran_call};
 ghost use Rattle.runner.specs.Going.{RunGiven};

@@ -1,5 +1,7 @@
 // Document 02, 2.8: packed decimal for panel switches, four bits to a digit.
 // In order: digits one by one; at a width; from memory to memory. A width w is in bytes.
+#![tactic(auto)]
+
 ghost use Rattle.std.specs.Prelude.{◌≡◌, ◌+◌, ◌*◌, ◌/◌, ◌^◌, ◌≤◌, ◌<◌};
 ghost use Rattle.conversions.specs.Data.{ended};
 ghost use Rattle.packed.specs.Packed.{packed_digits, unpacked_digits, digits_below, packed_at, unpacked_at};

@@ -3,6 +3,8 @@
 // Not here: files of one core (src/one_core_file.rt); data sizes (src/data_sizes.rt); rows of types (src/typed_rows.rt, src/conversion_rows.rt,
 // src/packed_rows.rt); instructions that name no type (src/untyped_instructions.rt); which number comes first (src/number_order.rt); runs (src/both_profiles.rt);
 // what is printed (src/printing.rt).
+#![tactic(auto)]
+
 mod both_profiles;
 mod conversion_rows;
 mod data_sizes;

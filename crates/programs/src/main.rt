@@ -1,6 +1,8 @@
 // Small programs with known results, from standard input (file `stdin`): latches, a counter, nested calls, instances in instances, arrays, overlapping copies,
 // every fault and the order in which two at once are tried, the last place of each operand, conversions and packed decimal. Each line that comes has the program's
 // name, the mode, program counter, data offset, depth, instruction count and flag byte after its cycle, and the data.
+#![tactic(auto)]
+
 ghost use Rattle.std.specs.Prelude.{◌≡◌, ◌<◌, ◌≤◌, length};
 ghost use Rattle.code.specs.Code.{judge_code};
 

@@ -1,5 +1,7 @@
 // Document 01, "One step of a core": a core's registers and call stack, and each change that a step makes to the registers.
 // The definitions of specs/ speak of these very structs; the machine applies these functions.
+#![tactic(auto)]
+
 ghost use Rattle.std.specs.Prelude.{◌≡◌, ◌<◌};
 ghost use Rattle.protocol.specs.Registers.{read_acquired, byte_copied, read_released, write_acquired, write_released, advanced, called, returned, cycle_ended, faulted};
 

@@ -2,6 +2,8 @@
 // all but one, each way up and down, and stretches that leave the data. A line has the places and the count, the answer, and the data.
 
 // The data before each copy: byte i is 3 i + 1.
+#![tactic(auto)]
+
 const DATA: [u8; 64] = [
     1, 4, 7, 10, 13, 16, 19, 22, 25, 28, 31, 34, 37, 40, 43, 46, 49, 52, 55, 58, 61, 64, 67, 70,
     73, 76, 79, 82, 85, 88, 91, 94, 97, 100, 103, 106, 109, 112, 115, 118, 121, 124, 127, 130, 133,

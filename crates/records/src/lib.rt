@@ -1,4 +1,6 @@
 // Document 01, "The task set file": the records of cores and variables, read and judged (refusals 3, 4, 5).
+#![tactic(auto)]
+
 ghost use Rattle.std.specs.Prelude.{◌≡◌, true, ◌+◌, ◌*◌, ◌-◌, ◌<◌, ◌≤◌, eqb, length};
 ghost use Rattle.verdict.specs.Verdict.{first};
 ghost use Rattle.protocol.specs.Variables.{local, reads_it, writes_it};

@@ -1,6 +1,8 @@
 // Document 02, 2.13: rerun from the order of takings, with every exchange whole and each execution straight after its reading. Whether steps produce the
 // list is known at its end alone, so the rerun works in memories of its own and copies them out where nothing is refused.
 // In order: a reading; a writing; a taking; the list; the call. Not here: a byte of the list (crate `takings`).
+#![tactic(auto)]
+
 ghost use Rattle.std.specs.Prelude.{◌≡◌, true, [], ◌+◌, ◌<◌, length};
 ghost use Rattle.memory.specs.Memory.{total};
 ghost use Rattle.protocol.specs.Step.{copy};

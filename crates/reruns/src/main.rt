@@ -2,6 +2,8 @@
 // its mode, cycles and flags, the semaphore's holder and how many are in line, then what the data buffer and the first shared bytes hold. Memory is lent with 9 in
 // every byte, so that a refused case prints nines.
 // Two cores: core 0 has two records and publishes NOT of what it reads, core 1 has one record and is stopped by its limit of one instruction.
+#![tactic(auto)]
+
 fn text(s: &[u8]) {
     io::write_all(1, s);
 }

@@ -2,6 +2,8 @@
 // records, one for each core; the semaphore is a lent record beside it. A refused call changes nothing.
 //
 // The functions that start with `rikzord_` are the C interface too: a slice is a pointer and a length there.
+#![tactic(auto)]
+
 ghost use Rattle.std.specs.Prelude.{◌≡◌, [], length, get_or, set};
 ghost use Rattle.code.specs.declared.Profile.TheVariants.{Small};
 ghost use Rattle.taskset.specs.Judge.{judge_for, judge};

@@ -1,5 +1,7 @@
 // Document 02, 2.9, the test of a file's lines, with stored results. A case prints its name, the refusal number, and the byte that says what the lines
 // are (0 free, 1 two cores read each other, 2 a ring); that byte is 77 before the call, and stays where the file is refused.
+#![tactic(auto)]
+
 fn text(s: &[u8]) {
     io::write_all(1, s);
 }

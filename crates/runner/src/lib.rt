@@ -1,5 +1,7 @@
 // What a run of the steps of an order leaves, and a stretch of one core's instructions or a single one in it. The definitions are in specs/, their laws in proofs/.
 // Not here: the functions that run a core (crate `core_runs`) and an order (crate `order_runs`).
+#![tactic(auto)]
+
 use protocol::Registers;
 use states::Held;
 

@@ -1,5 +1,7 @@
 // The calls that move the machine: a run, and a step, which is a run of one step. Each is judged whole before its first step, and a refused one changes no lent byte.
 // Not here: what a run and a step are for every input (machine/specs/Calls); the judging of a call and the fresh state (crate `machine`); the steps of an order (crate `order_runs`).
+#![tactic(auto)]
+
 ghost use Rattle.std.specs.Prelude.{◌≡◌, ◌≤◌, [], length};
 ghost use Rattle.taskset.specs.Layout.{layout_of};
 ghost use Rattle.states.specs.Tasks.{tasks_of};

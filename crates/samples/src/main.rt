@@ -3,6 +3,8 @@
 // or WRONG beside what the documents say.
 // Not here: states in words (src/state_words.rt); states compared (src/same_states.rt); memory to lend (src/lent_memory.rt); the calls (src/call_numbers.rt);
 // what is printed (src/printing.rt).
+#![tactic(auto)]
+
 mod call_numbers;
 mod lent_memory;
 mod printing;

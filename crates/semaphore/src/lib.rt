@@ -1,4 +1,6 @@
 // The semaphore and the line of cores that wait for it (document 02, 2.4): who stands in it, whose turn it is, and what joining, taking and release do to it.
+#![tactic(auto)]
+
 ghost use Rattle.std.specs.Prelude.{◌≡◌, true, false, ◌<◌, length, get_or, drop};
 ghost use Rattle.protocol.specs.Step.{in_line, turn as turn_of, acquired_by, released as released_by, joined_by};
 ghost use Rattle.protocol.specs.Fair.{Once};

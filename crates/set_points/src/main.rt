@@ -2,6 +2,8 @@
 // from its place 2 to shared place 10, core 1 reads it to its place 4. Both codes are RETURN. In a file of the new form the start values follow them.
 // Not here: numbers of files (src/file_numbers.rt); the fresh state (src/fresh_states.rt); what a reader sees before the first writing (src/first_readings.rt);
 // the converters (src/converters.rt); what is printed (src/printing.rt).
+#![tactic(auto)]
+
 mod converters;
 mod file_numbers;
 mod first_readings;

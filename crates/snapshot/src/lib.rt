@@ -1,6 +1,8 @@
 // The machine's calls on a snapshot of the core table: its first four records copied out, by value. The calls on a lent table (crate rikzord) copy it out,
 // call these, and store what they leave.
 // Not here: a table as a state, and back (src/table_state.rt); the calls that move the machine, a step and a run (crate `table_runs`) and a rerun (crate `table_rerun`).
+#![tactic(auto)]
+
 mod table_state;
 
 ghost use Rattle.std.specs.Prelude.{◌≡◌, [], ◌+◌, ◌<◌};

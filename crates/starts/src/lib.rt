@@ -1,5 +1,7 @@
 // Document 02, 2.12: the memories of the fresh state. Zeros but for the start values of the task set file, and in shared memory for each variable the
 // start bytes that its writer has. In order: one core's start values; all cores'; shared memory; both memories.
+#![tactic(auto)]
+
 ghost use Rattle.std.specs.Prelude.{◌≡◌, true, ℕ, ◌+◌, ◌*◌, ◌≤◌, ◌<◌, length};
 ghost use Rattle.memory.specs.Memory.{word, total};
 ghost use Rattle.protocol.specs.Fresh.{zeros};

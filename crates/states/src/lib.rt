@@ -1,6 +1,8 @@
 // The state that a caller holds and lends; what a step needs of each core's task. Which states are unfit is defined in specs/Fit.
 // Not here: the functions that judge a state (crates `fitness` and `execution_fitness`).
 
+#![tactic(auto)]
+
 ghost use Rattle.std.specs.Prelude.{◌≡◌, ◌<◌, length};
 ghost use Rattle.records.specs.File.{cores};
 ghost use Rattle.taskset.specs.Layout.{layout_of};

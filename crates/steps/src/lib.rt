@@ -1,6 +1,8 @@
 // Document 01, "One step of a core": what a step of a core in each mode does to its data and to shared memory, and which change of its
 // registers goes with it.
 // Not here: an instruction (crate `instructions`).
+#![tactic(auto)]
+
 mod after;
 
 ghost use Rattle.std.specs.Prelude.{◌≡◌, ◌≢◌, ◌+◌, ◌<◌, ◌≤◌, length, replicate};

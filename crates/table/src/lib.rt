@@ -1,4 +1,6 @@
 // The core table: which core moves next.
+#![tactic(auto)]
+
 ghost use Rattle.std.specs.Prelude.{◌≡◌, ◌<◌};
 ghost use Rattle.records.specs.File.{cores};
 ghost use Rattle.states.specs.Set.{AcceptedSet};

@@ -1,5 +1,7 @@
 // Document 02, 2.13: an order list rerun on a snapshot of the core table, its first four records copied out.
 // Not here: the table and the other calls on it (crate `snapshot`); the rerun itself (crate `rerun`).
+#![tactic(auto)]
+
 ghost use Rattle.std.specs.Prelude.{◌≡◌, []};
 ghost use Rattle.snapshot.specs.Snapshot.{table_left, rerun_table};
 

@@ -1,5 +1,7 @@
 // A step and a run on a snapshot of the core table, its first four records copied out; and a step that is lent the registers of its core alone.
 // Not here: the table, what a call leaves of it, and the definitions of these calls (crate `snapshot`); a step and a run by value (crate `runs`).
+#![tactic(auto)]
+
 ghost use Rattle.std.specs.Prelude.{◌≡◌, [], set};
 ghost use Rattle.runner.specs.Runs.{left_as};
 ghost use Rattle.snapshot.specs.Snapshot.{table_left, step_table, run_table, taken_table, with_registers, registers_after, step_registers};

@@ -1,5 +1,7 @@
 // Document 02, 2.13: a byte of an order list, the core that it names, and whether that has it to do.
 // Not here: what it makes of the state (crate `rerun`).
+#![tactic(auto)]
+
 ghost use Rattle.std.specs.Prelude.{◌≡◌};
 ghost use Rattle.takings.specs.Takings.{named_core, due_by};
 

@@ -1,6 +1,8 @@
 // Document 01, "The task set file": its marks, and where everything stands in it and in a trace, as types of the code. The definitions, which refusal a file
 // gets among them (refusals 1..7, 31 and 24; under the small profile 27 too), are in specs/, their laws in proofs/.
 // Not here: the functions that judge a file (crate `file_judging`), load it (crate `file_loading`), and judge and load a trace (crate `traces`).
+#![tactic(auto)]
+
 ghost use Rattle.std.specs.Prelude.{◌≡◌};
 ghost use Rattle.taskset.specs.Layout.{no_core};
 

@@ -1,6 +1,8 @@
 // Reads the three files of `cores` from the folder that it runs in and writes what `console::output` makes of them. No contract can say what is
 // read or written, so this is tried by runs: the program `cores` on document 01's example, and the programs beside it on files that are longer than
 // the most or missing.
+#![tactic(auto)]
+
 ghost use Rattle.io.specs.Counts.{IsPrefixLen};
 
 use libc::STDOUT_FILENO;

@@ -1,5 +1,7 @@
 // Document 01, the trace: judged (refusal 22), and where the records of each core stand in it.
 // Not here: the definitions and laws of a trace, and the record of what loading finds (crate `taskset`).
+#![tactic(auto)]
+
 ghost use Rattle.std.specs.Prelude.{◌≡◌, ◌*◌, ◌<◌, ◌≤◌};
 ghost use Rattle.taskset.specs.Trace.{blank, trace_place, trace_refusal, count_of, first_of, load_trace_of};
 

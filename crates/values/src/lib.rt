@@ -1,6 +1,8 @@
 // The typed values of document 01: the twelve types, reading by type, and whole numbers at a width.
 // In order: the types; what a value holds; floats and their patterns; whole numbers and their patterns; sums, products and quotients;
 // bits; a value from memory, and the pattern of a value. A width w is in bytes.
+#![tactic(auto)]
+
 ghost use Rattle.std.specs.Prelude.{◌≡◌, ◌+◌, ◌-◌, ◌*◌, ◌%◌, ◌^◌, ◌<◌, ◌≤◌, length, pos, negsuc, ◌+ℤ◌, ◌-ℤ◌, ◌*ℤ◌, neg_ℤ, ◌≢◌, int_div};
 ghost use Rattle.std.specs.Float.Ieee as Ieee;
 ghost use Rattle.std.specs.Float.{binary32, binary64};

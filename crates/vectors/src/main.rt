@@ -2,6 +2,8 @@
 // whole numbers at their limits, conversions between every two number types, and packed decimal. For each file and command it prints how many vectors were compared and how many differed.
 // Not here: a line of a file (src/vector_line.rt); names of commands and types (src/names.rt); what a command gives (src/outcomes.rt); what is counted
 // and printed (src/counts.rt).
+#![tactic(auto)]
+
 mod counts;
 mod names;
 mod outcomes;

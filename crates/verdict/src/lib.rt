@@ -1,5 +1,7 @@
 // Judgements as numbers: the definitions are in specs/, their laws in proofs/. The code has the refusals by name, as specs/Numbers has them.
 
+#![tactic(auto)]
+
 pub const CUT_FILE: u8 = 1; // the file ends before its last item
 
 pub const NO_MARK: u8 = 2; // the mark

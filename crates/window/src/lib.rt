@@ -1,5 +1,7 @@
 // The memory window of a debugger (document 02, 2.14): a stretch of a core's code or data, as a part of the lent task set file or of the lent data
 // buffer itself, not a copy.
+#![tactic(auto)]
+
 ghost use Rattle.std.specs.Prelude.{◌≡◌, ◌+◌, ◌<◌, length};
 ghost use Rattle.taskset.specs.Layout.{layout_of, core_layout};
 ghost use Rattle.window.specs.declared.Shown.TheVariants.{Code, Data};

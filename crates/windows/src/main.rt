@@ -1,5 +1,7 @@
 // Document 02, 2.14, with stored results. A case prints its name, the number that the check gives, and the window between brackets. The task set has two
 // cores: core 0 has three bytes of data, "abc", and RETURN; core 1 has five, "defgh", and the code 06 61 61 01 7A 00 hex, in which "aa" and "z" can be read.
+#![tactic(auto)]
+
 use window::Shown;
 
 fn text(s: &[u8]) {
