@@ -1,0 +1,139 @@
+-- `commands::arithmetic::add_of` meets its contract. Each arm reads by its type, and gives the pattern of the command's result (`two-pattern`). Assumes nothing.
+use borrow.Author.Rules.{rules}
+use Rattle.verdict.specs.Verdict.{pick}
+use Rattle.values.specs.Types.{width_of, takes}
+use Rattle.values.specs.Commands.{result, result_type}
+use Rattle.values.proofs.Commands.{place_at, two-pattern, last-time, widths}
+use Rattle.arithmetic.proofs.add_of.Goals as goal
+
+pub read_value-requires : goal.read_value-requires
+read_value-requires c = search (rules, place_at)
+
+pub read_value-requires-in-1 : goal.read_value-requires-in-1
+read_value-requires-in-1 c = search (rules, place_at)
+
+pub add-requires : goal.add-requires
+add-requires c = search widths
+
+pub read_value-requires-in-2 : goal.read_value-requires-in-2
+read_value-requires-in-2 c = search (rules, place_at)
+
+pub read_value-requires-in-2-2 : goal.read_value-requires-in-2-2
+read_value-requires-in-2-2 c = search (rules, place_at)
+
+pub add-requires-in-2 : goal.add-requires-in-2
+add-requires-in-2 c = search widths
+
+pub read_value-requires-in-3 : goal.read_value-requires-in-3
+read_value-requires-in-3 c = search (rules, place_at)
+
+pub read_value-requires-in-3-2 : goal.read_value-requires-in-3-2
+read_value-requires-in-3-2 c = search (rules, place_at)
+
+pub add-requires-in-3 : goal.add-requires-in-3
+add-requires-in-3 c = search widths
+
+pub read_value-requires-in-4 : goal.read_value-requires-in-4
+read_value-requires-in-4 c = search (rules, place_at)
+
+pub read_value-requires-in-4-2 : goal.read_value-requires-in-4-2
+read_value-requires-in-4-2 c = search (rules, place_at)
+
+pub add-requires-in-4 : goal.add-requires-in-4
+add-requires-in-4 c = search widths
+
+pub read_value-requires-in-5 : goal.read_value-requires-in-5
+read_value-requires-in-5 c = search (rules, place_at)
+
+pub read_value-requires-in-5-2 : goal.read_value-requires-in-5-2
+read_value-requires-in-5-2 c = search (rules, place_at)
+
+pub add-requires-in-5 : goal.add-requires-in-5
+add-requires-in-5 c = search widths
+
+pub read_value-requires-in-6 : goal.read_value-requires-in-6
+read_value-requires-in-6 c = search (rules, place_at)
+
+pub read_value-requires-in-6-2 : goal.read_value-requires-in-6-2
+read_value-requires-in-6-2 c = search (rules, place_at)
+
+pub add-requires-in-6 : goal.add-requires-in-6
+add-requires-in-6 c = search widths
+
+pub read_value-requires-in-7 : goal.read_value-requires-in-7
+read_value-requires-in-7 c = search (rules, place_at)
+
+pub read_value-requires-in-7-2 : goal.read_value-requires-in-7-2
+read_value-requires-in-7-2 c = search (rules, place_at)
+
+pub add-requires-in-7 : goal.add-requires-in-7
+add-requires-in-7 c = search widths
+
+pub read_value-requires-in-8 : goal.read_value-requires-in-8
+read_value-requires-in-8 c = search (rules, place_at)
+
+pub read_value-requires-in-8-2 : goal.read_value-requires-in-8-2
+read_value-requires-in-8-2 c = search (rules, place_at)
+
+pub add-requires-in-8 : goal.add-requires-in-8
+add-requires-in-8 c = search widths
+
+pub read_value-requires-in-9 : goal.read_value-requires-in-9
+read_value-requires-in-9 c = search (rules, place_at)
+
+pub read_value-requires-in-9-2 : goal.read_value-requires-in-9-2
+read_value-requires-in-9-2 c = search (rules, place_at)
+
+pub add-requires-in-9 : goal.add-requires-in-9
+add-requires-in-9 c = search widths
+
+pub read_value-requires-in-10 : goal.read_value-requires-in-10
+read_value-requires-in-10 c = search (rules, place_at)
+
+pub read_value-requires-in-10-2 : goal.read_value-requires-in-10-2
+read_value-requires-in-10-2 c = search (rules, place_at)
+
+pub add-requires-in-10 : goal.add-requires-in-10
+add-requires-in-10 c = search widths
+
+pub read_value-requires-in_default : goal.read_value-requires-in_default
+read_value-requires-in_default c = search (rules, place_at, last-time)
+
+pub read_value-requires-in_default-2 : goal.read_value-requires-in_default-2
+read_value-requires-in_default-2 c = search (rules, place_at, last-time)
+
+pub add-requires-in_default : goal.add-requires-in_default
+add-requires-in_default c = search widths
+
+pub returns-in-1 : goal.returns-in-1
+returns-in-1 c = search two-pattern
+
+pub returns-in-2 : goal.returns-in-2
+returns-in-2 c = search two-pattern
+
+pub returns-in-3 : goal.returns-in-3
+returns-in-3 c = search two-pattern
+
+pub returns-in-4 : goal.returns-in-4
+returns-in-4 c = search two-pattern
+
+pub returns-in-5 : goal.returns-in-5
+returns-in-5 c = search two-pattern
+
+pub returns-in-6 : goal.returns-in-6
+returns-in-6 c = search two-pattern
+
+pub returns-in-7 : goal.returns-in-7
+returns-in-7 c = search two-pattern
+
+pub returns-in-8 : goal.returns-in-8
+returns-in-8 c = search two-pattern
+
+pub returns-in-9 : goal.returns-in-9
+returns-in-9 c = search two-pattern
+
+pub returns-in-10 : goal.returns-in-10
+returns-in-10 c = search two-pattern
+
+pub returns-in_default : goal.returns-in_default
+returns-in_default c = search (two-pattern, last-time)

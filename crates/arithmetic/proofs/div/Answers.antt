@@ -1,0 +1,26 @@
+-- `commands::arithmetic::div` meets its contract. Each arm is the command on its kind (`kinds`). Assumes nothing.
+use borrow.Author.Rules.{rules}
+use Rattle.commands.proofs.Arms.{kinds, divisors}
+use Rattle.values.specs.Commands.{DIV}
+use Rattle.arithmetic.proofs.div.Goals as goal
+
+pub div_signed-requires : goal.div_signed-requires
+div_signed-requires c = search divisors
+
+pub nonzero_div-result : goal.nonzero_div-result
+nonzero_div-result c = search divisors
+
+pub returns-in-Bool : goal.returns-in-Bool
+returns-in-Bool c = search kinds
+
+pub returns-in-Signed : goal.returns-in-Signed
+returns-in-Signed c = search kinds
+
+pub returns-in-Unsigned : goal.returns-in-Unsigned
+returns-in-Unsigned c = search kinds
+
+pub returns-in-Real : goal.returns-in-Real
+returns-in-Real c = search kinds
+
+pub returns-in-Lreal : goal.returns-in-Lreal
+returns-in-Lreal c = search kinds

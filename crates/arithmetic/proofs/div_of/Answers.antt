@@ -1,0 +1,127 @@
+-- `commands::arithmetic::div_of` meets its contract. Each arm reads by its type, and gives the pattern of the command's result (`two-pattern`). Assumes nothing.
+use borrow.Author.Rules.{rules}
+use Rattle.verdict.specs.Verdict.{pick}
+use Rattle.values.specs.Types.{width_of, takes}
+use Rattle.values.specs.Commands.{result, result_type}
+use Rattle.values.proofs.Commands.{place_at, two-pattern, last-float, widths, not-by-zero}
+use Rattle.arithmetic.proofs.div_of.Goals as goal
+
+pub read_value-requires : goal.read_value-requires
+read_value-requires c = search (rules, place_at)
+
+pub read_value-requires-in-1 : goal.read_value-requires-in-1
+read_value-requires-in-1 c = search (rules, place_at)
+
+pub div-requires : goal.div-requires
+div-requires c = search (widths, not-by-zero)
+
+pub read_value-requires-in-2 : goal.read_value-requires-in-2
+read_value-requires-in-2 c = search (rules, place_at)
+
+pub read_value-requires-in-2-2 : goal.read_value-requires-in-2-2
+read_value-requires-in-2-2 c = search (rules, place_at)
+
+pub div-requires-in-2 : goal.div-requires-in-2
+div-requires-in-2 c = search (widths, not-by-zero)
+
+pub read_value-requires-in-3 : goal.read_value-requires-in-3
+read_value-requires-in-3 c = search (rules, place_at)
+
+pub read_value-requires-in-3-2 : goal.read_value-requires-in-3-2
+read_value-requires-in-3-2 c = search (rules, place_at)
+
+pub div-requires-in-3 : goal.div-requires-in-3
+div-requires-in-3 c = search (widths, not-by-zero)
+
+pub read_value-requires-in-4 : goal.read_value-requires-in-4
+read_value-requires-in-4 c = search (rules, place_at)
+
+pub read_value-requires-in-4-2 : goal.read_value-requires-in-4-2
+read_value-requires-in-4-2 c = search (rules, place_at)
+
+pub div-requires-in-4 : goal.div-requires-in-4
+div-requires-in-4 c = search (widths, not-by-zero)
+
+pub read_value-requires-in-5 : goal.read_value-requires-in-5
+read_value-requires-in-5 c = search (rules, place_at)
+
+pub read_value-requires-in-5-2 : goal.read_value-requires-in-5-2
+read_value-requires-in-5-2 c = search (rules, place_at)
+
+pub div-requires-in-5 : goal.div-requires-in-5
+div-requires-in-5 c = search (widths, not-by-zero)
+
+pub read_value-requires-in-6 : goal.read_value-requires-in-6
+read_value-requires-in-6 c = search (rules, place_at)
+
+pub read_value-requires-in-6-2 : goal.read_value-requires-in-6-2
+read_value-requires-in-6-2 c = search (rules, place_at)
+
+pub div-requires-in-6 : goal.div-requires-in-6
+div-requires-in-6 c = search (widths, not-by-zero)
+
+pub read_value-requires-in-7 : goal.read_value-requires-in-7
+read_value-requires-in-7 c = search (rules, place_at)
+
+pub read_value-requires-in-7-2 : goal.read_value-requires-in-7-2
+read_value-requires-in-7-2 c = search (rules, place_at)
+
+pub div-requires-in-7 : goal.div-requires-in-7
+div-requires-in-7 c = search (widths, not-by-zero)
+
+pub read_value-requires-in-8 : goal.read_value-requires-in-8
+read_value-requires-in-8 c = search (rules, place_at)
+
+pub read_value-requires-in-8-2 : goal.read_value-requires-in-8-2
+read_value-requires-in-8-2 c = search (rules, place_at)
+
+pub div-requires-in-8 : goal.div-requires-in-8
+div-requires-in-8 c = search (widths, not-by-zero)
+
+pub read_value-requires-in-9 : goal.read_value-requires-in-9
+read_value-requires-in-9 c = search (rules, place_at)
+
+pub read_value-requires-in-9-2 : goal.read_value-requires-in-9-2
+read_value-requires-in-9-2 c = search (rules, place_at)
+
+pub div-requires-in-9 : goal.div-requires-in-9
+div-requires-in-9 c = search (widths, not-by-zero)
+
+pub read_value-requires-in_default : goal.read_value-requires-in_default
+read_value-requires-in_default c = search (rules, place_at, last-float)
+
+pub read_value-requires-in_default-2 : goal.read_value-requires-in_default-2
+read_value-requires-in_default-2 c = search (rules, place_at, last-float)
+
+pub div-requires-in_default : goal.div-requires-in_default
+div-requires-in_default c = search (widths, not-by-zero, last-float)
+
+pub returns-in-1 : goal.returns-in-1
+returns-in-1 c = search two-pattern
+
+pub returns-in-2 : goal.returns-in-2
+returns-in-2 c = search two-pattern
+
+pub returns-in-3 : goal.returns-in-3
+returns-in-3 c = search two-pattern
+
+pub returns-in-4 : goal.returns-in-4
+returns-in-4 c = search two-pattern
+
+pub returns-in-5 : goal.returns-in-5
+returns-in-5 c = search two-pattern
+
+pub returns-in-6 : goal.returns-in-6
+returns-in-6 c = search two-pattern
+
+pub returns-in-7 : goal.returns-in-7
+returns-in-7 c = search two-pattern
+
+pub returns-in-8 : goal.returns-in-8
+returns-in-8 c = search two-pattern
+
+pub returns-in-9 : goal.returns-in-9
+returns-in-9 c = search two-pattern
+
+pub returns-in_default : goal.returns-in_default
+returns-in_default c = search (two-pattern, last-float)

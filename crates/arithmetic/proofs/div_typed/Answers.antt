@@ -1,0 +1,25 @@
+-- `commands::arithmetic::div_typed` meets its contract. The divisor is tried; what is stored is the command's effect (`known-done`). Assumes nothing.
+use borrow.Author.Rules.{rules}
+use Rattle.verdict.specs.Verdict.{pick}
+use Rattle.values.specs.Types.{width_of}
+use Rattle.values.specs.Commands.{result_type, result_width, second_width}
+use Rattle.commands.proofs.Known.{known-taken, known-type, known-width, known-first, known-second, known-divisor, known-result, known-zero, known-done, not_beyond}
+use Rattle.arithmetic.proofs.div_typed.Goals as goal
+
+pub zero_divisor-requires : goal.zero_divisor-requires
+zero_divisor-requires c = search known-divisor
+
+pub returns-then-zero_divisor : goal.returns-then-zero_divisor
+returns-then-zero_divisor c = search known-zero
+
+pub width_of-requires : goal.width_of-requires
+width_of-requires c = search known-type
+
+pub div_of-requires : goal.div_of-requires
+div_of-requires c = (search known-taken, search known-first, search known-second, search not_beyond)
+
+pub put-requires : goal.put-requires
+put-requires c = search (known-width, known-result)
+
+pub returns : goal.returns
+returns c = search (known-done, not_beyond)

@@ -1,0 +1,127 @@
+-- `commands::arithmetic::mul_of` meets its contract. Each arm reads by its type, and gives the pattern of the command's result (`two-pattern`). Assumes nothing.
+use borrow.Author.Rules.{rules}
+use Rattle.verdict.specs.Verdict.{pick}
+use Rattle.values.specs.Types.{width_of, takes}
+use Rattle.values.specs.Commands.{result, result_type}
+use Rattle.values.proofs.Commands.{place_at, two-pattern, last-float, widths}
+use Rattle.arithmetic.proofs.mul_of.Goals as goal
+
+pub read_value-requires : goal.read_value-requires
+read_value-requires c = search (rules, place_at)
+
+pub read_value-requires-in-1 : goal.read_value-requires-in-1
+read_value-requires-in-1 c = search (rules, place_at)
+
+pub mul-requires : goal.mul-requires
+mul-requires c = search widths
+
+pub read_value-requires-in-2 : goal.read_value-requires-in-2
+read_value-requires-in-2 c = search (rules, place_at)
+
+pub read_value-requires-in-2-2 : goal.read_value-requires-in-2-2
+read_value-requires-in-2-2 c = search (rules, place_at)
+
+pub mul-requires-in-2 : goal.mul-requires-in-2
+mul-requires-in-2 c = search widths
+
+pub read_value-requires-in-3 : goal.read_value-requires-in-3
+read_value-requires-in-3 c = search (rules, place_at)
+
+pub read_value-requires-in-3-2 : goal.read_value-requires-in-3-2
+read_value-requires-in-3-2 c = search (rules, place_at)
+
+pub mul-requires-in-3 : goal.mul-requires-in-3
+mul-requires-in-3 c = search widths
+
+pub read_value-requires-in-4 : goal.read_value-requires-in-4
+read_value-requires-in-4 c = search (rules, place_at)
+
+pub read_value-requires-in-4-2 : goal.read_value-requires-in-4-2
+read_value-requires-in-4-2 c = search (rules, place_at)
+
+pub mul-requires-in-4 : goal.mul-requires-in-4
+mul-requires-in-4 c = search widths
+
+pub read_value-requires-in-5 : goal.read_value-requires-in-5
+read_value-requires-in-5 c = search (rules, place_at)
+
+pub read_value-requires-in-5-2 : goal.read_value-requires-in-5-2
+read_value-requires-in-5-2 c = search (rules, place_at)
+
+pub mul-requires-in-5 : goal.mul-requires-in-5
+mul-requires-in-5 c = search widths
+
+pub read_value-requires-in-6 : goal.read_value-requires-in-6
+read_value-requires-in-6 c = search (rules, place_at)
+
+pub read_value-requires-in-6-2 : goal.read_value-requires-in-6-2
+read_value-requires-in-6-2 c = search (rules, place_at)
+
+pub mul-requires-in-6 : goal.mul-requires-in-6
+mul-requires-in-6 c = search widths
+
+pub read_value-requires-in-7 : goal.read_value-requires-in-7
+read_value-requires-in-7 c = search (rules, place_at)
+
+pub read_value-requires-in-7-2 : goal.read_value-requires-in-7-2
+read_value-requires-in-7-2 c = search (rules, place_at)
+
+pub mul-requires-in-7 : goal.mul-requires-in-7
+mul-requires-in-7 c = search widths
+
+pub read_value-requires-in-8 : goal.read_value-requires-in-8
+read_value-requires-in-8 c = search (rules, place_at)
+
+pub read_value-requires-in-8-2 : goal.read_value-requires-in-8-2
+read_value-requires-in-8-2 c = search (rules, place_at)
+
+pub mul-requires-in-8 : goal.mul-requires-in-8
+mul-requires-in-8 c = search widths
+
+pub read_value-requires-in-9 : goal.read_value-requires-in-9
+read_value-requires-in-9 c = search (rules, place_at)
+
+pub read_value-requires-in-9-2 : goal.read_value-requires-in-9-2
+read_value-requires-in-9-2 c = search (rules, place_at)
+
+pub mul-requires-in-9 : goal.mul-requires-in-9
+mul-requires-in-9 c = search widths
+
+pub read_value-requires-in_default : goal.read_value-requires-in_default
+read_value-requires-in_default c = search (rules, place_at, last-float)
+
+pub read_value-requires-in_default-2 : goal.read_value-requires-in_default-2
+read_value-requires-in_default-2 c = search (rules, place_at, last-float)
+
+pub mul-requires-in_default : goal.mul-requires-in_default
+mul-requires-in_default c = search widths
+
+pub returns-in-1 : goal.returns-in-1
+returns-in-1 c = search two-pattern
+
+pub returns-in-2 : goal.returns-in-2
+returns-in-2 c = search two-pattern
+
+pub returns-in-3 : goal.returns-in-3
+returns-in-3 c = search two-pattern
+
+pub returns-in-4 : goal.returns-in-4
+returns-in-4 c = search two-pattern
+
+pub returns-in-5 : goal.returns-in-5
+returns-in-5 c = search two-pattern
+
+pub returns-in-6 : goal.returns-in-6
+returns-in-6 c = search two-pattern
+
+pub returns-in-7 : goal.returns-in-7
+returns-in-7 c = search two-pattern
+
+pub returns-in-8 : goal.returns-in-8
+returns-in-8 c = search two-pattern
+
+pub returns-in-9 : goal.returns-in-9
+returns-in-9 c = search two-pattern
+
+pub returns-in_default : goal.returns-in_default
+returns-in_default c = search (two-pattern, last-float)

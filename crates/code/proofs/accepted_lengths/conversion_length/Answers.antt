@@ -1,0 +1,10 @@
+-- What is cut short is refused, and a type outside 1 to 10, of the source or of the destination.
+use mathlib.Core.Path.{sym, ◌∙◌}
+use native.Mathlib.Omega.{arith}
+use borrow.Author.Tests.{not-true, not-false}
+use borrow.Author.Rules.{rules}
+use Rattle.code.proofs.Laws.{length_whole, length_cut, length-unlisted}
+use Rattle.code.proofs.accepted_lengths.conversion_length.Goals as goal
+
+pub returns-then-code-p-lt-CONVERT : goal.returns-then-code-p-lt-CONVERT
+returns-then-code-p-lt-CONVERT c = length_cut _ _ _ c.requires.1 (omega arith)

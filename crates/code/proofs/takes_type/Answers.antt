@@ -1,0 +1,56 @@
+-- The ranges in the order of the definition; each way out rewrites the tests that led to it.
+use mathlib.Core.Path.{◌≡◌, sym, ◌∙◌}
+use mathlib.Core.Bool.{false}
+use lib.Dec.{eqb}
+use borrow.Author.Tests.{lt-leb, le-leb, eq-eqb, ne_eqb, not-true, not-false}
+use borrow.Author.Rules.{rules}
+use Rattle.verdict.specs.Verdict.{pick, within}
+use Rattle.values.specs.Types.{takes}
+use Rattle.code.proofs.takes_type.Goals as goal
+
+-- past the first three tests the code is in none of their ranges; past the fourth not in its range either
+past : (c : tie.Else3)
+    → (within 16 17 c.before.before.before.before.before.args.code ≡ false)
+    × (within 18 19 c.before.before.before.before.before.args.code ≡ false)
+    × (eqb c.before.before.before.before.before.args.code 20 ≡ false)
+past c = (sym c.before.before.before.before.inside.ensures ∙ c.before.before.before.if1.false, sym c.before.before.inside3.ensures ∙ c.before.if2.false, ne_eqb _ _ c.if3.false)
+
+past-four : (c : tie.Else4) → within 24 27 c.before.before.before.before.before.before.before.args.code ≡ false
+past-four c = sym c.before.inside6.ensures ∙ c.if4.false
+
+pub returns-then-inside : goal.returns-then-inside
+unfolding takes pick
+returns-then-inside c = rw (sym c.inside.ensures, c.if-inside.true, c.inside-then-inside.ensures)
+
+pub returns-then-inside-2 : goal.returns-then-inside-2
+unfolding takes pick
+returns-then-inside-2 c = rw (sym c.inside.ensures, c.if-inside.false, sym c.inside-2.ensures, c.if-inside-2.true, c.inside-then-inside-2.ensures)
+
+pub returns-then-code-eq20 : goal.returns-then-code-eq20
+unfolding takes pick
+returns-then-code-eq20 c = rw (sym c.inside.ensures, c.if-inside.false, sym c.inside-2.ensures, c.if-inside-2.false, eq-eqb _ _ c.if-code-eq20.true, c.inside-then-code-eq20.ensures)
+
+pub returns-then-inside-3 : goal.returns-then-inside-3
+unfolding takes pick
+returns-then-inside-3 c = let p = past c in
+    rw (p.0, p.1, p.2, sym c.inside-3.ensures, c.if-inside-3.true, le-leb _ _ c.if-t-gt8.false)
+
+pub returns-then-not-inside : goal.returns-then-not-inside
+unfolding takes pick
+returns-then-not-inside c = let p = past c in
+    rw (p.0, p.1, p.2, past-four c, sym c.inside-4.ensures, c.if-inside-4.true, sym c.inside-then-inside-4.ensures ∙ not-true _ c.if-not-inside.true)
+
+pub returns-then-inside-4 : goal.returns-then-inside-4
+unfolding takes pick
+returns-then-inside-4 c = let p = past c in
+    rw (p.0, p.1, p.2, past-four c, sym c.inside-4.ensures, c.if-inside-4.true, sym c.inside-then-inside-4.ensures ∙ not-false _ c.if-not-inside.false)
+
+pub returns-then-inside-5 : goal.returns-then-inside-5
+unfolding takes pick
+returns-then-inside-5 c = let p = past c in
+    rw (p.0, p.1, p.2, past-four c, sym c.inside-4.ensures, c.if-inside-4.false, sym c.inside-5.ensures, c.if-inside-5.true)
+
+pub returns : goal.returns
+unfolding takes pick
+returns c = let p = past c in
+    rw (p.0, p.1, p.2, past-four c, sym c.inside-4.ensures, c.if-inside-4.false, sym c.inside-5.ensures, c.if-inside-5.false)
