@@ -16,7 +16,7 @@ use machine::SHARED;
 use taskset::Layout;
 
 // The lengths of the data buffer, shared memory and core table, and each core's greatest count and depth; all 0 where the file is refused.
-#[derive(Drop)]
+#[derive(Clone, Copy)]
 pub struct Taken {
     pub refusal: u8,
     pub buffer: usize,
@@ -127,7 +127,7 @@ fn zeros() -> [u32; 8192]
     [0u32; 8192]
 }
 
-#[derive(Drop)]
+#[derive(Clone, Copy)]
 pub struct Measured {
     pub rise: bool,
     pub count: u32,
@@ -169,7 +169,7 @@ fn measure(code: &[u8]) -> Measured
     }
 }
 
-#[derive(Drop)]
+#[derive(Clone, Copy)]
 pub struct Bounds {
     pub refusal: u8,
     pub count: u32,

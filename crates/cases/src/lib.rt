@@ -31,7 +31,7 @@ fn digit(c: u8) -> u8 {
 }
 
 // How far a field was read: the semicolons before, the digits in it, and the last of them.
-#[derive(Drop)]
+#[derive(Clone, Copy)]
 pub struct Reading {
     pub field: usize,
     pub digits: usize,
@@ -142,7 +142,7 @@ pub fn number(line: &[u8], k: usize) -> usize
 // ---- numbers behind words
 
 // How far a line was read for a number behind a word: the semicolons before, the last word, the blanks behind it, and the number with its digits so far.
-#[derive(Drop)]
+#[derive(Clone, Copy)]
 struct Spelling {
     field: usize,
     word: u64,

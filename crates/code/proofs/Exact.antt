@@ -146,6 +146,7 @@ module _ (c : List ℕ) (l : laid Full (length c) c 0 ≡ 0) where
   ending : {code : ℕ} → OneOf (0 ∷ 1 ∷ []) code → ends code ≡ true
   ending (inl e) = rw e
   ending (inr (inl e)) = rw e
+  ending {code = code} (inr (inr x'')) = elim x'' [ ]
 
   -- `code` ends the code where nothing is left
   last-right : Last c → (k p code : ℕ) → length c ≤ p + k → p ≤ length c → (p < length c → Start c p) → (p ≡ length c → ends code ≡ true)

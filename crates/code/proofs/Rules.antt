@@ -91,6 +91,7 @@ logic-even t (inr (inl e)) = rw e
 logic-even t (inr (inr (inl e))) = rw e
 logic-even t (inr (inr (inr (inl e)))) = rw e
 logic-even t (inr (inr (inr (inr (inl e))))) = rw e
+logic-even t (inr (inr (inr (inr (inr x5))))) = elim x5 [ ]
 
 even-shift : (t : ℕ) → both (within 2 8 t) (eqb (t % 2) 0) ≡ true → OneOf (2 ∷ 4 ∷ 6 ∷ 8 ∷ []) t
 even-shift t e =
@@ -103,6 +104,7 @@ shift-even t (inl e) = rw e
 shift-even t (inr (inl e)) = rw e
 shift-even t (inr (inr (inl e))) = rw e
 shift-even t (inr (inr (inr (inl e)))) = rw e
+shift-even t (inr (inr (inr (inr x4)))) = elim x4 [ ]
 
 module _ (code t : ℕ) where
   out : (lo hi : ℕ) → (code < lo) ⊎ (hi < code) → within lo hi code ≡ false

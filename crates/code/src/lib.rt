@@ -36,7 +36,7 @@ pub fn word(s: &[u8], place: usize) -> u16
 }
 
 // What the machine that loads a file carries: all of document 01, or data of 1,024 bytes at most, no 64-bit numbers and no floats.
-#[derive(Drop)]
+#[derive(Clone, Copy)]
 pub enum Profile {
     Full,
     Small,
@@ -45,7 +45,7 @@ pub enum Profile {
 // ---- instructions
 
 // An instruction as the definitions have it (`instruction_at`). Judging and stepping read their operands where they stand, and make none.
-#[derive(Drop)]
+#[derive(Clone, Copy)]
 pub enum Instruction {
     Return,
     // T

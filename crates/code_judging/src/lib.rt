@@ -14,7 +14,7 @@ ghost use Rattle.code.specs.Judging.{Marked, Asked, TargetAsked, Cleared, Pass, 
 use code::{Profile, accepted_length, is_carried, word};
 
 // What one pass over the instructions finds: the refusal, the last code byte, and whether a T lies outside the map.
-#[derive(Drop)]
+#[derive(Clone, Copy)]
 pub struct Laid {
     pub refusal: u8,
     pub last: u8,

@@ -7,7 +7,7 @@ mod storing;
 pub use storing::{put, store_pattern};
 
 // The operands of a typed command: its type, the place of the result, and those of the sources. NOT has one source, which stands for both.
-#[derive(Drop)]
+#[derive(Clone, Copy)]
 pub struct Operands {
     pub kind: u8,
     pub to: usize,
@@ -16,7 +16,7 @@ pub struct Operands {
 }
 
 // What a typed command answers: it is done; an operand is beyond the data; the divisor is zero.
-#[derive(Drop)]
+#[derive(Clone, Copy)]
 pub enum Performed {
     Done,
     Beyond,

@@ -2,6 +2,7 @@
 // state, and prints the data of each core and shared memory in lines of eight bytes, up to the last line that has a byte other than 0.
 #![tactic(auto)]
 
+use input_files::read_file;
 use taskset::{CoreLayout, Layout};
 
 fn text(s: &[u8]) {
@@ -166,25 +167,13 @@ fn run_parts(file: &[u8], f: usize, trace: &[u8], t: usize, order: &[u8], o: usi
     run_files(&file[a..f], &trace[a..t], &order[a..o]);
 }
 
-// ---- the files
-
-// How many bytes of a file there are, up to the room for them; a missing one counts as empty.
-fn read(name: &[u8], into: &mut [u8]) -> usize {
-    let fd = os::open_read(name);
-    if fd < 0 {
-        return 0;
-    }
-    let n = io::read_full(fd, into);
-    libc::close(fd);
-    n
-}
-
-fn main() {
+// A missing file counts as empty.
+fn main(rt: HostRuntime) {
     let mut file = [0u8; 82800];
     let mut trace = [0u8; 4096];
     let mut order = [0u8; 4096];
-    let f = read(b"task.bin", &mut file);
-    let t = read(b"trace.bin", &mut trace);
-    let o = read(b"order.bin", &mut order);
+    let f = read_file(&rt, "task.bin", &mut file);
+    let t = read_file(&rt, "trace.bin", &mut trace);
+    let o = read_file(&rt, "order.bin", &mut order);
     run_parts(&file, f, &trace, t, &order, o);
 }

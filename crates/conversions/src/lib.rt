@@ -16,14 +16,14 @@ ghost use Rattle.conversions.specs.Data.{ended, settled, converting};
 use values::Value;
 
 // A converted operand, or that the destination can't hold it.
-#[derive(Drop)]
+#[derive(Clone, Copy)]
 pub enum Converted {
     Gives(Value),
     NotHeld,
 }
 
 // How a conversion ends: it is done; an operand is beyond the data; the destination can't hold the result.
-#[derive(Drop)]
+#[derive(Clone, Copy)]
 pub enum Conversion {
     Done,
     Beyond,

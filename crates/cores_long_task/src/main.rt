@@ -1,6 +1,6 @@
 // `cores` on a task set of 33,601 bytes.
 #![tactic(auto)]
 
-fn main() {
-    terminal::print_cores();
+fn main(rt: HostRuntime) {
+    terminal::print_cores(&rt);
 }

@@ -1,6 +1,6 @@
 // `cores` on a trace of 4,097 bytes.
 #![tactic(auto)]
 
-fn main() {
-    terminal::print_cores();
+fn main(rt: HostRuntime) {
+    terminal::print_cores(&rt);
 }

@@ -153,7 +153,7 @@ fn any_ring(file: &[u8]) -> bool
 // ---- the call
 
 // What the lines of a task set file are.
-#[derive(Drop)]
+#[derive(Clone, Copy)]
 pub enum Lines {
     Refused(u8), // the file's refusal number
     Free, // no two cores read each other, and no ring: runs end as an order of whole cycles

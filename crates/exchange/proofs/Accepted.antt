@@ -22,6 +22,7 @@ width_few n (inl e) = omega arith
 width_few n (inr (inl e)) = omega arith
 width_few n (inr (inr (inl e))) = omega arith
 width_few n (inr (inr (inr (inl e)))) = omega arith
+width_few n (inr (inr (inr (inr x4)))) = elim x4 [ ]
 
 -- bit k or bit 4 + k names core k
 names : (k : ℕ) (v : Variable) → k < 4 → (has_bit k v ≡ true) ⊎ (has_bit (4 + k) v ≡ true) → T (used_by k v)

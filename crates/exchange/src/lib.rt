@@ -16,7 +16,7 @@ ghost use Rattle.exchange.specs.Laid.{Laid, takes_part, exchange_bytes, RecordAt
 ghost use Rattle.exchange.specs.Carried.{Lies, BytesCarried};
 
 // The variable's record in the file, and the byte within the variable.
-#[derive(Drop)]
+#[derive(Clone, Copy)]
 pub struct Cursor {
     pub record: usize,
     pub byte: usize,

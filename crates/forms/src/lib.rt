@@ -7,7 +7,7 @@ ghost use Rattle.memory.specs.Memory.{splice, part};
 ghost use Rattle.forms.specs.Forms.{ConversionLeft, to_new_call, to_old_call};
 
 // The refusal number, 0 for none, and how many bytes were written.
-#[derive(Drop)]
+#[derive(Clone, Copy)]
 pub struct FormAnswer {
     pub refusal: u8,
     pub length: usize,

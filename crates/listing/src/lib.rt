@@ -139,7 +139,7 @@ fn write_takings(out: &mut [u8], at: usize, list: &[u8], taken: usize) -> usize
 // ---- the three texts
 
 // What a writer answers: the length of the text, or a refusal with its number.
-#[derive(Drop)]
+#[derive(Clone, Copy)]
 pub enum Written {
     Text(usize),
     Refused(u8),

@@ -47,7 +47,7 @@ pub fn load_lent(profile: Profile, file: &[u8], buffer: usize, shared: usize, ro
 // ---- the call, after what loading refused
 
 // The refusal number; where there is none, what the call goes on with.
-#[derive(Drop)]
+#[derive(Clone, Copy)]
 pub struct Judgement {
     pub refusal: u8,
     pub layout: Layout,

@@ -62,7 +62,7 @@ pub fn buffer_size(file: &[u8]) -> usize
 // ---- the core table
 
 // The answer on the next core to move: the call's refusal with its number, or what the core table says.
-#[derive(Drop)]
+#[derive(Clone, Copy)]
 pub enum Next {
     Refused(u8),
     Found(Moving),

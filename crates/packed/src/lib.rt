@@ -19,7 +19,7 @@ fn weight_at(i: usize) -> u64
 }
 
 // The lowest d decimal digits of n, four bits each, and what is left of n.
-#[derive(Drop)]
+#[derive(Clone, Copy)]
 struct Digits {
     pub packed: u64,
     pub rest: u64,

@@ -58,7 +58,7 @@ fn begun() -> Registers {
 }
 
 // The registers after an instruction of a cycle that goes on, or of one that has ended.
-#[derive(Drop)]
+#[derive(Clone, Copy)]
 enum After {
     GoesOn(Registers),
     Ended(Registers),

@@ -54,7 +54,12 @@ span-distinct (suc n) a b = (λ m h. let i = within n (suc a) (suc b) m h in ome
 span-in : (n a b i : ℕ) → i < n → In record { source = a + i; target = b + i } (span n a b)
 span-in zero a b i h = omega arith
 span-in (suc n) a b zero h = inl (rw (add-zero a, add-zero b))
-span-in (suc n) a b (suc i) h = inr (rw (add-suc a i, add-suc b i, ← suc-add a i, ← suc-add b i) (span-in n (suc a) (suc b) i (omega arith)))
+span-in (suc n) a b (suc i) h =
+    let p : suc a + i ≡ a + suc i = omega arith in
+    let q : suc b + i ≡ b + suc i = omega arith in
+    inr
+    (subst (λ (x : ℕ). In record { source = x; target = b + suc i } (span n (suc a) (suc b))) p
+    (subst (λ (y : ℕ). In record { source = suc a + i; target = y } (span n (suc a) (suc b))) q (span-in n (suc a) (suc b) i (omega arith))))
 
 -- ---- all variables' bytes
 

@@ -1,6 +1,6 @@
 -- Who stands in a list of core numbers, and how many can: a list of different numbers below n has at most n.
 -- Not here: that the machine's line stays such a list (`Lined`). Assumes nothing.
-use mathlib.Core.Path.{◌≡◌, refl}
+use mathlib.Core.Path.{◌≡◌, refl, sym, subst}
 use mathlib.Core.Logic.{◌≢◌, ◌⊎◌, inl, inr}
 use mathlib.Core.Bool.{Bool, true, false}
 use mathlib.Core.List.{List, [], ◌∷◌, ◌++◌}
@@ -53,7 +53,7 @@ line-append k j (x ∷ xs) h = go (line-cases k x (xs ++ (j ∷ [])) h) (line-ap
     next (inr e) = inr e
 
     go : (x ≡ k) ⊎ T (in_line k (xs ++ (j ∷ []))) → (T (in_line k (xs ++ (j ∷ []))) → T (in_line k xs) ⊎ (j ≡ k)) → T (in_line k (x ∷ xs)) ⊎ (j ≡ k)
-    go (inl e) again = inl (rw (← e) (line-here x xs))
+    go (inl e) again = inl (subst (λ (z : ℕ). T (in_line z (x ∷ xs))) e (line-here x xs))
     go (inr f) again = next (again f)
 
 pub line-more : (k j : ℕ) (xs : List ℕ) → T (in_line k xs) → T (in_line k (xs ++ (j ∷ [])))
@@ -72,7 +72,7 @@ once-append j (x ∷ xs) o e =
   where
     go : T (in_line x xs) ⊎ (j ≡ x) → ⊥
     go (inl h) = false-T (in_line x xs) o.0 h
-    go (inr f) = false-T (in_line j (x ∷ xs)) e (rw f (line-here x xs))
+    go (inr f) = false-T (in_line j (x ∷ xs)) e (subst (λ (z : ℕ). T (in_line z (x ∷ xs))) (sym f) (line-here x xs))
 
 -- ---- a list of different numbers below n has at most n
 
@@ -95,7 +95,7 @@ without_in n j [] h = h
 without_in n j (x ∷ xs) h = go (eqb x n) h (without_in n j xs)
   where
     later : (T (in_line j (without n xs)) → T (in_line j xs)) → (x ≡ j) ⊎ T (in_line j (without n xs)) → T (in_line j (x ∷ xs))
-    later again (inl e) = rw (← e) (line-here x xs)
+    later again (inl e) = subst (λ (z : ℕ). T (in_line z (x ∷ xs))) e (line-here x xs)
     later again (inr f) = line_on j x xs (again f)
 
     go : (b : Bool) → T (in_line j (pick b xs (x ∷ without n xs))) → (T (in_line j (without n xs)) → T (in_line j xs)) → T (in_line j (x ∷ xs))

@@ -35,7 +35,7 @@ pub const CONVERSION: u8 = 6;
 
 // A core's registers, in C's layout for the lent core table. The call stack stands beside them, so that a step moves no array.
 #[repr(C)]
-#[derive(Drop)]
+#[derive(Clone, Copy)]
 pub struct Registers {
     pub mode: u8,
     pub counter: u16, // program counter
@@ -49,7 +49,7 @@ pub struct Registers {
 }
 
 // Sixteen return places and the data offsets that go with them; entries from the depth on are 0.
-#[derive(Drop)]
+#[derive(Clone, Copy)]
 pub struct Stack {
     pub places: [u16; 16],
     pub offsets: [u16; 16],
@@ -57,7 +57,7 @@ pub struct Stack {
 
 // What one instruction answers: a fault with its flag bit; the place where execution goes on; a call with the place after it, its
 // target and its data offset; RETURN.
-#[derive(Drop)]
+#[derive(Clone, Copy)]
 pub enum Outcome {
     Fault(u8),
     Next(u16),

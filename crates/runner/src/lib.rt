@@ -6,7 +6,7 @@ use protocol::Registers;
 use states::Held;
 
 // What a call that moves the machine answers: the refusal number, 0 for none; how many takings it wrote; the state.
-#[derive(Drop)]
+#[derive(Clone, Copy)]
 pub struct RunAnswer {
     pub refusal: u8,
     pub taken: usize,
@@ -14,7 +14,7 @@ pub struct RunAnswer {
 }
 
 // What a stretch of instructions leaves: the step after them, and what they change of the registers. A copied structure waits for narrow stores.
-#[derive(Drop)]
+#[derive(Clone, Copy)]
 pub struct Reached {
     pub step: usize,
     pub mode: u8,
@@ -26,7 +26,7 @@ pub struct Reached {
 }
 
 // What a single instruction leaves of the registers: mostly the next place alone, and one more counted.
-#[derive(Drop)]
+#[derive(Clone, Copy)]
 pub enum Single {
     Advanced(u16),
     Otherwise(Registers),

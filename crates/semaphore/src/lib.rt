@@ -8,7 +8,7 @@ ghost use Rattle.semaphore.specs.Line.{semaphore_of, waits_at, line_of, Lined};
 
 // The semaphore and its line, the first core first. Entries from `waiting` on say nothing; they are 0 after a call.
 #[repr(C)]
-#[derive(Drop)]
+#[derive(Clone, Copy)]
 pub struct Semaphore {
     pub holder: u8, // 0 where it is free, k + 1 where core k holds it
     pub waiting: u8, // cores in line
@@ -63,7 +63,7 @@ fn line_entry(m: Semaphore, i: usize) -> u8
 // ---- the semaphore of a run
 
 // With who stands in line, so that a waiting core is told from one byte or two.
-#[derive(Drop)]
+#[derive(Clone, Copy)]
 pub struct Line {
     pub semaphore: Semaphore,
     pub standing: [bool; 4],

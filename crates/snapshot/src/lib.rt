@@ -21,7 +21,7 @@ use table_state::{record_of, registers_in};
 // A record of the core table: a core's registers and call stack, in 84 bytes of which each belongs to a field, so that what a call says of the
 // fields it says of every byte. Spare bytes are never judged, and a record that a call writes has zeros there.
 #[repr(C)]
-#[derive(Drop)]
+#[derive(Clone, Copy)]
 pub struct CoreRecord {
     pub time: u32,
     pub counter: u16,
@@ -38,7 +38,7 @@ pub struct CoreRecord {
 }
 
 // A table copied out: how many records it has, 255 for more, and its first four; zeros where it has fewer.
-#[derive(Drop)]
+#[derive(Clone, Copy)]
 pub struct Table {
     pub count: u8,
     pub cores: [CoreRecord; 4],
@@ -47,7 +47,7 @@ pub struct Table {
 // ---- what a call leaves of a table
 
 // The refusal number, the table's first four records, and the semaphore.
-#[derive(Drop)]
+#[derive(Clone, Copy)]
 pub struct After {
     pub refusal: u8,
     pub a: CoreRecord,
@@ -120,7 +120,7 @@ pub fn short_refusal(profile: Profile, file: &[u8]) -> u8
 // ---- the ring of cores, and the test of one record
 
 // What a scan of the table needs beside its records. Where the call is refused there are no cores to scan.
-#[derive(Drop)]
+#[derive(Clone, Copy)]
 pub struct Ring {
     pub refusal: u8,
     pub cores: u8,

@@ -15,7 +15,7 @@ use semaphore::Semaphore;
 use taskset::{CoreLayout, Layout, TraceLayout};
 
 // The state of up to four cores. The call stack of core k is entries 16k to 16k + 15 of `places` and `offsets`.
-#[derive(Drop)]
+#[derive(Clone, Copy)]
 pub struct Held {
     pub count: u8, // records of the core table
     pub semaphore: Semaphore,
@@ -46,7 +46,7 @@ pub fn offsets_of(s: Held) -> [u16; 64]
 // ---- the cores' tasks
 
 // What a step needs of a core's task, read from file and trace once a run: where its parts stand in the file and the data buffer, its exchanges and its input records.
-#[derive(Drop)]
+#[derive(Clone, Copy)]
 pub struct CoreTask {
     pub reads: usize, // bytes of its reading exchange
     pub writes: usize, // bytes of its writing exchange
@@ -110,7 +110,7 @@ pub fn core_tasks(file: &[u8], trace: &[u8], layout: Layout, traces: TraceLayout
 // ---- trace and state of an accepted file
 
 // What judging a trace and then a state finds: the refusal, and the cores' tasks where the trace is sound.
-#[derive(Drop)]
+#[derive(Clone, Copy)]
 pub struct Prepared {
     pub refusal: u8,
     pub tasks: [CoreTask; 4],

@@ -23,7 +23,7 @@ use protocol::{READING, Registers, WRITING};
 use states::CoreTask;
 
 // What one step besides the instructions changes, apart from memory; the run applies it to the core in its table.
-#[derive(Drop)]
+#[derive(Clone, Copy)]
 pub enum Exchange {
     // nothing: the input records are spent, or the core is stopped
     Rests,

@@ -13,7 +13,7 @@ use semaphore::Semaphore;
 use states::{CoreTask, Held};
 
 // The core that moves next; none, where every core is stopped or out of records.
-#[derive(Drop)]
+#[derive(Clone, Copy)]
 pub enum Moving {
     Core(u8),
     Nothing,

@@ -61,7 +61,7 @@ pub fn run_table(
 // ---- the registers of one core
 
 // What a step answers that is lent the registers of its core: these, and the answer by value.
-#[derive(Drop)]
+#[derive(Clone, Copy)]
 pub struct Stepped {
     pub registers: Registers,
     pub ran: RunAnswer,

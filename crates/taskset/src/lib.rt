@@ -14,7 +14,7 @@ pub const OLD_MARK: [u8; 4] = *b"MCS1";
 pub const NEW_MARK: [u8; 4] = *b"MCS2";
 
 // Where a core's data stand in the data buffer, and its code in the file.
-#[derive(Drop)]
+#[derive(Clone, Copy)]
 pub struct CoreLayout {
     pub size: usize, // of the data
     pub inputs: usize, // bytes of an input record, the first of the data
@@ -24,7 +24,7 @@ pub struct CoreLayout {
     pub length: usize, // of the code
 }
 
-#[derive(Drop)]
+#[derive(Clone, Copy)]
 pub struct Layout {
     pub cores: usize,
     pub variables: usize,
@@ -32,7 +32,7 @@ pub struct Layout {
     pub core: [CoreLayout; 4],
 }
 
-#[derive(Drop)]
+#[derive(Clone, Copy)]
 pub struct Loaded {
     pub refusal: u8,
     pub layout: Layout,
@@ -55,7 +55,7 @@ pub fn no_core() -> CoreLayout
 // ---- the trace
 
 // Where a trace has its records: record i of core k stands at first[k] + i * (4 + inputs of core k).
-#[derive(Drop)]
+#[derive(Clone, Copy)]
 pub struct TraceLayout {
     pub refusal: u8,
     pub count: [u16; 4],

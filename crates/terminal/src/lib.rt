@@ -3,10 +3,9 @@
 // the most or missing.
 #![tactic(auto)]
 
-ghost use Rattle.io.specs.Counts.{IsPrefixLen};
-
-use libc::STDOUT_FILENO;
+use input_files::read_file;
 use listing::Written;
+use std::rt::Files;
 
 // One byte more than the most, so that a longer file is seen.
 const FILE: usize = console::MOST_FILE + 1;
@@ -15,37 +14,27 @@ const TRACE: usize = console::MOST_TRACE + 1;
 
 const ORDER: usize = console::MOST_ORDER + 1;
 
-// Reads a file from its start until `bytes` is full or the file ends, and answers how many bytes came: none of a missing file.
-fn read_file(path: &[u8], bytes: &mut [u8]) -> usize
-    ensures { IsPrefixLen result bytes.new }
-{
-    let descriptor = os::open_read(path);
-    if descriptor < 0 {
-        return 0;
-    }
-    let n = io::read_full(descriptor, bytes);
-    libc::close(descriptor);
-    n
-}
+// The descriptor of standard output.
+const OUTPUT: i32 = 1;
 
 // The text that was written. There always is one: TEXT bytes hold any.
 fn print(written: Written, out: &[u8]) {
     if let Written::Text(n) = written {
         if n <= out.len() {
             let start = 0;
-            io::write_all(STDOUT_FILENO, &out[start..n]);
+            io::write_all(OUTPUT, &out[start..n]);
         }
     }
 }
 
-pub fn print_cores() {
+pub fn print_cores<R: Files>(rt: &R) {
     let mut file = [0u8; FILE];
     let mut trace = [0u8; TRACE];
     let mut order = [0u8; ORDER];
     let mut out = [0u8; console::TEXT];
-    let f = read_file(b"task.bin", &mut file);
-    let t = read_file(b"trace.bin", &mut trace);
-    let o = read_file(b"order.bin", &mut order);
+    let f = read_file(rt, "task.bin", &mut file);
+    let t = read_file(rt, "trace.bin", &mut trace);
+    let o = read_file(rt, "order.bin", &mut order);
     let written = console::output(&file[..f], &trace[..t], &order[..o], &mut out);
     print(written, &out);
 }

@@ -11,7 +11,7 @@ ghost use Rattle.values.specs.Width.{Width, pattern, signed, wrap, signed_remain
 ghost use Rattle.values.specs.Values.{pattern_of, read_value, truth_in, signed_in, unsigned_in, real_in, lreal_in};
 
 // A typed operand: a truth value, a signed or unsigned whole number, a REAL or an LREAL.
-#[derive(Drop)]
+#[derive(Clone, Copy)]
 pub enum Value {
     Bool(bool),
     Signed(i64),

@@ -2,7 +2,9 @@
 use super::names::{code_of, print_name};
 use super::outcomes::agrees;
 use super::vector_line::{Line, fresh, longer};
-use libc::STDOUT_FILENO;
+
+// The descriptor of standard output.
+pub const OUTPUT: i32 = 1;
 
 // Counts a whole line under its command's code byte.
 fn count(l: Line, compared: &mut [u64; 64], differed: &mut [u64; 64]) {
@@ -41,11 +43,11 @@ pub fn count_lines(
 
 fn print_count(code: u64, compared: u64, differed: u64) {
     print_name(code);
-    io::write_all(STDOUT_FILENO, b": ");
-    io::print_decimal(STDOUT_FILENO, compared);
-    io::write_all(STDOUT_FILENO, b" compared, ");
-    io::print_decimal(STDOUT_FILENO, differed);
-    io::write_all(STDOUT_FILENO, b" differed\n");
+    io::write_all(OUTPUT, b": ");
+    io::print_decimal(OUTPUT, compared);
+    io::write_all(OUTPUT, b" compared, ");
+    io::print_decimal(OUTPUT, differed);
+    io::write_all(OUTPUT, b" differed\n");
 }
 
 pub fn print_counts(compared: &[u64; 64], differed: &[u64; 64]) {

@@ -11,8 +11,9 @@ mod vector_line;
 
 ghost use Rattle.std.specs.Prelude.{◌<◌};
 
-use counts::{count_lines, print_counts};
-use libc::STDOUT_FILENO;
+use counts::{OUTPUT, count_lines, print_counts};
+use std::fs::File;
+use std::io::Read;
 use vector_line::fresh;
 
 // The turns left after one that read n bytes: none at the end of the file. A proved loop has to end, and nothing says that a file does.
@@ -24,34 +25,29 @@ fn turns_left(turns: u64, n: usize) -> u64
 }
 
 // Reads a file whole, in fewer turns than are given, and prints its counts.
-fn examine(path: &[u8]) {
-    io::write_all(STDOUT_FILENO, path);
-    io::write_all(STDOUT_FILENO, b"\n");
-    let fd = os::open_read(path);
-    if fd < 0 {
-        os::fail(path);
-        return;
-    }
+fn examine(rt: &HostRuntime, path: &str) -> std::io::Result<()> {
+    io::write_all(OUTPUT, path.as_bytes());
+    io::write_all(OUTPUT, b"\n");
+    let mut file = File::open(rt, path)?;
     let mut compared = [0u64; 64];
     let mut differed = [0u64; 64];
     let mut line = fresh();
     let mut turns: u64 = 1000000;
     while 0 < turns {
         let mut buffer = [0u8; 4096];
-        let got = libc::read(fd, &mut buffer);
-        let n = io::count(got, &buffer);
+        let n = file.read(&mut buffer)?;
         line = count_lines(&buffer[..n], line, &mut compared, &mut differed);
         turns = turns_left(turns, n);
     }
-    libc::close(fd);
     print_counts(&compared, &differed);
+    Ok(())
 }
 
-fn main() {
-    examine(b"float-vectors.txt");
-    examine(b"float-specials.txt");
-    examine(b"comparisons.txt");
-    examine(b"whole-numbers.txt");
-    examine(b"conversions.txt");
-    examine(b"packed.txt");
+fn main(rt: HostRuntime) -> std::io::Result<()> {
+    examine(&rt, "float-vectors.txt")?;
+    examine(&rt, "float-specials.txt")?;
+    examine(&rt, "comparisons.txt")?;
+    examine(&rt, "whole-numbers.txt")?;
+    examine(&rt, "conversions.txt")?;
+    examine(&rt, "packed.txt")
 }

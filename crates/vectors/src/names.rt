@@ -1,5 +1,5 @@
 // Names of commands and types: read as the number that their letters spell, and printed.
-use libc::STDOUT_FILENO;
+use super::counts::OUTPUT;
 
 // The code byte of a command by its name, 0 for none.
 pub fn code_of(op: u64) -> u8 {
@@ -51,28 +51,28 @@ pub fn type_of(kind: u64) -> u8 {
 
 pub fn print_name(code: u64) {
     match code {
-        16 => io::write_all(STDOUT_FILENO, b"add"),
-        17 => io::write_all(STDOUT_FILENO, b"sub"),
-        18 => io::write_all(STDOUT_FILENO, b"mul"),
-        19 => io::write_all(STDOUT_FILENO, b"div"),
-        20 => io::write_all(STDOUT_FILENO, b"mod"),
-        24 => io::write_all(STDOUT_FILENO, b"and"),
-        25 => io::write_all(STDOUT_FILENO, b"or"),
-        26 => io::write_all(STDOUT_FILENO, b"xor"),
-        27 => io::write_all(STDOUT_FILENO, b"not"),
-        28 => io::write_all(STDOUT_FILENO, b"shl"),
-        29 => io::write_all(STDOUT_FILENO, b"shr"),
-        30 => io::write_all(STDOUT_FILENO, b"rol"),
-        31 => io::write_all(STDOUT_FILENO, b"ror"),
-        32 => io::write_all(STDOUT_FILENO, b"gt"),
-        33 => io::write_all(STDOUT_FILENO, b"ge"),
-        34 => io::write_all(STDOUT_FILENO, b"eq"),
-        35 => io::write_all(STDOUT_FILENO, b"le"),
-        36 => io::write_all(STDOUT_FILENO, b"lt"),
-        37 => io::write_all(STDOUT_FILENO, b"ne"),
-        43 => io::write_all(STDOUT_FILENO, b"convert"),
-        44 => io::write_all(STDOUT_FILENO, b"pack"),
-        45 => io::write_all(STDOUT_FILENO, b"unpack"),
-        _ => io::write_all(STDOUT_FILENO, b"unknown"),
+        16 => io::write_all(OUTPUT, b"add"),
+        17 => io::write_all(OUTPUT, b"sub"),
+        18 => io::write_all(OUTPUT, b"mul"),
+        19 => io::write_all(OUTPUT, b"div"),
+        20 => io::write_all(OUTPUT, b"mod"),
+        24 => io::write_all(OUTPUT, b"and"),
+        25 => io::write_all(OUTPUT, b"or"),
+        26 => io::write_all(OUTPUT, b"xor"),
+        27 => io::write_all(OUTPUT, b"not"),
+        28 => io::write_all(OUTPUT, b"shl"),
+        29 => io::write_all(OUTPUT, b"shr"),
+        30 => io::write_all(OUTPUT, b"rol"),
+        31 => io::write_all(OUTPUT, b"ror"),
+        32 => io::write_all(OUTPUT, b"gt"),
+        33 => io::write_all(OUTPUT, b"ge"),
+        34 => io::write_all(OUTPUT, b"eq"),
+        35 => io::write_all(OUTPUT, b"le"),
+        36 => io::write_all(OUTPUT, b"lt"),
+        37 => io::write_all(OUTPUT, b"ne"),
+        43 => io::write_all(OUTPUT, b"convert"),
+        44 => io::write_all(OUTPUT, b"pack"),
+        45 => io::write_all(OUTPUT, b"unpack"),
+        _ => io::write_all(OUTPUT, b"unknown"),
     };
 }

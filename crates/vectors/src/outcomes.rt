@@ -6,7 +6,7 @@ use super::vector_line::Line;
 use commands::{Operands, Performed};
 use conversions::Conversion;
 
-#[derive(Drop)]
+#[derive(Clone, Copy)]
 enum Outcome {
     Unknown,
     Fault,

@@ -3,7 +3,7 @@ ghost use Rattle.std.specs.Prelude.{◌<◌};
 
 // What is known of a line `op type a b result` when some of it is read. A name is the number that its letters spell. Of a fault the result is
 // `-`; b of a conversion is the number of its to-type; a line that starts with `#` is a comment.
-#[derive(Drop)]
+#[derive(Clone, Copy)]
 pub struct Line {
     pub field: u8,
     pub op: u64,

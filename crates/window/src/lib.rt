@@ -10,21 +10,21 @@ ghost use Rattle.window.specs.Window.{shown_place, window_refusal, window_found,
 use taskset::Layout;
 
 // Which of a core's two memories is shown.
-#[derive(Drop)]
+#[derive(Clone, Copy)]
 pub enum Shown {
     Code,
     Data,
 }
 
 // Where a core's code stands in the file, or its data in the data buffer.
-#[derive(Drop)]
+#[derive(Clone, Copy)]
 pub struct Place {
     pub base: usize,
     pub size: usize,
 }
 
 // What a window is found to be: the refusal number, and where its stretch begins and ends; zeros where it is refused.
-#[derive(Drop)]
+#[derive(Clone, Copy)]
 pub struct Found {
     pub refusal: u8,
     pub from: usize,

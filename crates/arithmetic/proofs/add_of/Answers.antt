@@ -7,133 +7,177 @@ use Rattle.values.proofs.Commands.{place_at, two-pattern, last-time, widths}
 use Rattle.arithmetic.proofs.add_of.Goals as goal
 
 pub read_value-requires : goal.read_value-requires
+unfolding takes pick result result_type width_of
 read_value-requires c = search (rules, place_at)
 
 pub read_value-requires-in-1 : goal.read_value-requires-in-1
+unfolding takes pick result result_type width_of
 read_value-requires-in-1 c = search (rules, place_at)
 
 pub add-requires : goal.add-requires
+unfolding takes pick result result_type width_of
 add-requires c = search widths
 
 pub read_value-requires-in-2 : goal.read_value-requires-in-2
+unfolding takes pick result result_type width_of
 read_value-requires-in-2 c = search (rules, place_at)
 
 pub read_value-requires-in-2-2 : goal.read_value-requires-in-2-2
+unfolding takes pick result result_type width_of
 read_value-requires-in-2-2 c = search (rules, place_at)
 
 pub add-requires-in-2 : goal.add-requires-in-2
+unfolding takes pick result result_type width_of
 add-requires-in-2 c = search widths
 
 pub read_value-requires-in-3 : goal.read_value-requires-in-3
+unfolding takes pick result result_type width_of
 read_value-requires-in-3 c = search (rules, place_at)
 
 pub read_value-requires-in-3-2 : goal.read_value-requires-in-3-2
+unfolding takes pick result result_type width_of
 read_value-requires-in-3-2 c = search (rules, place_at)
 
 pub add-requires-in-3 : goal.add-requires-in-3
+unfolding takes pick result result_type width_of
 add-requires-in-3 c = search widths
 
 pub read_value-requires-in-4 : goal.read_value-requires-in-4
+unfolding takes pick result result_type width_of
 read_value-requires-in-4 c = search (rules, place_at)
 
 pub read_value-requires-in-4-2 : goal.read_value-requires-in-4-2
+unfolding takes pick result result_type width_of
 read_value-requires-in-4-2 c = search (rules, place_at)
 
 pub add-requires-in-4 : goal.add-requires-in-4
+unfolding takes pick result result_type width_of
 add-requires-in-4 c = search widths
 
 pub read_value-requires-in-5 : goal.read_value-requires-in-5
+unfolding takes pick result result_type width_of
 read_value-requires-in-5 c = search (rules, place_at)
 
 pub read_value-requires-in-5-2 : goal.read_value-requires-in-5-2
+unfolding takes pick result result_type width_of
 read_value-requires-in-5-2 c = search (rules, place_at)
 
 pub add-requires-in-5 : goal.add-requires-in-5
+unfolding takes pick result result_type width_of
 add-requires-in-5 c = search widths
 
 pub read_value-requires-in-6 : goal.read_value-requires-in-6
+unfolding takes pick result result_type width_of
 read_value-requires-in-6 c = search (rules, place_at)
 
 pub read_value-requires-in-6-2 : goal.read_value-requires-in-6-2
+unfolding takes pick result result_type width_of
 read_value-requires-in-6-2 c = search (rules, place_at)
 
 pub add-requires-in-6 : goal.add-requires-in-6
+unfolding takes pick result result_type width_of
 add-requires-in-6 c = search widths
 
 pub read_value-requires-in-7 : goal.read_value-requires-in-7
+unfolding takes pick result result_type width_of
 read_value-requires-in-7 c = search (rules, place_at)
 
 pub read_value-requires-in-7-2 : goal.read_value-requires-in-7-2
+unfolding takes pick result result_type width_of
 read_value-requires-in-7-2 c = search (rules, place_at)
 
 pub add-requires-in-7 : goal.add-requires-in-7
+unfolding takes pick result result_type width_of
 add-requires-in-7 c = search widths
 
 pub read_value-requires-in-8 : goal.read_value-requires-in-8
+unfolding takes pick result result_type width_of
 read_value-requires-in-8 c = search (rules, place_at)
 
 pub read_value-requires-in-8-2 : goal.read_value-requires-in-8-2
+unfolding takes pick result result_type width_of
 read_value-requires-in-8-2 c = search (rules, place_at)
 
 pub add-requires-in-8 : goal.add-requires-in-8
+unfolding takes pick result result_type width_of
 add-requires-in-8 c = search widths
 
 pub read_value-requires-in-9 : goal.read_value-requires-in-9
+unfolding takes pick result result_type width_of
 read_value-requires-in-9 c = search (rules, place_at)
 
 pub read_value-requires-in-9-2 : goal.read_value-requires-in-9-2
+unfolding takes pick result result_type width_of
 read_value-requires-in-9-2 c = search (rules, place_at)
 
 pub add-requires-in-9 : goal.add-requires-in-9
+unfolding takes pick result result_type width_of
 add-requires-in-9 c = search widths
 
 pub read_value-requires-in-10 : goal.read_value-requires-in-10
+unfolding takes pick result result_type width_of
 read_value-requires-in-10 c = search (rules, place_at)
 
 pub read_value-requires-in-10-2 : goal.read_value-requires-in-10-2
+unfolding takes pick result result_type width_of
 read_value-requires-in-10-2 c = search (rules, place_at)
 
 pub add-requires-in-10 : goal.add-requires-in-10
+unfolding takes pick result result_type width_of
 add-requires-in-10 c = search widths
 
 pub read_value-requires-in_default : goal.read_value-requires-in_default
+unfolding takes pick result result_type width_of
 read_value-requires-in_default c = search (rules, place_at, last-time)
 
 pub read_value-requires-in_default-2 : goal.read_value-requires-in_default-2
+unfolding takes pick result result_type width_of
 read_value-requires-in_default-2 c = search (rules, place_at, last-time)
 
 pub add-requires-in_default : goal.add-requires-in_default
+unfolding takes pick result result_type width_of
 add-requires-in_default c = search widths
 
 pub returns-in-1 : goal.returns-in-1
+unfolding takes pick result result_type width_of
 returns-in-1 c = search two-pattern
 
 pub returns-in-2 : goal.returns-in-2
+unfolding takes pick result result_type width_of
 returns-in-2 c = search two-pattern
 
 pub returns-in-3 : goal.returns-in-3
+unfolding takes pick result result_type width_of
 returns-in-3 c = search two-pattern
 
 pub returns-in-4 : goal.returns-in-4
+unfolding takes pick result result_type width_of
 returns-in-4 c = search two-pattern
 
 pub returns-in-5 : goal.returns-in-5
+unfolding takes pick result result_type width_of
 returns-in-5 c = search two-pattern
 
 pub returns-in-6 : goal.returns-in-6
+unfolding takes pick result result_type width_of
 returns-in-6 c = search two-pattern
 
 pub returns-in-7 : goal.returns-in-7
+unfolding takes pick result result_type width_of
 returns-in-7 c = search two-pattern
 
 pub returns-in-8 : goal.returns-in-8
+unfolding takes pick result result_type width_of
 returns-in-8 c = search two-pattern
 
 pub returns-in-9 : goal.returns-in-9
+unfolding takes pick result result_type width_of
 returns-in-9 c = search two-pattern
 
 pub returns-in-10 : goal.returns-in-10
+unfolding takes pick result result_type width_of
 returns-in-10 c = search two-pattern
 
 pub returns-in_default : goal.returns-in_default
+unfolding takes pick result result_type width_of
 returns-in_default c = search (two-pattern, last-time)

@@ -7,19 +7,25 @@ use Rattle.commands.proofs.Known.{known-taken, known-type, known-width, known-fi
 use Rattle.arithmetic.proofs.div_typed.Goals as goal
 
 pub zero_divisor-requires : goal.zero_divisor-requires
+unfolding result_type result_width second_width width_of pick
 zero_divisor-requires c = search known-divisor
 
 pub returns-then-zero_divisor : goal.returns-then-zero_divisor
+unfolding result_type result_width second_width width_of pick
 returns-then-zero_divisor c = search known-zero
 
 pub width_of-requires : goal.width_of-requires
+unfolding result_type result_width second_width width_of pick
 width_of-requires c = search known-type
 
 pub div_of-requires : goal.div_of-requires
+unfolding result_type result_width second_width width_of pick
 div_of-requires c = (search known-taken, search known-first, search known-second, search not_beyond)
 
 pub put-requires : goal.put-requires
+unfolding result_type result_width second_width width_of pick
 put-requires c = search (known-width, known-result)
 
 pub returns : goal.returns
+unfolding result_type result_width second_width width_of pick
 returns c = search (known-done, not_beyond)

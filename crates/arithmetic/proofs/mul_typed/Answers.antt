@@ -7,13 +7,17 @@ use Rattle.commands.proofs.Known.{known-taken, known-type, known-width, known-fi
 use Rattle.arithmetic.proofs.mul_typed.Goals as goal
 
 pub width_of-requires : goal.width_of-requires
+unfolding result_type result_width second_width width_of pick zero_divisor
 width_of-requires c = search known-type
 
 pub mul_of-requires : goal.mul_of-requires
+unfolding result_type result_width second_width width_of pick zero_divisor
 mul_of-requires c = (search known-taken, search known-first, search known-second)
 
 pub put-requires : goal.put-requires
+unfolding result_type result_width second_width width_of pick zero_divisor
 put-requires c = search (known-width, known-result)
 
 pub returns : goal.returns
+unfolding result_type result_width second_width width_of pick zero_divisor
 returns c = search known-done

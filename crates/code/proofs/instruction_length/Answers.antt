@@ -18,10 +18,10 @@ overflow_cast-n-2 c = omega (arith, c.requires.1.right _ (c.type_inv.code c.args
 
 pub overflow_add-result : goal.overflow_add-result
 overflow_add-result c = omega (
-      arith,
-      c.requires.1.right _ (c.type_inv.code c.args.p).fits,
-      short _ (c.type_inv.code c.args.p).fits,
-    )
+  arith,
+  c.requires.1.right _ (c.type_inv.code c.args.p).fits,
+  short _ (c.type_inv.code c.args.p).fits,
+)
 
 pub returns-then-b-eq6 : goal.returns-then-b-eq6
 unfolding instruction_length pick

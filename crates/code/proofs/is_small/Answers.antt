@@ -14,10 +14,10 @@ returns-then-inside c = sym (types-time _ _ (sym c.inside.ensures ∙ c.if-insid
 
 pub bounds-code-p-2 : goal.bounds-code-p-2
 bounds-code-p-2 c = omega (
-      arith,
-      type-inside c.args.code.now c.args.p c.requires.1 c.if-b-lt16.false
-          (sym c.inside.ensures ∙ c.if-inside.false),
-    )
+  arith,
+  type-inside c.args.code.now c.args.p c.requires.1 c.if-b-lt16.false
+      (sym c.inside.ensures ∙ c.if-inside.false),
+)
 
 pub returns-then-is_wide : goal.returns-then-is_wide
 returns-then-is_wide c = sym (types-wide _ _ c.requires.1 c.if-b-lt16.false (sym c.inside.ensures ∙ c.if-inside.false)
@@ -25,9 +25,9 @@ returns-then-is_wide c = sym (types-wide _ _ c.requires.1 c.if-b-lt16.false (sym
 
 pub bounds-code-p-then-b-eq43 : goal.bounds-code-p-then-b-eq43
 bounds-code-p-then-b-eq43 c = omega (
-      arith,
-      type-inside c.args.code.now c.args.p c.requires.1 c.if-b-lt16.false (sym c.inside.ensures ∙ c.if-inside.false),
-    )
+  arith,
+  type-inside c.args.code.now c.args.p c.requires.1 c.if-b-lt16.false (sym c.inside.ensures ∙ c.if-inside.false),
+)
 
 pub returns-then-b-eq43 : goal.returns-then-b-eq43
 returns-then-b-eq43 c = ap not c.is_wide-then-b-eq43.ensures

@@ -8,16 +8,6 @@ use Rattle.verdict.specs.Verdict.{pick, within}
 use Rattle.values.specs.Types.{takes}
 use Rattle.code.proofs.takes_type.Goals as goal
 
--- past the first three tests the code is in none of their ranges; past the fourth not in its range either
-past : (c : tie.Else3)
-    → (within 16 17 c.before.before.before.before.before.args.code ≡ false)
-    × (within 18 19 c.before.before.before.before.before.args.code ≡ false)
-    × (eqb c.before.before.before.before.before.args.code 20 ≡ false)
-past c = (sym c.before.before.before.before.inside.ensures ∙ c.before.before.before.if1.false, sym c.before.before.inside3.ensures ∙ c.before.if2.false, ne_eqb _ _ c.if3.false)
-
-past-four : (c : tie.Else4) → within 24 27 c.before.before.before.before.before.before.before.args.code ≡ false
-past-four c = sym c.before.inside6.ensures ∙ c.if4.false
-
 pub returns-then-inside : goal.returns-then-inside
 unfolding takes pick
 returns-then-inside c = rw (sym c.inside.ensures, c.if-inside.true, c.inside-then-inside.ensures)
@@ -32,25 +22,26 @@ returns-then-code-eq20 c = rw (sym c.inside.ensures, c.if-inside.false, sym c.in
 
 pub returns-then-inside-3 : goal.returns-then-inside-3
 unfolding takes pick
-returns-then-inside-3 c = let p = past c in
-    rw (p.0, p.1, p.2, sym c.inside-3.ensures, c.if-inside-3.true, le-leb _ _ c.if-t-gt8.false)
+returns-then-inside-3 c = rw (sym c.inside.ensures ∙ c.if-inside.false, sym c.inside-2.ensures ∙ c.if-inside-2.false, ne_eqb _ _ c.if-code-eq20.false, sym c.inside-3.ensures, c.if-inside-3.true, le-leb _ _ c.if-t-gt8.false)
 
 pub returns-then-not-inside : goal.returns-then-not-inside
 unfolding takes pick
-returns-then-not-inside c = let p = past c in
-    rw (p.0, p.1, p.2, past-four c, sym c.inside-4.ensures, c.if-inside-4.true, sym c.inside-then-inside-4.ensures ∙ not-true _ c.if-not-inside.true)
+returns-then-not-inside c = rw (sym c.inside.ensures ∙ c.if-inside.false, sym c.inside-2.ensures ∙ c.if-inside-2.false, ne_eqb _ _ c.if-code-eq20.false, sym c.inside-3.ensures ∙ c.if-inside-3.false, sym c.inside-4.ensures, c.if-inside-4.true, sym c.inside-then-inside-4.ensures ∙ c.if-not-inside.true)
 
 pub returns-then-inside-4 : goal.returns-then-inside-4
 unfolding takes pick
-returns-then-inside-4 c = let p = past c in
-    rw (p.0, p.1, p.2, past-four c, sym c.inside-4.ensures, c.if-inside-4.true, sym c.inside-then-inside-4.ensures ∙ not-false _ c.if-not-inside.false)
+returns-then-inside-4 c = rw (sym c.inside.ensures ∙ c.if-inside.false, sym c.inside-2.ensures ∙ c.if-inside-2.false, ne_eqb _ _ c.if-code-eq20.false, sym c.inside-3.ensures ∙ c.if-inside-3.false, sym c.inside-4.ensures, c.if-inside-4.true, sym c.inside-then-inside-4.ensures ∙ c.if-not-inside.false)
 
 pub returns-then-inside-5 : goal.returns-then-inside-5
 unfolding takes pick
-returns-then-inside-5 c = let p = past c in
-    rw (p.0, p.1, p.2, past-four c, sym c.inside-4.ensures, c.if-inside-4.false, sym c.inside-5.ensures, c.if-inside-5.true)
+returns-then-inside-5 c = rw (sym c.inside.ensures ∙ c.if-inside.false, sym c.inside-2.ensures ∙ c.if-inside-2.false, ne_eqb _ _ c.if-code-eq20.false, sym c.inside-3.ensures ∙ c.if-inside-3.false, sym c.inside-4.ensures, c.if-inside-4.false, sym c.inside-5.ensures, c.if-inside-5.true)
 
 pub returns : goal.returns
 unfolding takes pick
-returns c = let p = past c in
-    rw (p.0, p.1, p.2, past-four c, sym c.inside-4.ensures, c.if-inside-4.false, sym c.inside-5.ensures, c.if-inside-5.false)
+returns c = rw (sym c.inside.ensures ∙ c.if-inside.false, sym c.inside-2.ensures ∙ c.if-inside-2.false, ne_eqb _ _ c.if-code-eq20.false, sym c.inside-3.ensures ∙ c.if-inside-3.false, sym c.inside-4.ensures, c.if-inside-4.false, sym c.inside-5.ensures, c.if-inside-5.false)
+
+pub returns-then-t-gt8 : goal.returns-then-t-gt8
+unfolding takes pick
+returns-then-t-gt8 c = rw (sym c.inside.ensures ∙ c.if-inside.false, sym c.inside-2.ensures ∙ c.if-inside-2.false, ne_eqb _ _ c.if-code-eq20.false, sym c.inside-3.ensures, c.if-inside-3.true, lt-leb _ _ c.if-t-gt8.true)
+
+

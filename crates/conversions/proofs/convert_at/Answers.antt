@@ -18,3 +18,26 @@ unfolding converting
 returns-then-either_beyond c = let a = c.args in
     was-beyond a.d.now a.destination _ a.source _ a.to a.from _ c.either_beyond.ensures c.width_of.ensures c.width_of-2.ensures
     (converted a.from a.to (read_le a.d.now a.source (width_of a.from))) c.if-either_beyond.true
+
+pub read_value-v-requires : goal.read_value-v-requires
+read_value-v-requires c = let a = c.args in (
+      c.requires.0,
+      source_in (length a.d.now) a.destination _ a.source _ a.to a.from _ c.either_beyond.ensures
+          c.width_of.ensures c.width_of-2.ensures c.if-either_beyond.false,
+    )
+
+pub settle-requires : goal.settle-requires
+settle-requires c = let a = c.args in (
+      c.requires.1,
+      to_in (length a.d.now) a.destination _ a.source _ a.to a.from _ c.either_beyond.ensures c.width_of.ensures
+          c.width_of-2.ensures c.if-either_beyond.false,
+    )
+
+pub returns : goal.returns
+unfolding converting converted read_value
+returns c = let a = c.args in
+    was-tried a.d.now a.destination _ a.source _ a.to a.from _ c.either_beyond.ensures c.width_of.ensures
+    c.width_of-2.ensures (converted a.from a.to (read_le a.d.now a.source (width_of a.from))) c.if-either_beyond.false _ _
+    (c.settle.ensures
+    ∙ ap (λ (x : Converted). settled a.to a.d.now a.destination (result_as a.to x))
+    (c.convert.ensures ∙ ap (to_type a.to) c.read_value-v.ensures))

@@ -18,3 +18,10 @@ overflow_add-all c = omega (arith, c.type_inv.code (c.args.p + 3))
 
 pub returns-then-left-all : goal.returns-then-left-all
 returns-then-left-all c = constant-cut _ _ c.requires.1 (omega arith)
+
+pub returns-then-not-inside : goal.returns-then-not-inside
+returns-then-not-inside c = constant-unlisted _ _ c.requires.1 (sym c.inside.ensures ∙ c.if-not-inside.true)
+
+pub returns : goal.returns
+returns c = constant-whole _ _ c.requires.1 (omega arith) (sym c.inside.ensures ∙ c.if-not-inside.false)
+

@@ -1,0 +1,24 @@
+-- `commands::logic::not_typed` meets its contract. The operands lie inside the data; what is stored is the command's effect (`known-done`). Assumes nothing.
+use borrow.Author.Rules.{rules}
+use Rattle.verdict.specs.Verdict.{pick}
+use Rattle.values.specs.Types.{width_of}
+use Rattle.values.specs.Commands.{result_type, result_width, second_width, zero_divisor}
+use Rattle.memory.specs.Memory.{part, value_le, read_le}
+use Rattle.commands.proofs.Known.{known-taken, known-type, known-width, known-first, known-result, known-done}
+use Rattle.bitwise.proofs.logic.not_typed.Goals as goal
+
+pub width_of-requires : goal.width_of-requires
+unfolding result_type result_width second_width width_of pick zero_divisor read_le part value_le
+width_of-requires c = search known-type
+
+pub not_of-requires : goal.not_of-requires
+unfolding result_type result_width second_width width_of pick zero_divisor read_le part value_le
+not_of-requires c = (search known-taken, search known-first)
+
+pub put-requires : goal.put-requires
+unfolding result_type result_width second_width width_of pick zero_divisor read_le part value_le
+put-requires c = search (known-width, known-result)
+
+pub returns : goal.returns
+unfolding result_type result_width second_width width_of pick zero_divisor read_le part value_le
+returns c = search known-done

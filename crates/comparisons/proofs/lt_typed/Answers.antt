@@ -1,0 +1,20 @@
+-- `commands::comparisons::lt_typed` meets its contract. The operands lie inside the data; what is stored is the command's effect (`known-done`). Assumes nothing.
+use borrow.Author.Rules.{rules}
+use Rattle.verdict.specs.Verdict.{pick}
+use Rattle.values.specs.Types.{width_of}
+use Rattle.values.specs.Commands.{result_type, result_width, second_width, zero_divisor}
+use Rattle.values.proofs.Commands.{one_byte}
+use Rattle.commands.proofs.Known.{known-taken, known-first, known-second, known-result, known-done}
+use Rattle.comparisons.proofs.lt_typed.Goals as goal
+
+pub lt_of-requires : goal.lt_of-requires
+unfolding result_type result_width second_width width_of pick zero_divisor
+lt_of-requires c = (search known-taken, search known-first, search known-second)
+
+pub put-requires : goal.put-requires
+unfolding result_type result_width second_width width_of pick zero_divisor
+put-requires c = search (one_byte, known-result)
+
+pub returns : goal.returns
+unfolding result_type result_width second_width width_of pick zero_divisor
+returns c = search known-done

@@ -1,0 +1,12 @@
+-- `exchange::locate` meets its contract. The invariant: the cursor stands right after i bytes. Assumes nothing.
+use mathlib.Core.Path.{◌≡◌, subst}
+use Prim.Native.Nat.{ℕ, ◌-◌, ◌≤◌}
+use native.Mathlib.Omega.{arith}
+use Rattle.exchange.specs.Exchange.{At}
+use Rattle.exchange.proofs.locate.Given as goal
+
+abbrev pub invariant-loop-i : goal.invariant-loop-i
+invariant-loop-i l = At l.file l.bit l.i l.cursor × (l.i ≤ l.x)
+
+abbrev pub decreases-loop-i : goal.decreases-loop-i
+decreases-loop-i l = l.x - l.i

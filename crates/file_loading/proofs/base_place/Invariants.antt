@@ -1,0 +1,14 @@
+-- The sizes before core i are added up.
+use Prim.Native.Nat.{◌*◌, ◌-◌, ◌≤◌}
+use mathlib.Core.Path.{◌≡◌, refl, ap, ◌∙◌}
+use native.Mathlib.Omega.{arith}
+use borrow.Author.Rules.{rules}
+use Rattle.taskset.specs.Layout.{base_place}
+use Rattle.taskset.proofs.Laws.{base-next}
+use Rattle.file_loading.proofs.base_place.Given as goal
+
+abbrev pub invariant-loop-i : goal.invariant-loop-i
+invariant-loop-i l = (l.i ≤ l.k) × (l.b ≡ base_place l.f l.i) × (l.b ≤ 65536 * l.i)
+
+abbrev pub decreases-loop-i : goal.decreases-loop-i
+decreases-loop-i l = l.k - l.i

@@ -1,0 +1,6 @@
+-- The four zeros.
+use borrow.Author.Rules.{rules}
+use Rattle.file_loading.proofs.no_layout.Goals as goal
+
+pub returns : goal.returns
+returns c = rw c.no_core-c.ensures

@@ -1,0 +1,15 @@
+-- `packed::unpack` meets its contract: from the top digit down, r has the digits above place i. Assumes nothing.
+use native.Mathlib.Nat.{div-one, le_refl}
+use lib.Pow.{pow_pos}
+use native.Mathlib.Omega.{arith}
+use mathlib.Core.Path.{◌≡◌, sym, ap, subst, ◌∙◌}
+use Prim.Native.Nat.{ℕ, ◌+◌, ◌-◌, ◌*◌, ◌/◌, ◌%◌, ◌^◌, ◌<◌, ◌≤◌}
+use Rattle.packed.proofs.Decimal as Decimal
+use Rattle.packed.specs.Packed.{unpacked_digits}
+use Rattle.packed.proofs.unpack.Given as goal
+
+abbrev pub invariant-loop-i : goal.invariant-loop-i
+invariant-loop-i l = (l.i ≤ l.d) × (l.r ≡ unpacked_digits (l.d - l.i) (l.p / 2 ^ (4 * l.i))) × (l.r < 2 ^ (4 * (l.d - l.i)))
+
+abbrev pub decreases-loop-i : goal.decreases-loop-i
+decreases-loop-i l = l.i

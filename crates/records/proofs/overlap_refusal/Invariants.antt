@@ -1,0 +1,16 @@
+-- What is left from variable j on is what was asked; the records lie in the file.
+use Prim.Native.Nat.{◌+◌, ◌-◌}
+use mathlib.Core.Path.{sym, ◌∙◌}
+use native.Mathlib.Omega.{arith}
+use borrow.Author.Rules.{rules}
+use Rattle.verdict.proofs.Verdict.{Going, going-none, going_more, going-stop, going_end}
+use Rattle.records.specs.File.{variables}
+use Rattle.records.specs.Records.{pair_refusal, overlap_refusal}
+use Rattle.records.proofs.Laws.{pair-five, pair-none}
+use Rattle.records.proofs.overlap_refusal.Given as goal
+
+abbrev pub invariant-loop-j : goal.invariant-loop-j
+invariant-loop-j l = Going (pair_refusal l.f l.i) (l.i + 1) (variables l.f) l.j
+
+abbrev pub decreases-loop-j : goal.decreases-loop-j
+decreases-loop-j l = l.m - l.j
