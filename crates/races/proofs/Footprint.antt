@@ -72,7 +72,7 @@ module _ (t : Task) (o : DataFootprints) (right : DataFootprintsRight t o) (k : 
   changes-of s' ts (takes_read r rs i f b e d) p n =
       let n = rw (e, d, b) at n in
       elsewhere s k _ _ _ i p (λ z. n (inl z))
-      (λ a z. splice-outside (at s k).memory 0 r.input a (λ h. n (inr (inr (rw z (in-locals k (stretch 0 (length r.input)) a h))))))
+      (λ a z. splice-outside (at s k).memory 0 r.input a (λ h. n (inr (inr (subst (λ (q : Place). In q (locals k (stretch 0 (length r.input)))) (sym z) (in-locals k (stretch 0 (length r.input)) a h))))))
       (λ i z. refl) (λ z. absurd (n (inr (inl z))))
   changes-of s' ts (reads_on m ms i e d) p n =
       let n = rw (e, d) at n in
@@ -83,7 +83,7 @@ module _ (t : Task) (o : DataFootprints) (right : DataFootprintsRight t o) (k : 
       (λ z. absurd (n (inr (inl z))))
   changes-of s' ts (runs i e) p n =
       let n = rw e at n in
-      elsewhere s k _ _ _ i p (λ z. n (inl z)) (λ a z. right.changes k (at s k) a (λ h. n (inr (rw z (in-locals k (o k (at s k)).writes a h))))) (λ i z. refl) (λ z. refl)
+      elsewhere s k _ _ _ i p (λ z. n (inl z)) (λ a z. right.changes k (at s k) a (λ h. n (inr (subst (λ (q : Place). In q (locals k (o k (at s k)).writes)) (sym z) (in-locals k (o k (at s k)).writes a h))))) (λ i z. refl) (λ z. refl)
   changes-of s' ts (takes_write i f b e) p n =
       let n = rw (e, b) at n in elsewhere s k _ _ _ i p (λ z. n (inl z)) (λ a z. refl) (λ i z. refl) (λ z. absurd (n (inr (inl z))))
   changes-of s' ts (writes_on m ms i e d) p n =

@@ -1,5 +1,5 @@
 -- Laws of stretches of bytes: what a splice changes and what it depends on, and on what a read part or number depends. Assumes nothing.
-use mathlib.Core.Path.{◌≡◌, refl, sym, ◌∙◌}
+use mathlib.Core.Path.{◌≡◌, refl, sym, ◌∙◌, subst}
 use mathlib.Core.Logic.{inl, inr}
 use mathlib.Core.List.{List, [], ◌∷◌}
 use Prim.Native.Nat.{ℕ, zero, suc, ◌+◌, ◌≤◌, ◌<◌}
@@ -22,7 +22,9 @@ from_first p (suc n) i (inr h) = let l = from_first (suc p) n i h in omega arith
 in-stretch : (p n i : ℕ) → i < n → In (p + i) (stretch p n)
 in-stretch p zero i h = omega arith
 in-stretch p (suc n) zero h = inl (add-zero p)
-in-stretch p (suc n) (suc i) h = inr (rw (add-suc p i, ← suc-add p i) (in-stretch (suc p) n i (omega arith)))
+in-stretch p (suc n) (suc i) h =
+    let e : suc p + i ≡ p + suc i = omega arith in
+    inr (subst (λ (a : ℕ). In a (stretch (suc p) n)) e (in-stretch (suc p) n i (omega arith)))
 
 -- ---- writing
 

@@ -10,28 +10,6 @@ use Rattle.taskset.proofs.Exact.{keeps-rules}
 use Rattle.starts.proofs.Laws.{Filling, filling-none, filling-size, room, pairs-there, fits, pairs-inside, filling-more, filling-done}
 use Rattle.starts.proofs.write_data.Goals as goal
 
--- the start values of core k lie in the file, and the stretch of its data in the buffer
-pairs-here : (c : tie.After-word-at2 invariant-loop decreases-loop)
-    → c.before.before.before.loop.p + 2 + 3 * c.word-at2.result ≤ length c.before.before.before.before.before.before.before.before.args.f.now
-pairs-here c =
-    let tested = c.before.before in
-    let turn = tested.before in
-    let after-byte-at = turn.before.before in
-    let start = after-byte-at.before.before.before in
-    pairs-there start.args.f.now _ _ _ _ turn.loop.invariant start.requires.0 start.requires.1 _ _ _ after-byte-at.byte_at.ensures
-    tested.loop-test.true (ap (λ (y : ℕ). turn.loop.a + y) c.before.word_at.ensures.0) c.word-at2.ensures.0
-
-fits-here : (c : tie.After-word-at2 invariant-loop decreases-loop)
-    → (c.before.before.before.loop.a ≤ c.before.before.before.loop.a + c.before.word_at.result)
-    × (c.before.before.before.loop.a + c.before.word_at.result ≤ length c.before.before.before.loop.buffer)
-fits-here c =
-    let tested = c.before.before in
-    let turn = tested.before in
-    let after-byte-at = turn.before.before in
-    let start = after-byte-at.before.before.before in
-    fits start.args.f.now _ _ _ _ turn.loop.invariant start.requires.0 start.requires.1 _ _ _ after-byte-at.byte_at.ensures
-    tested.loop-test.true (ap (λ (y : ℕ). turn.loop.a + y) c.before.word_at.ensures.0) c.word-at2.ensures.0
-
 pub code_place-p-requires : goal.code_place-p-requires
 code_place-p-requires c = omega (arith, (keeps-rules c.args.f.now c.requires.0).most-cores, c.byte_at-n.ensures)
 
@@ -56,26 +34,56 @@ overflow_add-e c = let f = c.args.f.now in
     )
 
 pub overflow_add-p : goal.overflow_add-p
-overflow_add-p c = omega (arith, pairs-here c)
+overflow_add-p c =
+    let pairs-here : c.loop-k.p + 2 + 3 * c.word_at-count.result ≤ length c.args.f.now = pairs-there c.args.f.now _ _ _ _ c.loop-k.invariant c.requires.0 c.requires.1 _ _ _ c.byte_at-n.ensures
+    c.loop-k-test.true (ap (λ (y : ℕ). c.loop-k.a + y) c.word_at.ensures.0) c.word_at-count.ensures.0 in
+    omega (arith, pairs-here)
 
 pub slice_bounds-write_pairs-count : goal.slice_bounds-write_pairs-count
-slice_bounds-write_pairs-count c = (fits-here c).0
+slice_bounds-write_pairs-count c =
+    let fits-here : (c.loop-k.a ≤ c.loop-k.a + c.word_at.result) × (c.loop-k.a + c.word_at.result ≤ length c.loop-k.buffer) = fits c.args.f.now _ _ _ _ c.loop-k.invariant c.requires.0 c.requires.1 _ _ _ c.byte_at-n.ensures
+    c.loop-k-test.true (ap (λ (y : ℕ). c.loop-k.a + y) c.word_at.ensures.0) c.word_at-count.ensures.0 in
+    fits-here.0
+
+pub slice_bounds-write_pairs-start : goal.slice_bounds-write_pairs-start
+slice_bounds-write_pairs-start c =
+    let fits-here : (c.loop-k.a ≤ c.loop-k.a + c.word_at.result) × (c.loop-k.a + c.word_at.result ≤ length c.loop-k.buffer) = fits c.args.f.now _ _ _ _ c.loop-k.invariant c.requires.0 c.requires.1 _ _ _ c.byte_at-n.ensures
+    c.loop-k-test.true (ap (λ (y : ℕ). c.loop-k.a + y) c.word_at.ensures.0) c.word_at-count.ensures.0 in
+    fits-here.0
+
+pub slice_bounds-write_pairs-end : goal.slice_bounds-write_pairs-end
+slice_bounds-write_pairs-end c =
+    let fits-here : (c.loop-k.a ≤ c.loop-k.a + c.word_at.result) × (c.loop-k.a + c.word_at.result ≤ length c.loop-k.buffer) = fits c.args.f.now _ _ _ _ c.loop-k.invariant c.requires.0 c.requires.1 _ _ _ c.byte_at-n.ensures
+    c.loop-k-test.true (ap (λ (y : ℕ). c.loop-k.a + y) c.word_at.ensures.0) c.word_at-count.ensures.0 in
+    fits-here.1
 
 pub write_pairs-requires : goal.write_pairs-requires
-write_pairs-requires c = let f = c.args.f.now in (
-      pairs-here c,
+write_pairs-requires c =
+    let pairs-here : c.loop-k.p + 2 + 3 * c.word_at-count.result ≤ length c.args.f.now = pairs-there c.args.f.now _ _ _ _ c.loop-k.invariant c.requires.0 c.requires.1 _ _ _ c.byte_at-n.ensures
+    c.loop-k-test.true (ap (λ (y : ℕ). c.loop-k.a + y) c.word_at.ensures.0) c.word_at-count.ensures.0 in
+    let f = c.args.f.now in (
+      pairs-here,
       pairs-inside f _ _ _ _ c.loop-k.invariant c.requires.0 c.requires.1 _ _ _ c.byte_at-n.ensures c.loop-k-test.true
           (ap (λ (y : ℕ). c.loop-k.a + y) c.word_at.ensures.0) c.word_at-count.ensures.0,
     )
 
 pub overflow_add-p-in-loop-k : goal.overflow_add-p-in-loop-k
-overflow_add-p-in-loop-k c = omega (arith, pairs-here c)
+overflow_add-p-in-loop-k c =
+    let pairs-here : c.loop-k.p + 2 + 3 * c.word_at-count.result ≤ length c.args.f.now = pairs-there c.args.f.now _ _ _ _ c.loop-k.invariant c.requires.0 c.requires.1 _ _ _ c.byte_at-n.ensures
+    c.loop-k-test.true (ap (λ (y : ℕ). c.loop-k.a + y) c.word_at.ensures.0) c.word_at-count.ensures.0 in
+    omega (arith, pairs-here)
 
 pub overflow_mul-p : goal.overflow_mul-p
-overflow_mul-p c = omega (arith, pairs-here c)
+overflow_mul-p c =
+    let pairs-here : c.loop-k.p + 2 + 3 * c.word_at-count.result ≤ length c.args.f.now = pairs-there c.args.f.now _ _ _ _ c.loop-k.invariant c.requires.0 c.requires.1 _ _ _ c.byte_at-n.ensures
+    c.loop-k-test.true (ap (λ (y : ℕ). c.loop-k.a + y) c.word_at.ensures.0) c.word_at-count.ensures.0 in
+    omega (arith, pairs-here)
 
 pub overflow_add-p-in-loop-k-2 : goal.overflow_add-p-in-loop-k-2
-overflow_add-p-in-loop-k-2 c = omega (arith, pairs-here c)
+overflow_add-p-in-loop-k-2 c =
+    let pairs-here : c.loop-k.p + 2 + 3 * c.word_at-count.result ≤ length c.args.f.now = pairs-there c.args.f.now _ _ _ _ c.loop-k.invariant c.requires.0 c.requires.1 _ _ _ c.byte_at-n.ensures
+    c.loop-k-test.true (ap (λ (y : ℕ). c.loop-k.a + y) c.word_at.ensures.0) c.word_at-count.ensures.0 in
+    omega (arith, pairs-here)
 
 pub overflow_add-k-in-loop-k : goal.overflow_add-k-in-loop-k
 overflow_add-k-in-loop-k c = omega (arith, (keeps-rules c.args.f.now c.requires.0).most-cores, c.byte_at-n.ensures)

@@ -9,24 +9,21 @@ use Rattle.taskset.proofs.Accepted.{length-buffer}
 use Rattle.starts.proofs.Laws.{Publishing, publishing-none, record-there, shared-fits, buffer-fits, publishing-more, copied-as, publishing-done}
 use Rattle.starts.proofs.write_shared.Goals as goal
 
--- the record of the turn's variable lies in the file
-record-here : (c : tie.In-loop invariant-loop decreases-loop) → c.before.loop.p + 12 ≤ length c.before.before.before.before.before.args.f.now
-record-here c =
-    let turn = c.before in
-    let start = turn.before.before.before.before in
-    record-there start.args.f.now start.requires.0 _ _ _ _ _ turn.loop.invariant c.loop-test.true
-
 pub loop-i-init : goal.loop-i-init
 loop-i-init c = publishing-none _ _ _ _ (ap (λ (l : Layout). l.variables) c.requires.1) (ap (λ (l : Layout). l.first) c.requires.1) c.requires.3
 
 pub writer-w-requires : goal.writer-w-requires
-writer-w-requires c = record-here c
+writer-w-requires c =
+    let record-here : c.loop-i.p + 12 ≤ length c.args.f.now = record-there c.args.f.now c.requires.0 _ _ _ _ _ c.loop-i.invariant c.loop-i-test.true in
+    record-here
 
 pub base_of-requires : goal.base_of-requires
 base_of-requires c = (c.requires.1, c.writer-w.ensures.1)
 
 pub local_place-requires : goal.local_place-requires
-local_place-requires c = (record-here c, c.writer-w.ensures.1)
+local_place-requires c =
+    let record-here : c.loop-i.p + 12 ≤ length c.args.f.now = record-there c.args.f.now c.requires.0 _ _ _ _ _ c.loop-i.invariant c.loop-i-test.true in
+    (record-here, c.writer-w.ensures.1)
 
 pub overflow_add-from : goal.overflow_add-from
 overflow_add-from c = let f = c.args.f.now in
@@ -40,10 +37,14 @@ overflow_add-from c = let f = c.args.f.now in
     )
 
 pub shared_place-to-requires : goal.shared_place-to-requires
-shared_place-to-requires c = record-here c
+shared_place-to-requires c =
+    let record-here : c.loop-i.p + 12 ≤ length c.args.f.now = record-there c.args.f.now c.requires.0 _ _ _ _ _ c.loop-i.invariant c.loop-i-test.true in
+    record-here
 
 pub width-requires : goal.width-requires
-width-requires c = record-here c
+width-requires c =
+    let record-here : c.loop-i.p + 12 ≤ length c.args.f.now = record-there c.args.f.now c.requires.0 _ _ _ _ _ c.loop-i.invariant c.loop-i-test.true in
+    record-here
 
 pub copy-requires : goal.copy-requires
 copy-requires c = let f = c.args.f.now in (
@@ -66,7 +67,9 @@ copy-requires c = let f = c.args.f.now in (
     )
 
 pub overflow_add-p : goal.overflow_add-p
-overflow_add-p c = omega (arith, record-here c)
+overflow_add-p c =
+    let record-here : c.loop-i.p + 12 ≤ length c.args.f.now = record-there c.args.f.now c.requires.0 _ _ _ _ _ c.loop-i.invariant c.loop-i-test.true in
+    omega (arith, record-here)
 
 pub overflow_add-i : goal.overflow_add-i
 overflow_add-i c = omega (arith, c.loop-i.invariant.all)

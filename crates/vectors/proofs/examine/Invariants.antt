@@ -1,9 +1,5 @@
--- `vectors::examine` meets its contract. The turns left fall at each turn. Assumes nothing.
-use Rattle.std.proofs.Common.{rules}
+-- A turn is spent on each read.
 use Rattle.vectors.proofs.examine.Given as goal
 
-abbrev pub invariant-loop-turns : goal.invariant-loop-turns
-invariant-loop-turns l = Unit {0}
-
 abbrev pub decreases-loop-turns : goal.decreases-loop-turns
-decreases-loop-turns l = l.differed
+decreases-loop-turns l = l.turns

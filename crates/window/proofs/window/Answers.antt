@@ -15,7 +15,39 @@ slice_bounds-result-count c = let a = c.args in
     let x = ends_at a.file.now a.buffer.now a.shown a.core a.start a.count c.find_window-found.ensures Code c.in-Code.is in
     omega (arith, x.ordered)
 
+pub slice_bounds-result-start : goal.slice_bounds-result-start
+slice_bounds-result-start c = let a = c.args in
+    let x = ends_at a.file.now a.buffer.now a.shown a.core a.start a.count c.find_window-found.ensures Code c.in-Code.is in
+    omega (arith, x.ordered, x.in_source)
+
+pub slice_bounds-result-end : goal.slice_bounds-result-end
+slice_bounds-result-end c = let a = c.args in
+    let x = ends_at a.file.now a.buffer.now a.shown a.core a.start a.count c.find_window-found.ensures Code c.in-Code.is in
+    omega (arith, x.in_source, x.ordered)
+
 pub slice_bounds-result-count-in-Data : goal.slice_bounds-result-count-in-Data
 slice_bounds-result-count-in-Data c = let a = c.args in
     let x = ends_at a.file.now a.buffer.now a.shown a.core a.start a.count c.find_window-found.ensures Data c.in-Data.is in
     omega (arith, x.ordered)
+
+pub slice_bounds-result-start-in-Data : goal.slice_bounds-result-start-in-Data
+slice_bounds-result-start-in-Data c = let a = c.args in
+    let x = ends_at a.file.now a.buffer.now a.shown a.core a.start a.count c.find_window-found.ensures Data c.in-Data.is in
+    omega (arith, x.ordered, x.in_source)
+
+pub slice_bounds-result-end-in-Data : goal.slice_bounds-result-end-in-Data
+slice_bounds-result-end-in-Data c = let a = c.args in
+    let x = ends_at a.file.now a.buffer.now a.shown a.core a.start a.count c.find_window-found.ensures Data c.in-Data.is in
+    omega (arith, x.in_source, x.ordered)
+
+pub returns-in-Code : goal.returns-in-Code
+returns-in-Code c = let a = c.args in
+    let x = ends_at a.file.now a.buffer.now a.shown a.core a.start a.count c.find_window-found.ensures Code c.in-Code.is in
+    let place = ap (λ (y : Found). a.file.ref_ptr.1 + y.from) c.find_window-found.ensures in
+    (x.bytes ∙ ap (λ (y : Shown). window_of a.file.now a.buffer.now y a.core a.start a.count) (sym c.in-Code.is), λ e. (refl, omega (arith, place)), λ e. absurd (apart (sym c.in-Code.is ∙ e)))
+
+pub returns-in-Data : goal.returns-in-Data
+returns-in-Data c = let a = c.args in
+    let x = ends_at a.file.now a.buffer.now a.shown a.core a.start a.count c.find_window-found.ensures Data c.in-Data.is in
+    let place = ap (λ (y : Found). a.buffer.ref_ptr.1 + y.from) c.find_window-found.ensures in
+    (x.bytes ∙ ap (λ (y : Shown). window_of a.file.now a.buffer.now y a.core a.start a.count) (sym c.in-Data.is), λ e. absurd (apart (sym e ∙ c.in-Data.is)), λ e. (refl, omega (arith, place)))

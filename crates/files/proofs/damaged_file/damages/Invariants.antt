@@ -6,7 +6,7 @@ use lib.ListN.{length}
 use Rattle.files.proofs.damaged_file.damages.Given as goal
 
 abbrev pub invariant-loop-p : goal.invariant-loop-p
-invariant-loop-p l = (p ≤ l.n) × (length f ≡ length l.initial.f)
+invariant-loop-p l = (l.p ≤ l.n) × (length l.f ≡ length l.initial.f)
 
 abbrev pub decreases-loop-p : goal.decreases-loop-p
-decreases-loop-p l = l.n - p
+decreases-loop-p l = l.n - l.p

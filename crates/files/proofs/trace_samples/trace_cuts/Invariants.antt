@@ -4,7 +4,7 @@ use borrow.Author.Rules.{rules}
 use Rattle.files.proofs.trace_samples.trace_cuts.Given as goal
 
 abbrev pub invariant-loop-i : goal.invariant-loop-i
-invariant-loop-i l = i ≤ l.n
+invariant-loop-i l = l.i ≤ l.n
 
 abbrev pub decreases-loop-i : goal.decreases-loop-i
-decreases-loop-i l = l.n - i
+decreases-loop-i l = l.n - l.i

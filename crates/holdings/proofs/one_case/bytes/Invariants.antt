@@ -5,7 +5,7 @@ use borrow.Author.Rules.{rules}
 use Rattle.holdings.proofs.one_case.bytes.Given as goal
 
 abbrev pub invariant-loop-i : goal.invariant-loop-i
-invariant-loop-i l = i ≤ 16
+invariant-loop-i l = l.i ≤ 16
 
 abbrev pub decreases-loop-i : goal.decreases-loop-i
-decreases-loop-i l = 16 - i
+decreases-loop-i l = 16 - l.i

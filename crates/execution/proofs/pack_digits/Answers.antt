@@ -1,0 +1,13 @@
+-- The type and the places are those that stand in the code; how the digits' conversion ended is how the instruction ends.
+use borrow.Author.Rules.{rules}
+use Rattle.processor.proofs.Commands.{packing-done}
+use Rattle.execution.proofs.pack_digits.Goals as goal
+
+pub single-o-requires : goal.single-o-requires
+single-o-requires c = (c.requires.0.whole, c.requires.0.short)
+
+pub pack_at-requires : goal.pack_at-requires
+pack_at-requires c = (rw c.single-o.ensures.0 c.requires.1, c.single-o.ensures.1.0, c.single-o.ensures.1.1)
+
+pub returns : goal.returns
+returns c = packing-done _ _ _ _ _ _ _ c.requires.0.here c.single-o.ensures.0 c.pack_at.ensures c.conversion_outcome.ensures

@@ -1,0 +1,12 @@
+-- `steps::begin_writing` meets its contract. Assumes nothing.
+use borrow.Author.Tests.{not-true, not-false}
+use Rattle.verdict.specs.Verdict.{pick}
+use Rattle.steps.proofs.begin_writing.Goals as goal
+
+pub returns-then-not-turn : goal.returns-then-not-turn
+unfolding pick
+returns-then-not-turn c = rw (c.if-not-turn.true)
+
+pub returns : goal.returns
+unfolding pick
+returns c = rw (c.if-not-turn.false)
