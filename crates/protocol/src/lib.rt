@@ -186,7 +186,7 @@ pub fn cycle_ended(r: Registers) -> Registers
 {
     Registers {
         mode: WAITING,
-        counter: r.counter,
+        counter: r.counter, // unmoved
         offset: r.offset,
         depth: r.depth,
         count: r.count + 1,

@@ -56,16 +56,16 @@ unpack_digits-requires c = let given = c.requires in stands-unpacking _ _ _ give
 
 pub access_element-requires : goal.access_element-requires
 access_element-requires c = let given = c.requires in
-    let o = element-of c.in_default-1.rest c.in-8.if-op-lt10-own.true in
+    let o = element-of c.in-8.in_default-own.rest c.in-8.if-op-lt10-own.true in
     stands-element _ _ _ given.0 _ o given.1
 
 pub single-requires : goal.single-requires
 single-requires c = let given = c.requires in
-    typed-inside _ _ _ given.0 27 4 (not_last _ _ _ given.0 given.1 given.2 c.in_default-1.rest c.in_default.if-op-lt10-own.false)
+    typed-inside _ _ _ given.0 27 4 (not_last _ _ _ given.0 given.1 given.2 c.in_default.in_default-own.rest c.in_default.if-op-lt10-own.false)
 
 pub not_at-requires : goal.not_at-requires
 not_at-requires c = let given = c.requires in
-    typed-given _ _ _ given.0 27 4 _ (not_last _ _ _ given.0 given.1 given.2 c.in_default-1.rest c.in_default.if-op-lt10-own.false) c.single.ensures
+    typed-given _ _ _ given.0 27 4 _ (not_last _ _ _ given.0 given.1 given.2 c.in_default.in_default-own.rest c.in_default.if-op-lt10-own.false) c.single.ensures
 
 pub overflow_add-r-in_default : goal.overflow_add-r-in_default
 overflow_add-r-in_default c = let given = c.requires in omega (arith, inside-code _ _ _ given.0, given.0.short)
@@ -78,5 +78,5 @@ returns-in-1 c = rw c.word.ensures (sym (jump-at _ _ _ (c.requires.1 ∙ c.in-1.
 
 pub returns-in_default : goal.returns-in_default
 returns-in_default c = let given = c.requires in
-    typed-done _ _ _ 27 4 _ _ _ _ (not_last _ _ _ given.0 given.1 given.2 c.in_default-1.rest c.in_default.if-op-lt10-own.false) c.single.ensures.0
+    typed-done _ _ _ 27 4 _ _ _ _ (not_last _ _ _ given.0 given.1 given.2 c.in_default.in_default-own.rest c.in_default.if-op-lt10-own.false) c.single.ensures.0
     c.not_at.ensures c.outcome.ensures
