@@ -136,7 +136,7 @@ agree-heads c k ih w p s h (goes a x) (goes b y) =
     let i = ih (later w) _ _ _ _ _ _ (omega arith) x y in
     (ap suc i.0, ap (λ (j : ℕ). max (length s) j) i.1)
 
-path-positive : {c : List ℕ} {p n d : ℕ} {s : List ℕ} → Path c p s n d → 1 ≤ n
+path-positive : {c : List ℕ} {p n : ℕ} {s : List ℕ} {d : ℕ} → Path c p s n d → 1 ≤ n
 path-positive (ends e) = omega arith
 path-positive (more m x) = omega arith
 

@@ -60,3 +60,15 @@ write_form-requires c =
       omega (arith, code-end, body-ends f accepted),
       c.if-out-end.false,
     )
+
+pub returns : goal.returns
+returns c =
+    let has-mark : is_new c.args.f.now ≡ true = sym c.is_new.ensures ∙ c.if-not-is_new.false in
+    let accepted : judge c.args.f.now ≡ 0 = sym c.judge_file-number.ensures ∙ c.if-number-ne0.false in
+    let code-end : c.code_place-end.result ≡ start_place c.args.f.now 0 = end_is c.args.f.now _ _ c.code_place-end.ensures.0 c.byte_at-n.ensures in
+    let f = c.args.f.now in
+    let out = c.args.out.now in
+    convert-granted out _ _ _ _
+    (old-none f _ c.if-f-lt4.false has-mark accepted _ _ c.byte_at-n.ensures code-end c.if-f-end.false c.if-out-end.false)
+    (old-length f (length out) c.if-f-lt4.false has-mark accepted _ _ c.byte_at-n.ensures code-end)
+    (old-written f (length out) c.if-f-lt4.false has-mark accepted _ _ c.byte_at-n.ensures code-end _ _ c.write_form.ensures)

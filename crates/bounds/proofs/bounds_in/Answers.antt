@@ -1,0 +1,13 @@
+-- `bounds::bounds_in` meets its contract: 25, then 26, then the numbers. Assumes nothing.
+use borrow.Author.Tests.{not-true, not-false}
+use Rattle.bounds.proofs.Answer.{found-falls, found-long, found-both}
+use Rattle.bounds.proofs.bounds_in.Goals as goal
+
+pub returns-then-not-m : goal.returns-then-not-m
+returns-then-not-m c = found-falls _ _ _ _ c.measure-m.ensures (not-true _ c.if-not-m.true)
+
+pub returns-then-m-gt65535 : goal.returns-then-m-gt65535
+returns-then-m-gt65535 c = found-long _ _ _ _ c.measure-m.ensures (not-false _ c.if-not-m.false) c.if-m-gt65535.true
+
+pub returns : goal.returns
+returns c = found-both _ _ _ _ c.measure-m.ensures (not-false _ c.if-not-m.false) c.if-m-gt65535.false
