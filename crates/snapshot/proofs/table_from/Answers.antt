@@ -1,0 +1,7 @@
+-- `snapshot::table_from` meets its contract: field by field. Assumes nothing.
+use borrow.Author.Rules.{rules}
+use mathlib.Core.Path.{refl}
+use Rattle.snapshot.proofs.table_from.Goals as goal
+
+pub returns : goal.returns
+returns c = rw c.table_count-count.ensures refl

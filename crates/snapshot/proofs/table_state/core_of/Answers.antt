@@ -1,0 +1,9 @@
+-- `snapshot::table_state::core_of` meets its contract: field by field. Assumes nothing.
+use borrow.Author.Rules.{rules}
+use mathlib.Core.Path.{refl}
+use Rattle.snapshot.specs.Snapshot.{core_of}
+use Rattle.snapshot.proofs.table_state.core_of.Goals as goal
+
+pub returns : goal.returns
+unfolding core_of
+returns c = rw (c.record_of.ensures, c.stack_of-places.ensures, c.stack_of-offsets.ensures) refl

@@ -1,0 +1,9 @@
+-- `snapshot::table_state::state_of` meets its contract: field by field. Assumes nothing.
+use borrow.Author.Rules.{rules}
+use mathlib.Core.Path.{refl}
+use Rattle.snapshot.specs.Snapshot.{held}
+use Rattle.snapshot.proofs.table_state.state_of.Goals as goal
+
+pub returns : goal.returns
+unfolding held
+returns c = rw (c.registers_in-ra.ensures, c.registers_in-rb.ensures, c.registers_in-rc.ensures, c.registers_in-rd.ensures, c.table_places-places.ensures, c.table_offsets-offsets.ensures) refl
