@@ -37,8 +37,7 @@ fn move_singly(d: &mut [u8], to: usize, from: usize, n: usize)
 }
 
 // As the machine does it: by words where the stretches share no byte. The answer is 0, or 1 where a stretch leaves the data.
-#[unsafe(no_mangle)]
-pub extern "C" fn rikzord_copy_by_words(d: &mut [u8], to: usize, from: usize, n: usize) -> u8
+pub fn rikzord_copy_by_words(d: &mut [u8], to: usize, from: usize, n: usize) -> u8
     ensures { (result ≡ copy_answer (length d.old) to from n) × (d.new ≡ copied d.old to from n) }
 {
     if !fits(d.len(), to, from, n) {
@@ -49,8 +48,7 @@ pub extern "C" fn rikzord_copy_by_words(d: &mut [u8], to: usize, from: usize, n:
 }
 
 // By single bytes where the stretches share none.
-#[unsafe(no_mangle)]
-pub extern "C" fn rikzord_copy_by_bytes(d: &mut [u8], to: usize, from: usize, n: usize) -> u8
+pub fn rikzord_copy_by_bytes(d: &mut [u8], to: usize, from: usize, n: usize) -> u8
     ensures { (result ≡ copy_answer (length d.old) to from n) × (d.new ≡ copied d.old to from n) }
 {
     if !fits(d.len(), to, from, n) {
@@ -65,8 +63,7 @@ pub extern "C" fn rikzord_copy_by_bytes(d: &mut [u8], to: usize, from: usize, n:
 }
 
 // Through an array, whether the stretches share bytes or not.
-#[unsafe(no_mangle)]
-pub extern "C" fn rikzord_copy_through(d: &mut [u8], to: usize, from: usize, n: usize) -> u8
+pub fn rikzord_copy_through(d: &mut [u8], to: usize, from: usize, n: usize) -> u8
     ensures { (result ≡ copy_answer (length d.old) to from n) × (d.new ≡ copied d.old to from n) }
 {
     if !fits(d.len(), to, from, n) {

@@ -1,7 +1,7 @@
 // The machine's calls with a lent core table, for Rust and C: thin functions over the calls on a snapshot of it (crate snapshot). A table is a slice of
 // records, one for each core; the semaphore is a lent record beside it. A refused call changes nothing.
 //
-// The functions that start with `rikzord_` are the C interface too: a slice is a pointer and a length there.
+// The functions that start with `rikzord_` are the C interface too (crate rikzord_c): a slice is a pointer and a length there.
 #![tactic(auto)]
 
 ghost use Rattle.std.specs.Prelude.{◌≡◌, [], length, get_or, set};
@@ -96,8 +96,7 @@ fn save(t: &mut [CoreRecord], semaphore: &mut Semaphore, x: After) -> u8
 // ---- the calls on a lent table
 
 // One step of a core. The answer is the refusal number, 0 for none.
-#[unsafe(no_mangle)]
-pub extern "C" fn rikzord_step(
+pub fn rikzord_step(
     file: &[u8],
     trace: &[u8],
     table: &mut [CoreRecord],
@@ -115,8 +114,7 @@ pub extern "C" fn rikzord_step(
 }
 
 // The steps of an order, one after another. The takings go to the front of `list`, and `taken` becomes how many there are.
-#[unsafe(no_mangle)]
-pub extern "C" fn rikzord_run(
+pub fn rikzord_run(
     file: &[u8],
     trace: &[u8],
     table: &mut [CoreRecord],
@@ -141,8 +139,7 @@ pub extern "C" fn rikzord_run(
 }
 
 // The fresh state. The table needs at least n records, and the first n are written.
-#[unsafe(no_mangle)]
-pub extern "C" fn rikzord_fresh(
+pub fn rikzord_fresh(
     file: &[u8],
     table: &mut [CoreRecord],
     semaphore: &mut Semaphore,
@@ -158,8 +155,7 @@ pub extern "C" fn rikzord_fresh(
 }
 
 // The same under the small profile (document 02, 2.10).
-#[unsafe(no_mangle)]
-pub extern "C" fn rikzord_fresh_small(
+pub fn rikzord_fresh_small(
     file: &[u8],
     table: &mut [CoreRecord],
     semaphore: &mut Semaphore,
@@ -175,8 +171,7 @@ pub extern "C" fn rikzord_fresh_small(
 }
 
 // An order list, rerun from the fresh state (document 02, 2.13). The table needs at least n records, and the first n are written.
-#[unsafe(no_mangle)]
-pub extern "C" fn rikzord_rerun(
+pub fn rikzord_rerun(
     file: &[u8],
     trace: &[u8],
     list: &[u8],
@@ -195,8 +190,7 @@ pub extern "C" fn rikzord_rerun(
 }
 
 // The first core after `given`, round the ring and that one last, whose step would change something, goes to `found`; 255 for none.
-#[unsafe(no_mangle)]
-pub extern "C" fn rikzord_next_core(
+pub fn rikzord_next_core(
     file: &[u8],
     trace: &[u8],
     table: &[CoreRecord],
@@ -213,16 +207,14 @@ pub extern "C" fn rikzord_next_core(
 }
 
 // The refusal number of a task set file alone.
-#[unsafe(no_mangle)]
-pub extern "C" fn rikzord_check_file(file: &[u8]) -> u8
+pub fn rikzord_check_file(file: &[u8]) -> u8
     ensures { result ≡ judge file.now }
 {
     machine::check_file(file)
 }
 
 // The same under the small profile.
-#[unsafe(no_mangle)]
-pub extern "C" fn rikzord_check_file_small(file: &[u8]) -> u8
+pub fn rikzord_check_file_small(file: &[u8]) -> u8
     ensures { result ≡ judge_for Small file.now }
 {
     machine::check_file_for(Profile::Small, file)
@@ -252,8 +244,7 @@ pub fn step_registers(
 // ---- beside the machine: the lowest reading over the holding time
 
 // For each record of `run`, a TIME and an INT in six bytes, the lowest reading of the last `span` milliseconds goes to `answers` (crate holding).
-#[unsafe(no_mangle)]
-pub extern "C" fn rikzord_lowest(run: &[u8], span: u32, answers: &mut [u8]) -> u8
+pub fn rikzord_lowest(run: &[u8], span: u32, answers: &mut [u8]) -> u8
     ensures { (result ≡ lowest_refusal run.now span (length answers.old)) × (answers.new ≡ answers_after run.now span answers.old) }
 {
     holding::lowest(run, span, answers)
@@ -263,8 +254,7 @@ pub extern "C" fn rikzord_lowest(run: &[u8], span: u32, answers: &mut [u8]) -> u
 
 // The test of a task set file's lines (crate cycles). `lines` becomes 0 where no two cores read each other and no lines form a ring, 1 where two
 // cores read each other, 2 where there is a ring alone.
-#[unsafe(no_mangle)]
-pub extern "C" fn rikzord_check_cycles(file: &[u8], lines: &mut u8) -> u8
+pub fn rikzord_check_cycles(file: &[u8], lines: &mut u8) -> u8
     ensures { (result ≡ lines_refusal (lines_of file.now)) × (lines.new ≡ lines_byte lines.old (lines_of file.now)) }
 {
     let answer = cycles::check_cycles(file);
@@ -275,8 +265,7 @@ pub extern "C" fn rikzord_check_cycles(file: &[u8], lines: &mut u8) -> u8
 // ---- the memory window: C gets the number and the place, since it can't be handed a part of a slice
 
 // Where `count` bytes of a core's code from `start` on stand in the file.
-#[unsafe(no_mangle)]
-pub extern "C" fn rikzord_code_window(
+pub fn rikzord_code_window(
     file: &[u8],
     buffer: &[u8],
     core: u8,
@@ -295,8 +284,7 @@ pub extern "C" fn rikzord_code_window(
 }
 
 // Where `count` bytes of a core's data from `start` on stand in the data buffer.
-#[unsafe(no_mangle)]
-pub extern "C" fn rikzord_data_window(
+pub fn rikzord_data_window(
     file: &[u8],
     buffer: &[u8],
     core: u8,
@@ -318,8 +306,7 @@ pub extern "C" fn rikzord_data_window(
 
 // The lengths of data buffer, shared memory and core table go to `lengths`, each core's greatest instruction count and call depth to `counts` and
 // `depths` (crate bounds).
-#[unsafe(no_mangle)]
-pub extern "C" fn rikzord_takes(
+pub fn rikzord_takes(
     file: &[u8],
     lengths: &mut [usize],
     counts: &mut [u32],
@@ -333,8 +320,7 @@ pub extern "C" fn rikzord_takes(
 // ---- beside the machine: the two forms of a task set file
 
 // The file in the new form, with a count of 0 for each core, goes to the front of `out`, and its length to `length` (crate forms).
-#[unsafe(no_mangle)]
-pub extern "C" fn rikzord_to_new(file: &[u8], out: &mut [u8], length: &mut usize) -> u8
+pub fn rikzord_to_new(file: &[u8], out: &mut [u8], length: &mut usize) -> u8
     ensures { converted_lent result length.new out.new ≡ to_new_lent file.now out.old length.old }
 {
     let converted = forms::to_new(file, out);
@@ -346,8 +332,7 @@ pub extern "C" fn rikzord_to_new(file: &[u8], out: &mut [u8], length: &mut usize
 }
 
 // The file in the old form: 32 where it has start values.
-#[unsafe(no_mangle)]
-pub extern "C" fn rikzord_to_old(file: &[u8], out: &mut [u8], length: &mut usize) -> u8
+pub fn rikzord_to_old(file: &[u8], out: &mut [u8], length: &mut usize) -> u8
     ensures { converted_lent result length.new out.new ≡ to_old_lent file.now out.old length.old }
 {
     let converted = forms::to_old(file, out);
