@@ -52,7 +52,9 @@ pub extern "C" fn rikzord_run(
         × (taken.new ≡ taken_lent file.now trace.now table.old semaphore.old buffer.old shared.old
         order.now list.old taken.old) }
 {
-    rikzord::rikzord_run(file, trace, table, semaphore, buffer, shared, order, list, taken)
+    rikzord::rikzord_run(
+        file, trace, table, semaphore, buffer, shared, order, list, taken,
+    )
 }
 
 // The fresh state. The table needs at least n records, and the first n are written.

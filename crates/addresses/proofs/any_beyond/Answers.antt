@@ -1,5 +1,5 @@
 -- The first operand decides where it is beyond, else the second does.
-use Rattle.std.proofs.Common.{sym, ◌∙◌, rules}
+use Rattle.std.proofs.Common.{sym, ◌∙◌}
 use Rattle.addresses.proofs.any_beyond.Goals as goal
 
 pub returns-then-is_beyond : goal.returns-then-is_beyond

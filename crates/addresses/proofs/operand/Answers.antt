@@ -1,5 +1,5 @@
 -- The place of the number that `word` reads.
-use Rattle.std.proofs.Common.{ap, ◌∙◌, rules}
+use Rattle.std.proofs.Common.{ap, ◌∙◌}
 use Rattle.processor.specs.Processor.{place_of}
 use Rattle.addresses.proofs.operand.Goals as goal
 

@@ -1,5 +1,5 @@
 -- `addresses::operands` meets its contract. Each place is that of its address; where none is absolute, by one sum. Assumes nothing.
-use Rattle.std.proofs.Common.{arith, rules}
+use Rattle.std.proofs.Common.{arith}
 use Rattle.processor.proofs.Inside.{relative-operands}
 use Rattle.addresses.proofs.operands.Goals as goal
 

@@ -1,5 +1,5 @@
 -- The sum of the address and its base is the place (proofs/Inside, `summed`).
-use Rattle.std.proofs.Common.{arith, rules}
+use Rattle.std.proofs.Common.{arith}
 use Rattle.processor.proofs.Inside.{summed}
 use Rattle.addresses.proofs.place.Goals as goal
 

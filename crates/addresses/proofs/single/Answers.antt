@@ -1,5 +1,4 @@
 -- Each place is the one that `operand` gives; the source's stands twice.
-use Rattle.std.proofs.Common.{rules}
 use Rattle.addresses.proofs.single.Goals as goal
 
 pub returns : goal.returns

@@ -1,5 +1,4 @@
 -- `commands::arithmetic::add` meets its contract. Each arm is the command on its kind (`kinds`). Assumes nothing.
-use borrow.Author.Rules.{rules}
 use Rattle.values.specs.Commands.{ADD}
 use Rattle.commands.proofs.Arms.{kinds}
 use Rattle.arithmetic.proofs.add.Goals as goal

@@ -1,5 +1,4 @@
 -- `commands::arithmetic::div` meets its contract. Each arm is the command on its kind (`kinds`). Assumes nothing.
-use borrow.Author.Rules.{rules}
 use Rattle.commands.proofs.Arms.{kinds, divisors}
 use Rattle.values.specs.Commands.{DIV}
 use Rattle.arithmetic.proofs.div.Goals as goal

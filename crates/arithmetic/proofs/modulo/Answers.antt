@@ -1,5 +1,4 @@
 -- `commands::arithmetic::modulo` meets its contract. Each arm is the command on its kind (`kinds`). Assumes nothing.
-use borrow.Author.Rules.{rules}
 use Rattle.commands.proofs.Arms.{kinds}
 use Rattle.values.specs.Commands.{MOD}
 use Rattle.arithmetic.proofs.modulo.Goals as goal

@@ -1,5 +1,4 @@
 -- `commands::arithmetic::mul` meets its contract. Each arm is the command on its kind (`kinds`). Assumes nothing.
-use borrow.Author.Rules.{rules}
 use Rattle.values.proofs.Widths.{width-le}
 use Rattle.values.specs.Commands.{MUL}
 use Rattle.commands.proofs.Arms.{kinds}

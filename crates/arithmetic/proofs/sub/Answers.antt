@@ -1,5 +1,4 @@
 -- `commands::arithmetic::sub` meets its contract. Each arm is the command on its kind (`kinds`). Assumes nothing.
-use borrow.Author.Rules.{rules}
 use Rattle.values.specs.Commands.{SUB}
 use Rattle.commands.proofs.Arms.{kinds}
 use Rattle.arithmetic.proofs.sub.Goals as goal

@@ -1,6 +1,5 @@
 -- `commands::arithmetic::zero_divisor` meets its contract. Outside the whole-number types the definition is false; inside, the divisor has the width of the type. Assumes nothing.
 use native.Mathlib.Omega.{arith}
-use borrow.Author.Rules.{rules}
 use Rattle.values.proofs.Reading.{width_small}
 use Rattle.values.proofs.Commands.{zero-outside, zero-inside, divisor-in}
 use Rattle.arithmetic.proofs.zero_divisor.Goals as goal

@@ -1,6 +1,5 @@
 -- `beyond::beyond` meets its contract. The first operand that is beyond decides. Assumes nothing.
 use borrow.Author.Tests.{lt-ltb, le-ltb}
-use borrow.Author.Rules.{rules}
 use Rattle.values.specs.Commands.{beyond}
 use Rattle.beyond.proofs.beyond.Goals as goal
 

@@ -1,5 +1,4 @@
 -- `beyond::near_end` meets its contract. The first operand that has less than eight bytes decides (`nearness`). Assumes nothing.
-use borrow.Author.Rules.{rules}
 use Rattle.commands.proofs.Known.{nearness}
 use Rattle.beyond.proofs.near_end.Goals as goal
 

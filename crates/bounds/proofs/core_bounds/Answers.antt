@@ -3,7 +3,6 @@ use mathlib.Core.Path.{subst}
 use mathlib.Core.List.{List}
 use Prim.Native.Nat.{ℕ}
 use native.Mathlib.Omega.{arith}
-use borrow.Author.Rules.{rules}
 use Rattle.taskset.proofs.Exact.{keeps-rules}
 use Rattle.bounds.specs.Bounds.{Found}
 use Rattle.bounds.proofs.Answer.{core-in}

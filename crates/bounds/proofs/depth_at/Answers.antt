@@ -1,7 +1,6 @@
 -- `bounds::depth_at` meets its contract: each kind by the code byte, sums kept at 65,536. Assumes nothing.
 use mathlib.Core.Path.{refl}
 use native.Mathlib.Omega.{arith}
-use borrow.Author.Rules.{rules}
 use Rattle.code.specs.Commands.{Returns, Jumps, Branches, Calls, Passes}
 use Rattle.code.proofs.Laws.{kind-passes}
 use Rattle.bounds.specs.Bounds.{depth_by}

@@ -1,9 +1,7 @@
 -- `bounds::measure` meets its contract. The loop's invariant, `Passing`: what is known of the places from p on. Assumes nothing.
 use mathlib.Core.Path.{sym, ◌∙◌}
 use native.Mathlib.Omega.{arith}
-use borrow.Author.Rules.{rules}
-use borrow.Author.Tests.{not-true, not-false}
-use Rattle.bounds.proofs.Back.{Passing, passing-none, passing-skip, passing-more, passing-end, passing-stop, in_map, here}
+use Rattle.bounds.proofs.Back.{passing-none, passing-skip, passing-more, passing-end, passing-stop, in_map, here}
 use Rattle.bounds.proofs.measure.Goals as goal
 
 pub starts-starts-requires : goal.starts-starts-requires

@@ -1,9 +1,5 @@
 -- `bounds::measure` meets its contract. The loop's invariant, `Passing`: what is known of the places from p on. Assumes nothing.
-use mathlib.Core.Path.{sym, ◌∙◌}
-use native.Mathlib.Omega.{arith}
-use borrow.Author.Rules.{rules}
-use borrow.Author.Tests.{not-true, not-false}
-use Rattle.bounds.proofs.Back.{Passing, passing-none, passing-skip, passing-more, passing-end, passing-stop, in_map, here}
+use Rattle.bounds.proofs.Back.{Passing}
 use Rattle.bounds.proofs.measure.Given as goal
 
 abbrev pub invariant-loop-p : goal.invariant-loop-p

@@ -1,9 +1,8 @@
 -- `bounds::put_column` meets its contract. The loop's invariant: the first i numbers stand at the front. Assumes nothing.
-use mathlib.Core.Path.{◌≡◌, refl}
-use Prim.Native.Nat.{◌-◌, ◌≤◌}
+use mathlib.Core.Path.{refl}
+use Prim.Native.Nat.{◌-◌}
 use native.Mathlib.Omega.{arith}
-use lib.ListN.{length, length-set}
-use Rattle.memory.specs.Memory.{splice, part}
+use lib.ListN.{length-set}
 use Rattle.bounds.proofs.Outputs.{none-stored, one-more-stored, all-stored}
 use Rattle.bounds.proofs.put_column.Goals as goal
 

@@ -1,10 +1,8 @@
 -- `bounds::put_column` meets its contract. The loop's invariant: the first i numbers stand at the front. Assumes nothing.
-use mathlib.Core.Path.{◌≡◌, refl}
+use mathlib.Core.Path.{◌≡◌}
 use Prim.Native.Nat.{◌-◌, ◌≤◌}
-use native.Mathlib.Omega.{arith}
-use lib.ListN.{length, length-set}
+use lib.ListN.{length}
 use Rattle.memory.specs.Memory.{splice, part}
-use Rattle.bounds.proofs.Outputs.{none-stored, one-more-stored, all-stored}
 use Rattle.bounds.proofs.put_column.Given as goal
 
 abbrev pub invariant-loop-i : goal.invariant-loop-i

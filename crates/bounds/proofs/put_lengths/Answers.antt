@@ -1,6 +1,5 @@
 -- `bounds::put_lengths` meets its contract. Assumes nothing.
 use native.Mathlib.Omega.{arith}
-use borrow.Author.Rules.{rules}
 use lib.ListN.{length-set}
 use Rattle.bounds.proofs.Outputs.{three-stored}
 use Rattle.bounds.proofs.put_lengths.Goals as goal

@@ -2,7 +2,6 @@
 use mathlib.Core.Path.{sym}
 use native.Mathlib.Omega.{arith}
 use mathlib.Core.Logic.{inl, inr}
-use borrow.Author.Rules.{rules}
 use Rattle.bounds.proofs.Bytes.{rises-none, rises-as}
 use Rattle.bounds.proofs.rises_at.Goals as goal
 

@@ -1,6 +1,5 @@
 -- `bounds::takes` meets its contract: a file is refused, or loaded and then measured. Assumes nothing.
 use mathlib.Core.Path.{◌∙◌}
-use borrow.Author.Rules.{rules}
 use Rattle.taskset.proofs.Loading.{file-judged, file-accepted, file-laid}
 use Rattle.bounds.proofs.Answer.{refused-file}
 use Rattle.bounds.proofs.takes.Goals as goal

@@ -1,10 +1,9 @@
 -- `bounds::takes_in` meets its contract. The loop's invariant, `Counted`: no core below k is refused, and their numbers are found. Assumes nothing.
 use mathlib.Core.Path.{◌≡◌, sym, subst, ◌∙◌}
-use Prim.Native.Nat.{ℕ, ◌-◌, ◌≤◌}
+use Prim.Native.Nat.{ℕ, ◌-◌}
 use native.Mathlib.Omega.{arith}
-use borrow.Author.Rules.{rules}
 use Rattle.bounds.specs.Bounds.{takes_of}
-use Rattle.bounds.proofs.Answer.{Counted, counted_none, counted-more, refused-core, answered, few-cores}
+use Rattle.bounds.proofs.Answer.{counted_none, counted-more, refused-core, answered, few-cores}
 use Rattle.bounds.proofs.takes_in.Goals as goal
 
 pub loop-k-init : goal.loop-k-init
@@ -39,10 +38,10 @@ loop-k-smaller c = omega (arith, c.loop-k-test.true)
 
 pub loop-k-preserved : goal.loop-k-preserved
 loop-k-preserved c = let few = few-cores c.args.file.now _ c.requires.0 c.requires.1 in (
-      counted-more c.args.file.now c.loop-k.k _ _ _ _ _ (omega (arith, c.loop-k-test.true, few)) (omega (arith, c.loop-k-test.true, few))
-          c.loop-k.invariant.0 c.core_bounds-b.ensures c.if-b-ne0.false,
-      omega (arith, c.loop-k-test.true),
-    )
+  counted-more c.args.file.now c.loop-k.k _ _ _ _ _ (omega (arith, c.loop-k-test.true, few)) (omega (arith, c.loop-k-test.true, few))
+      c.loop-k.invariant.0 c.core_bounds-b.ensures c.if-b-ne0.false,
+  omega (arith, c.loop-k-test.true),
+)
 
 pub sum_of_sizes-buffer-requires : goal.sum_of_sizes-buffer-requires
 sum_of_sizes-buffer-requires c = c.requires

@@ -1,10 +1,6 @@
 -- `bounds::takes_in` meets its contract. The loop's invariant, `Counted`: no core below k is refused, and their numbers are found. Assumes nothing.
-use mathlib.Core.Path.{◌≡◌, sym, subst, ◌∙◌}
-use Prim.Native.Nat.{ℕ, ◌-◌, ◌≤◌}
-use native.Mathlib.Omega.{arith}
-use borrow.Author.Rules.{rules}
-use Rattle.bounds.specs.Bounds.{takes_of}
-use Rattle.bounds.proofs.Answer.{Counted, counted_none, counted-more, refused-core, answered, few-cores}
+use Prim.Native.Nat.{◌-◌, ◌≤◌}
+use Rattle.bounds.proofs.Answer.{Counted}
 use Rattle.bounds.proofs.takes_in.Given as goal
 
 abbrev pub invariant-loop-k : goal.invariant-loop-k

@@ -1,5 +1,4 @@
 -- `bounds::takes_to` meets its contract: nothing is written before the refusal is known. Assumes nothing.
-use borrow.Author.Rules.{rules}
 use Rattle.bounds.proofs.Outputs.{output-refused, room, output-done}
 use Rattle.bounds.proofs.takes_to.Goals as goal
 

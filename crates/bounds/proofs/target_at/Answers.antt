@@ -1,7 +1,6 @@
 -- `bounds::target_at` meets its contract: the code byte says where T stands. Assumes nothing.
 use mathlib.Core.Path.{sym}
 use native.Mathlib.Omega.{arith}
-use borrow.Author.Rules.{rules}
 use Rattle.verdict.specs.Verdict.{pick}
 use Rattle.code.specs.Commands.{row_of, length_of}
 use Rattle.code.specs.Flow.{target_at}

@@ -1,7 +1,6 @@
 -- The index stays below the length.
 use Prim.Native.Nat.{◌≤◌, ◌-◌}
 use lib.ListN.{length}
-use borrow.Author.Rules.{rules}
 use Rattle.cases.proofs.behind.Given as goal
 
 abbrev pub invariant-loop-i : goal.invariant-loop-i

@@ -1,8 +1,6 @@
 -- The index goes from `from` to the length.
-use Prim.Native.Nat.{◌≤◌, ◌-◌}
-use lib.ListN.{length}
+use Prim.Native.Nat.{◌-◌}
 use native.Mathlib.Omega.{arith}
-use borrow.Author.Rules.{rules}
 use Rattle.cases.proofs.found.Goals as goal
 
 pub returns-then-text-from : goal.returns-then-text-from

@@ -1,8 +1,6 @@
 -- The index goes from `from` to the length.
 use Prim.Native.Nat.{◌≤◌, ◌-◌}
 use lib.ListN.{length}
-use native.Mathlib.Omega.{arith}
-use borrow.Author.Rules.{rules}
 use Rattle.cases.proofs.found.Given as goal
 
 abbrev pub invariant-loop-i : goal.invariant-loop-i

@@ -1,7 +1,6 @@
 -- The table's length, and MCD's n.
 use native.Mathlib.Omega.{arith}
 use borrow.Author.Tests.{eq-eqb, ne_eqb}
-use borrow.Author.Rules.{rules}
 use Rattle.verdict.specs.Verdict.{pick}
 use Rattle.code.specs.Instructions.{instruction_length}
 use Rattle.code.proofs.Laws.{short}

@@ -1,6 +1,5 @@
 -- Case by case of the profile.
 use mathlib.Core.Path.{sym, ap, ◌∙◌}
-use borrow.Author.Rules.{rules}
 use Rattle.code.specs.Profiles.{types_at, carries}
 use Rattle.code.specs.declared.Profile.{Profile}
 use Rattle.code.proofs.is_carried.Goals as goal

@@ -2,7 +2,6 @@
 use mathlib.Core.Path.{sym, ap, ◌∙◌}
 use mathlib.Core.Bool.{not}
 use native.Mathlib.Omega.{arith}
-use borrow.Author.Rules.{rules}
 use Rattle.code.proofs.Types.{types-low, types-time, type-inside, types-wide, types-both, types-one}
 use Rattle.code.proofs.is_small.Goals as goal
 

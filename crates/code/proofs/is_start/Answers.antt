@@ -2,8 +2,7 @@
 use Prim.Native.Nat.{◌-◌}
 use mathlib.Core.Path.{sym, ◌∙◌}
 use native.Mathlib.Omega.{arith}
-use borrow.Author.Rules.{rules}
-use Rattle.code.proofs.Passes.{Walking, walking-none, walking-more, walking-stuck, walking-past, walking-end, start-beyond}
+use Rattle.code.proofs.Passes.{walking-none, walking-more, walking-stuck, walking-past, walking-end, start-beyond}
 use Rattle.code.proofs.is_start.Goals as goal
 
 pub returns-then-code-place : goal.returns-then-code-place

@@ -1,10 +1,8 @@
 -- The ranges in the order of the definition; each way out rewrites the tests that led to it.
-use mathlib.Core.Path.{◌≡◌, sym, ◌∙◌}
+use mathlib.Core.Path.{sym, ◌∙◌}
 use mathlib.Core.Bool.{false}
-use lib.Dec.{eqb}
-use borrow.Author.Tests.{lt-leb, le-leb, eq-eqb, ne_eqb, not-true, not-false}
-use borrow.Author.Rules.{rules}
-use Rattle.verdict.specs.Verdict.{pick, within}
+use borrow.Author.Tests.{lt-leb, le-leb, eq-eqb, ne_eqb}
+use Rattle.verdict.specs.Verdict.{pick}
 use Rattle.values.specs.Types.{takes}
 use Rattle.code.proofs.takes_type.Goals as goal
 
@@ -43,5 +41,3 @@ returns c = rw (sym c.inside.ensures ∙ c.if-inside.false, sym c.inside-2.ensur
 pub returns-then-t-gt8 : goal.returns-then-t-gt8
 unfolding takes pick
 returns-then-t-gt8 c = rw (sym c.inside.ensures ∙ c.if-inside.false, sym c.inside-2.ensures ∙ c.if-inside-2.false, ne_eqb _ _ c.if-code-eq20.false, sym c.inside-3.ensures, c.if-inside-3.true, lt-leb _ _ c.if-t-gt8.true)
-
-

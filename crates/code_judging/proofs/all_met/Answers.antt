@@ -1,9 +1,7 @@
 -- The invariant: the largest byte so far is one of the map's, and no byte so far is larger.
-use mathlib.Core.Logic.{⊎_elim}
-use Prim.Native.Nat.{ℕ, ◌-◌, ◌≤◌, ◌<◌}
+use Prim.Native.Nat.{◌-◌}
 use native.Mathlib.Omega.{arith}
-use lib.ListN.{length, get_or}
-use Rattle.code.proofs.Laying.{most-more, most-end}
+use Rattle.code.proofs.Laying.{most-end}
 use Rattle.code_judging.proofs.all_met.Goals as goal
 
 pub loop-i-init : goal.loop-i-init

@@ -1,9 +1,6 @@
 -- The invariant: the largest byte so far is one of the map's, and no byte so far is larger.
-use mathlib.Core.Logic.{⊎_elim}
 use Prim.Native.Nat.{ℕ, ◌-◌, ◌≤◌, ◌<◌}
-use native.Mathlib.Omega.{arith}
 use lib.ListN.{length, get_or}
-use Rattle.code.proofs.Laying.{most-more, most-end}
 use Rattle.code_judging.proofs.all_met.Given as goal
 
 abbrev pub invariant-loop-i : goal.invariant-loop-i

@@ -1,5 +1,4 @@
 -- A place that is no start is asked for.
-use borrow.Author.Rules.{rules}
 use Rattle.code.proofs.Laying.{asked-outside, asked-start, asked-new}
 use Rattle.code_judging.proofs.ask.Goals as goal
 

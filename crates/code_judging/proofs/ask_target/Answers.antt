@@ -1,7 +1,6 @@
 -- The code byte says where T stands.
 use mathlib.Core.Path.{sym}
 use native.Mathlib.Omega.{arith}
-use borrow.Author.Rules.{rules}
 use Rattle.verdict.specs.Verdict.{pick}
 use Rattle.code.specs.Flow.{kind_at, target_at}
 use Rattle.code.specs.Commands.{row_of, length_of}

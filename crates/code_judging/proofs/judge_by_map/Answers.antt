@@ -1,7 +1,6 @@
 -- The judgements in the order of the definition; the targets by the map of the one pass.
 use mathlib.Core.Path.{sym, ◌∙◌}
-use borrow.Author.Tests.{le-ltb, lt-ltb, not-true, not-false}
-use borrow.Author.Rules.{rules}
+use borrow.Author.Tests.{le-ltb, lt-ltb}
 use Rattle.verdict.proofs.Verdict.{skip, halt, yes, no}
 use Rattle.code.specs.Code.{judge_code_for}
 use Rattle.code.proofs.Laying.{targets-wanted, targets-right, first-refused, first-none}

@@ -1,15 +1,11 @@
 -- `Laying`: what is left to judge is what was asked, and the marks are the starts that were passed and the targets that were not.
 use Prim.Native.Nat.{◌-◌}
-use lib.ListN.{length}
 use mathlib.Core.Path.{sym, ap, ◌∙◌}
-use mathlib.Core.Logic.{⊎_elim}
 use mathlib.Core.Bool.{Bool}
-use borrow.Author.Tests.{not-true, not-false}
 use native.Mathlib.Omega.{arith}
-use borrow.Author.Rules.{rules}
 use Rattle.verdict.specs.Verdict.{either}
 use Rattle.code.proofs.Laws.{whole, carried-not, length_taken, length-refused}
-use Rattle.code.proofs.Laying.{Laying, laying-none, asked-size, laying-more, laying-end, laying-stop}
+use Rattle.code.proofs.Laying.{laying-none, asked-size, laying-more, laying-end, laying-stop}
 use Rattle.code_judging.proofs.lay.Goals as goal
 use Rattle.code_judging.proofs.lay.Goals.{then-ask_target, else-ask_target}
 
@@ -61,4 +57,3 @@ loop-p-preserved c = let outside = c.loop-p.outside in
     laying-more _ _ _ _ _ _ c.requires.1 c.loop-p.invariant c.loop-p-test.true
     _ c.accepted_length-n.ensures c.if-n-eq0.false (sym c.is_carried.ensures ∙ c.if-not-is_carried.false) _ _ c.ask_target.ensures _
     (elim c.if-ask_target.branch [ then-ask_target w ↦ w.outside-is ∙ ap (λ (x : Bool). either x outside) (sym w.if-ask_target.true) | else-ask_target w ↦ w.outside-is ∙ ap (λ (x : Bool). either x outside) (sym w.if-ask_target.false) ])
-

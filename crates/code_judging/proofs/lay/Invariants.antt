@@ -1,15 +1,7 @@
 -- `Laying`: what is left to judge is what was asked, and the marks are the starts that were passed and the targets that were not.
 use Prim.Native.Nat.{◌-◌}
 use lib.ListN.{length}
-use mathlib.Core.Path.{sym, ap, ◌∙◌}
-use mathlib.Core.Logic.{⊎_elim}
-use mathlib.Core.Bool.{Bool}
-use borrow.Author.Tests.{not-true, not-false}
-use native.Mathlib.Omega.{arith}
-use borrow.Author.Rules.{rules}
-use Rattle.verdict.specs.Verdict.{either}
-use Rattle.code.proofs.Laws.{whole, carried-not, length_taken, length-refused}
-use Rattle.code.proofs.Laying.{Laying, laying-none, asked-size, laying-more, laying-end, laying-stop}
+use Rattle.code.proofs.Laying.{Laying}
 use Rattle.code_judging.proofs.lay.Given as goal
 
 abbrev pub invariant-loop-p : goal.invariant-loop-p

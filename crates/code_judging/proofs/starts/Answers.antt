@@ -1,6 +1,5 @@
 -- Accepted code is laid, so the marks are its starts.
 use mathlib.Core.Path.{◌∙◌}
-use borrow.Author.Rules.{rules}
 use Rattle.verdict.proofs.Verdict.{next-zero}
 use Rattle.code.specs.Code.{judge_code_for}
 use Rattle.code_judging.proofs.starts.Goals as goal

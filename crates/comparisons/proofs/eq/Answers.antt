@@ -1,5 +1,4 @@
 -- `commands::comparisons::eq` meets its contract. Each arm is the comparison of its kind (`comparisons`). Assumes nothing.
-use borrow.Author.Rules.{rules}
 use Rattle.values.specs.Commands.{EQ}
 use Rattle.commands.proofs.Arms.{comparisons}
 use Rattle.comparisons.proofs.eq.Goals as goal

@@ -1,5 +1,4 @@
 -- `commands::comparisons::ge` meets its contract. Each arm is the comparison of its kind (`comparisons`). Assumes nothing.
-use borrow.Author.Rules.{rules}
 use Rattle.values.specs.Commands.{GE}
 use Rattle.commands.proofs.Arms.{comparisons}
 use Rattle.comparisons.proofs.ge.Goals as goal

@@ -1,5 +1,4 @@
 -- `commands::comparisons::le` meets its contract. Each arm is the comparison of its kind (`comparisons`). Assumes nothing.
-use borrow.Author.Rules.{rules}
 use Rattle.values.specs.Commands.{Le}
 use Rattle.commands.proofs.Arms.{comparisons}
 use Rattle.comparisons.proofs.le.Goals as goal

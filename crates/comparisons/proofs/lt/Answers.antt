@@ -1,5 +1,4 @@
 -- `commands::comparisons::lt` meets its contract. Each arm is the comparison of its kind (`comparisons`). Assumes nothing.
-use borrow.Author.Rules.{rules}
 use Rattle.values.specs.Commands.{Lt}
 use Rattle.commands.proofs.Arms.{comparisons}
 use Rattle.comparisons.proofs.lt.Goals as goal

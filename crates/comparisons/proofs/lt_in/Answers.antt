@@ -1,5 +1,4 @@
 -- `commands::comparisons::lt_in` meets its contract. The operands are read by the type, and the pattern is the result's (`compare-pattern`). Assumes nothing.
-use borrow.Author.Rules.{rules}
 use Rattle.verdict.specs.Verdict.{pick}
 use Rattle.values.specs.Commands.{result, result_type}
 use Rattle.values.proofs.Commands.{compare-pattern}

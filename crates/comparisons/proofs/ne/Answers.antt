@@ -1,5 +1,4 @@
 -- `commands::comparisons::ne` meets its contract. Each arm is the comparison of its kind (`comparisons`). Assumes nothing.
-use borrow.Author.Rules.{rules}
 use Rattle.values.specs.Commands.{NE}
 use Rattle.commands.proofs.Arms.{comparisons}
 use Rattle.comparisons.proofs.ne.Goals as goal

@@ -24,13 +24,13 @@ slice_bounds-write_run-end c = prefix _ 16384 c.sum_of_sizes-size.ensures.1
 
 pub write_run-requires : goal.write_run-requires
 write_run-requires c = let file = c.args.file.now in (
-      record {
-        accepted = file-accepted file _ c.load_file-loaded.ensures c.if-loaded-ne0.false;
-        laid = file-laid file _ c.load_file-loaded.ensures c.if-loaded-ne0.false;
-        fits = zeros-fit file _ c.sum_of_sizes-size.ensures.0 c.sum_of_sizes-size.ensures.1;
-      },
-      short-order _ _ _ (sym c.too_long.ensures ∙ c.if-too_long.false),
-    )
+  record {
+    accepted = file-accepted file _ c.load_file-loaded.ensures c.if-loaded-ne0.false;
+    laid = file-laid file _ c.load_file-loaded.ensures c.if-loaded-ne0.false;
+    fits = zeros-fit file _ c.sum_of_sizes-size.ensures.0 c.sum_of_sizes-size.ensures.1;
+  },
+  short-order _ _ _ (sym c.too_long.ensures ∙ c.if-too_long.false),
+)
 
 pub returns : goal.returns
 returns c = let a = c.args in

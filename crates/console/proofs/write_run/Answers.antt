@@ -1,6 +1,5 @@
 -- `console::write_run` meets its contract: what the run refuses is printed, or the listing. Assumes nothing.
 use native.Mathlib.Omega.{arith}
-use borrow.Author.Rules.{rules}
 use Rattle.console.proofs.Runs.{run-refused, run-listed, written}
 use Rattle.console.proofs.write_run.Goals as goal
 

@@ -1,7 +1,6 @@
 -- The index stays below the length.
 -- Assumes nothing.
 use Prim.Native.Nat.{◌≤◌, ◌-◌}
-use borrow.Author.Rules.{rules}
 use lib.ListN.{length}
 use Rattle.contents.proofs.used.Given as goal
 

@@ -1,6 +1,6 @@
 -- `conversions::convert` meets its contract. Each arm is a row of the table of types; the last is none of them. Assumes nothing.
 use lib.Ieee.{Float}
-use Rattle.std.proofs.Common.{ap, rules}
+use Rattle.std.proofs.Common.{ap}
 use Rattle.values.specs.declared.Value.TheVariants.{Real, Lreal}
 use Rattle.conversions.specs.declared.Converted.TheVariants.{Gives}
 use Rattle.conversions.specs.Conversions.{to_type}

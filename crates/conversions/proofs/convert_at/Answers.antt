@@ -1,5 +1,5 @@
 -- `conversions::convert_at` meets its contract. The addresses are tried; then what is converted is stored, or not held. Assumes nothing.
-use Rattle.std.proofs.Common.{length, ap, ◌∙◌, rules}
+use Rattle.std.proofs.Common.{length, ap, ◌∙◌}
 use Rattle.values.specs.Values.{read_value}
 use Rattle.values.specs.Types.{width_of}
 use Rattle.memory.specs.Memory.{read_le}
@@ -21,17 +21,17 @@ returns-then-either_beyond c = let a = c.args in
 
 pub read_value-v-requires : goal.read_value-v-requires
 read_value-v-requires c = let a = c.args in (
-      c.requires.0,
-      source_in (length a.d.now) a.destination _ a.source _ a.to a.from _ c.either_beyond.ensures
-          c.width_of.ensures c.width_of-2.ensures c.if-either_beyond.false,
-    )
+  c.requires.0,
+  source_in (length a.d.now) a.destination _ a.source _ a.to a.from _ c.either_beyond.ensures
+      c.width_of.ensures c.width_of-2.ensures c.if-either_beyond.false,
+)
 
 pub settle-requires : goal.settle-requires
 settle-requires c = let a = c.args in (
-      c.requires.1,
-      to_in (length a.d.now) a.destination _ a.source _ a.to a.from _ c.either_beyond.ensures c.width_of.ensures
-          c.width_of-2.ensures c.if-either_beyond.false,
-    )
+  c.requires.1,
+  to_in (length a.d.now) a.destination _ a.source _ a.to a.from _ c.either_beyond.ensures c.width_of.ensures
+      c.width_of-2.ensures c.if-either_beyond.false,
+)
 
 pub returns : goal.returns
 unfolding converting converted read_value

@@ -1,7 +1,7 @@
 -- `conversions::dropped` meets its contract: the leading zeros give the place of the leading digit, and that gives how many digits a REAL drops. Assumes nothing.
 use lib.Count.{count_leading_zeros, leading_le, leading_top}
 use Rattle.conversions.proofs.Single as Single
-use Rattle.std.proofs.Common.{◌≡◌, ℕ, suc, ◌+◌, ◌-◌, sym, ap, ◌∙◌, arith, rules}
+use Rattle.std.proofs.Common.{◌≡◌, ℕ, suc, ◌+◌, ◌-◌, sym, ap, ◌∙◌, arith}
 use Rattle.conversions.proofs.dropped.Goals as goal
 
 pub overflow_cast-z : goal.overflow_cast-z

@@ -1,5 +1,5 @@
 -- `conversions::either_beyond` meets its contract. The first operand that is beyond decides. Assumes nothing.
-use Rattle.std.proofs.Common.{rules, le-ltb, lt-ltb}
+use Rattle.std.proofs.Common.{le-ltb, lt-ltb}
 use Rattle.values.specs.Commands.{beyond}
 use Rattle.conversions.proofs.either_beyond.Goals as goal
 

@@ -1,5 +1,5 @@
 -- `conversions::held_at` meets its contract: signed or not, it is what its two callees say. Assumes nothing.
-use Rattle.std.proofs.Common.{Bool, sym, ap, ◌∙◌, rules}
+use Rattle.std.proofs.Common.{Bool, sym, ap, ◌∙◌}
 use Rattle.conversions.specs.Conversions.{held_in, with_sign}
 use Rattle.conversions.proofs.held_at.Goals as goal
 

@@ -2,7 +2,7 @@
 use lib.Signed.{le_z, non_neg}
 use Rattle.conversions.proofs.Whole as Whole
 use Rattle.values.proofs.Signs.{read64, at64, cast-up, mirrored64, mirror-read}
-use Rattle.std.proofs.Common.{◌≡◌, ◌+◌, ◌-◌, ◌^◌, ◌<◌, true, false, T, ℤ, pos, nat_abs, sym, ap, ◌∙◌, subst, arith, w64, Fits, SFits, rules}
+use Rattle.std.proofs.Common.{◌≡◌, ◌+◌, ◌-◌, ◌^◌, ◌<◌, true, false, T, ℤ, pos, nat_abs, sym, ap, ◌∙◌, subst, arith, w64, Fits, SFits}
 use Rattle.conversions.proofs.magnitude.Goals as goal
 
 pub overflow_cast-result : goal.overflow_cast-result

@@ -1,7 +1,7 @@
 -- `conversions::nearest_shift` meets its contract: by at most 63 places a division; by 64 only a comparison; by more nothing is left. Assumes nothing.
 use lib.Ieee.Nearest.{closest}
 use lib.Pow.{pow-lt}
-use Rattle.std.proofs.Common.{◌≡◌, ℕ, ◌-◌, ◌*◌, ◌^◌, ◌<◌, sym, ap, ◌∙◌, subst, arith, pow_pos, rules}
+use Rattle.std.proofs.Common.{◌≡◌, ℕ, ◌-◌, ◌*◌, ◌^◌, ◌<◌, sym, ap, ◌∙◌, subst, arith, pow_pos}
 use Rattle.conversions.proofs.Rounding as Rounding
 use Rattle.conversions.proofs.nearest_shift.Goals as goal
 

@@ -6,7 +6,7 @@ use lib.Ieee.{Float, binary64}
 use lib.Ieee as Ieee
 use Rattle.conversions.specs.Conversions.{nearest_whole, held_in, with_sign}
 use Rattle.conversions.specs.Digits.{digits_in, shift_in}
-use Rattle.std.proofs.Common.{ℕ, ◌-◌, ◌*◌, ◌^◌, ◌<◌, ◌≤◌, leb, sym, ap, ◌∙◌, subst, arith, rules}
+use Rattle.std.proofs.Common.{ℕ, ◌-◌, ◌*◌, ◌^◌, ◌<◌, ◌≤◌, leb, sym, ap, ◌∙◌, subst, arith}
 use Rattle.values.proofs.Floats.{differs, not-differs}
 use Rattle.conversions.proofs.Whole as Whole
 use Rattle.conversions.proofs.nearest_whole.Goals as goal

@@ -2,7 +2,7 @@
 use lib.Ieee.Nearest.{closest}
 use lib.Ieee.{binary32}
 use lib.Ieee as Ieee
-use Rattle.std.proofs.Common.{◌≡◌, ℕ, ◌+◌, ◌-◌, ◌*◌, ◌^◌, ◌<◌, ◌≤◌, cond, sym, ap, ◌∙◌, subst, arith, rules}
+use Rattle.std.proofs.Common.{◌≡◌, ℕ, ◌+◌, ◌-◌, ◌*◌, ◌^◌, ◌<◌, ◌≤◌, cond, sym, ap, ◌∙◌, subst, arith}
 use Rattle.conversions.proofs.Single as Single
 use Rattle.conversions.proofs.round_bits.Goals as goal
 

@@ -1,5 +1,5 @@
 -- `conversions::settle` meets its contract: what is held is stored at the width of the type. Assumes nothing.
-use Rattle.std.proofs.Common.{ℕ, ◌+◌, ◌≤◌, length, sym, ap, ◌∙◌, subst, rules}
+use Rattle.std.proofs.Common.{ℕ, ◌+◌, ◌≤◌, length, sym, ap, ◌∙◌, subst}
 use Rattle.memory.specs.Memory.{splice, bytes_le}
 use Rattle.values.specs.Values.{pattern_of, stored}
 use Rattle.values.specs.Width.{Width}

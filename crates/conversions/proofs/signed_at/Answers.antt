@@ -1,6 +1,6 @@
 -- `conversions::signed_at` meets its contract: below zero n - 1 is compared with the half, above it n. Assumes nothing.
 use mir.Facts.{to_z_pos}
-use Rattle.std.proofs.Common.{ℕ, ◌-◌, ◌^◌, ◌<◌, ◌≤◌, true, false, ℤ, sym, refl, ap, ◌∙◌, subst, arith, w64, rules}
+use Rattle.std.proofs.Common.{ℕ, ◌-◌, ◌^◌, ◌<◌, ◌≤◌, true, false, ℤ, sym, refl, ap, ◌∙◌, subst, arith, w64}
 use Rattle.values.specs.declared.Value.TheVariants.{Signed}
 use Rattle.values.proofs.Signs.{read64}
 use Rattle.values.proofs.Widths as Widths

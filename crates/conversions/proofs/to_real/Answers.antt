@@ -3,7 +3,7 @@ use lib.Ieee.{binary32}
 use lib.Ieee as Ieee
 use lib.Signed.{lt_z}
 use Rattle.conversions.specs.Conversions.{to_real}
-use Rattle.std.proofs.Common.{ℕ, ◌-◌, ◌*◌, ◌^◌, false, ℤ, pos, nat_abs, sym, ap, ◌∙◌, w64, to_z, of_z, rules}
+use Rattle.std.proofs.Common.{ℕ, ◌-◌, ◌*◌, ◌^◌, false, ℤ, pos, nat_abs, sym, ap, ◌∙◌, w64, to_z, of_z}
 use Rattle.values.proofs.Floats.{zero_by_zero}
 use Rattle.values.proofs.Signs.{read64}
 use Rattle.conversions.proofs.Whole as Whole

@@ -1,7 +1,7 @@
 -- `conversions::to_whole` meets its contract: each kind is a clause of the definition; a REAL is widened first, which keeps its value. Assumes nothing.
 use lib.Signed.{lt_z}
 use Rattle.conversions.specs.Conversions.{to_whole, held_in, with_sign, nearest_whole}
-use Rattle.std.proofs.Common.{ℕ, ◌-◌, ℤ, pos, nat_abs, sym, ap, ◌∙◌, w64, to_z, of_z, rules}
+use Rattle.std.proofs.Common.{ℕ, ◌-◌, ℤ, pos, nat_abs, sym, ap, ◌∙◌, w64, to_z, of_z}
 use Rattle.values.proofs.Signs.{read64}
 use Rattle.conversions.proofs.Whole as Whole
 use Rattle.conversions.proofs.to_whole.Goals as goal

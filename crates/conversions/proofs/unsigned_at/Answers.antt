@@ -1,5 +1,5 @@
 -- `conversions::unsigned_at` meets its contract. n is below 2 ^ (8 * w) exactly if its half is below half of that. Assumes nothing.
-use Rattle.std.proofs.Common.{◌<◌, true, false, sym, refl, ◌∙◌, arith, rules}
+use Rattle.std.proofs.Common.{◌<◌, true, false, sym, refl, ◌∙◌, arith}
 use Rattle.values.proofs.Widths as Widths
 use Rattle.conversions.proofs.Whole as Whole
 use Rattle.conversions.proofs.unsigned_at.Goals as goal

@@ -1,11 +1,10 @@
 -- `copies::move_singly` meets its contract. Assumes nothing.
-use mathlib.Core.Path.{◌≡◌, refl, sym, ◌∙◌}
-use Prim.Native.Nat.{◌+◌, ◌-◌, ◌≤◌}
+use mathlib.Core.Path.{refl, sym, ◌∙◌}
+use Prim.Native.Nat.{◌-◌}
 use native.Mathlib.Omega.{arith}
 use native.Mathlib.Nat.{add-zero, sub-zero}
-use lib.ListN.{length, length-set}
+use lib.ListN.{length-set}
 use borrow.Author.Rules.{rules}
-use Rattle.memory.specs.Memory.{splice, part}
 use Rattle.memory.proofs.Turns.{copy_done, byte-done}
 use Rattle.memory.proofs.Words.{moved-turn}
 use Rattle.copies.proofs.move_singly.Goals as goal

@@ -1,13 +1,8 @@
 -- `copies::move_singly` meets its contract. Assumes nothing.
-use mathlib.Core.Path.{◌≡◌, refl, sym, ◌∙◌}
+use mathlib.Core.Path.{◌≡◌}
 use Prim.Native.Nat.{◌+◌, ◌-◌, ◌≤◌}
-use native.Mathlib.Omega.{arith}
-use native.Mathlib.Nat.{add-zero, sub-zero}
-use lib.ListN.{length, length-set}
-use borrow.Author.Rules.{rules}
+use lib.ListN.{length}
 use Rattle.memory.specs.Memory.{splice, part}
-use Rattle.memory.proofs.Turns.{copy_done, byte-done}
-use Rattle.memory.proofs.Words.{moved-turn}
 use Rattle.copies.proofs.move_singly.Given as goal
 
 abbrev pub invariant-loop-i : goal.invariant-loop-i

@@ -1,8 +1,6 @@
 -- `copies::rikzord_copy_by_bytes` meets its contract. Assumes nothing.
 use mathlib.Core.Path.{sym, ◌∙◌}
 use native.Mathlib.Omega.{arith}
-use borrow.Author.Rules.{rules}
-use borrow.Author.Tests.{not-true, not-false}
 use Rattle.memory.proofs.Words.{disjoint-by}
 use Rattle.copies.proofs.Copies.{fitting, fit, unfit}
 use Rattle.copies.proofs.rikzord_copy_by_bytes.Goals as goal

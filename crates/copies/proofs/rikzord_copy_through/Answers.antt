@@ -1,7 +1,5 @@
 -- `copies::rikzord_copy_through` meets its contract. Assumes nothing.
 use mathlib.Core.Path.{sym, ◌∙◌}
-use borrow.Author.Rules.{rules}
-use borrow.Author.Tests.{not-true, not-false}
 use Rattle.copies.proofs.Copies.{fitting, fit, unfit}
 use Rattle.copies.proofs.rikzord_copy_through.Goals as goal
 

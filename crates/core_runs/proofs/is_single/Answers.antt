@@ -1,6 +1,5 @@
 -- `core_runs::is_single` meets its contract: where it is, both tests were made. Assumes nothing.
 use mathlib.Core.Path.{sym, ap, ◌∙◌}
-use borrow.Author.Rules.{rules}
 use Rattle.verdict.proofs.Verdict.{absurd-bool}
 use Rattle.processor.specs.Executable.{frequent}
 use Rattle.core_runs.proofs.is_single.Goals as goal

@@ -2,10 +2,8 @@
 use mathlib.Core.Path.{refl}
 use Prim.Native.Nat.{◌-◌}
 use native.Mathlib.Omega.{arith}
-use borrow.Author.Rules.{rules}
 use Rattle.runner.specs.Running.{reached_at}
-use Rattle.runner.specs.Executing.{Executes}
-use Rattle.runner.proofs.Executing.{steps-alone, executes-none, executes-on, executing-on, executing-count, executing-length, executes-alone, standing-alone, left_of, left_less}
+use Rattle.runner.proofs.Executing.{steps-alone, executes-none, executes-on, executing-on, executing-count, executing-length, executes-alone, standing-alone, left_less}
 use Rattle.core_runs.proofs.run_alone.Goals as goal
 
 pub overflow_cast-order : goal.overflow_cast-order

@@ -1,11 +1,7 @@
 -- `core_runs::run_alone` meets its contract. The invariant: the instructions so far are steps of core k. Assumes nothing.
-use mathlib.Core.Path.{refl}
 use Prim.Native.Nat.{◌-◌}
-use native.Mathlib.Omega.{arith}
-use borrow.Author.Rules.{rules}
-use Rattle.runner.specs.Running.{reached_at}
 use Rattle.runner.specs.Executing.{Executes}
-use Rattle.runner.proofs.Executing.{steps-alone, executes-none, executes-on, executing-on, executing-count, executing-length, executes-alone, standing-alone, left_of, left_less}
+use Rattle.runner.proofs.Executing.{left_of}
 use Rattle.core_runs.proofs.run_alone.Given as goal
 
 abbrev pub invariant-loop-r : goal.invariant-loop-r

@@ -1,21 +1,16 @@
 -- `core_runs::run_core` meets its contract. The invariant: any run that stood before the first step stands before this one. Assumes nothing.
 use mathlib.Core.Path.{◌≡◌, refl, sym, ap, ◌∙◌}
-use mathlib.Core.Logic.{◌≢◌, ⊎_elim}
-use mathlib.Core.List.{List}
-use Prim.Native.Nat.{ℕ, ◌+◌, ◌-◌, ◌≤◌, ◌<◌}
+use Prim.Native.Nat.{◌+◌, ◌-◌}
 use native.Mathlib.Omega.{arith}
-use lib.ListN.{length}
 use borrow.Author.Rules.{rules}
 use Rattle.protocol.specs.declared.Registers.{Registers}
 use Rattle.protocol.specs.Registers.{cycle_ended, faulted}
-use Rattle.protocol.specs.declared.Outcome.{Outcome}
-use Rattle.protocol.specs.declared.Outcome.TheVariants.{Fault as Failed, Return as Returns}
+use Rattle.protocol.specs.declared.Outcome.TheVariants.{Fault as Failed}
 use Rattle.processor.specs.Typed.{outcome_of}
-use Rattle.steps.specs.Effects.{Takes, effect_of, InstructsIn}
 use Rattle.steps.proofs.Given.{at-instruction, counter-low, limit-in, limit-low}
-use Rattle.runner.specs.Running.{executing_at, CarriesRun}
+use Rattle.runner.specs.Running.{executing_at}
 use Rattle.order.proofs.Stretches.{step_in_lem}
-use Rattle.runner.proofs.Carrying.{carry-none, carries-as, Instructed, Turn, turn-of, doing, given-at, stopped_by_lem, ended-takes, returned-takes, advanced-at, called_at, returned-at}
+use Rattle.runner.proofs.Carrying.{carry-none, carries-as, Instructed, turn-of, doing, given-at, stopped_by_lem, ended-takes, returned-takes, advanced-at, called_at, returned-at}
 use Rattle.runner.proofs.Carrying.{ready-now, length-now, core-few, keeps_same, keeps-executing, reaches-on, reaches-fault, reaches-ended, takes-outcome, carry-next, carry-fault, carry-ended, carry-call, carry-return}
 use Rattle.core_runs.proofs.run_core.Goals as goal
 use Rattle.core_runs.proofs.run_core.Goals.{then-has_three+in-Done, else-has_three+in-Next, else-has_three+in-Call, else-has_three+in-Return+else-depth-eq0}
@@ -140,7 +135,7 @@ loop-step-preserved c =
     let here = c.loop-step in
     let count : begun.before.count + (here.step + 1 - begun.from) ≡ begun.before.count + (here.step - begun.from) + 1 = omega (arith, here.invariant.0) in
     elim c.if-has_three.branch [
-      then-has_three+in-Done w ↦ (
+      | then-has_three+in-Done w ↦ (
         omega (arith, here.invariant.0),
         omega (arith, c.loop-step-test.true),
         carries-as (advanced-at begun.before here.counter here.offset here.depth _ (w.counter-is ∙ ap (λ (r : Registers). r.counter + 8) (sym c.placed_at-r.ensures)) w.offset-is w.depth-is count) w.places-is w.offsets-is w.buffer-is

@@ -1,5 +1,4 @@
 -- `core_runs::stopped` meets its contract, by the command's answer. Assumes nothing.
-use borrow.Author.Rules.{rules}
 use Rattle.core_runs.proofs.stopped.Goals as goal
 
 pub returns-in-Beyond : goal.returns-in-Beyond

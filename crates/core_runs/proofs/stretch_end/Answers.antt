@@ -2,7 +2,6 @@
 use mathlib.Core.Path.{◌≡◌, subst, subst⁻¹}
 use Prim.Native.Nat.{ℕ, ◌+◌, ◌-◌}
 use native.Mathlib.Omega.{arith}
-use borrow.Author.Rules.{rules}
 use Rattle.order.specs.Order.{Stretches}
 use Rattle.core_runs.proofs.stretch_end.Goals as goal
 

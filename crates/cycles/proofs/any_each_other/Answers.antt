@@ -1,6 +1,5 @@
 -- `cycles::any_each_other` meets its contract: the pairs of cores are tried in turn. Assumes nothing.
 use mathlib.Core.Path.{sym, ◌∙◌}
-use borrow.Author.Rules.{rules}
 use Rattle.protocol.specs.Cycles.{reads_from}
 use Rattle.taskset.specs.Task.{variables_of}
 use Rattle.cycles.proofs.Rings.{one-way-pairs}

@@ -1,6 +1,5 @@
 -- `cycles::any_ring` meets its contract: the lines between the cores, and whether they close a ring. Assumes nothing.
 use mathlib.Core.Path.{◌∙◌}
-use borrow.Author.Rules.{rules}
 use Rattle.taskset.specs.Task.{variables_of}
 use Rattle.cycles.specs.Rings.{closed}
 use Rattle.cycles.proofs.Rings.{rings-closed}

@@ -1,6 +1,5 @@
 -- `cycles::check_cycles` meets its contract: the file is judged first, then pairs, then rings. Assumes nothing.
 use mathlib.Core.Path.{sym, ap, ◌∙◌}
-use borrow.Author.Rules.{rules}
 use Rattle.cycles.specs.declared.Lines.TheVariants.{Refused}
 use Rattle.cycles.proofs.Check.{told-refused, told-each-other, told-ringed, told_free}
 use Rattle.cycles.proofs.check_cycles.Goals as goal

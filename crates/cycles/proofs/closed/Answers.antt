@@ -1,6 +1,5 @@
 -- `cycles::closed` meets its contract: the rings are tried in turn. Assumes nothing.
 use mathlib.Core.Path.{sym, ◌∙◌}
-use borrow.Author.Rules.{rules}
 use Rattle.verdict.proofs.Truth.{either-skip, either-stop}
 use Rattle.cycles.proofs.closed.Goals as goal
 

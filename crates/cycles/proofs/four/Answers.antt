@@ -1,5 +1,4 @@
 -- `cycles::four` meets its contract. Assumes nothing.
-use borrow.Author.Rules.{rules}
 use Rattle.verdict.proofs.Truth.{both-skip}
 use Rattle.cycles.proofs.four.Goals as goal
 

@@ -1,6 +1,5 @@
 -- `cycles::line_between` meets its contract. Assumes nothing.
 use mathlib.Core.Path.{sym, ◌∙◌}
-use borrow.Author.Rules.{rules}
 use Rattle.verdict.proofs.Truth.{either-skip, either-stop}
 use Rattle.cycles.proofs.line_between.Goals as goal
 

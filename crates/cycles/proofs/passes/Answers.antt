@@ -1,6 +1,5 @@
 -- `cycles::passes` meets its contract. Assumes nothing.
 use mathlib.Core.Path.{sym, ◌∙◌}
-use borrow.Author.Rules.{rules}
 use Rattle.verdict.proofs.Truth.{both-skip, both-stop}
 use Rattle.cycles.proofs.passes.Goals as goal
 

@@ -2,13 +2,12 @@
 use Prim.Native.Nat.{ℕ, ◌+◌, ◌-◌, ◌*◌}
 use mathlib.Core.Path.{◌≡◌, sym, ap, ◌∙◌}
 use native.Mathlib.Omega.{arith}
-use borrow.Author.Rules.{rules}
 use lib.ListN.{get_or}
 use Rattle.verdict.specs.Verdict.{both}
 use Rattle.protocol.specs.Variables.{reads_it, writes_it}
-use Rattle.records.specs.File.{count_place, variables, variable_in}
+use Rattle.records.specs.File.{count_place, variable_in}
 use Rattle.taskset.proofs.Accepted.{record-in-file}
-use Rattle.cycles.proofs.Check.{passes, NoneBefore, none-at-first, found_here, none_here, none_at_all}
+use Rattle.cycles.proofs.Check.{passes, none-at-first, found_here, none_here, none_at_all}
 use Rattle.cycles.proofs.reads_from.Goals as goal
 
 pub loop-i-init : goal.loop-i-init

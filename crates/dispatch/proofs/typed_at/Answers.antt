@@ -1,11 +1,7 @@
 -- `dispatch::typed_at` meets its contract. The addresses are tried; then each arm is its command at its type (`arm-asks`, `arm-answers`), the last the one that
 -- is left (`last_arm`). Assumes nothing.
-use Prim.Native.Nat.{ℕ, ◌/◌, ◌%◌}
-use mathlib.Core.Path.{◌≡◌}
-use borrow.Author.Rules.{rules}
 use Rattle.verdict.specs.Verdict.{pick}
 use Rattle.values.specs.Types.{takes}
-use Rattle.commands.specs.Attempts.{Attempt, attempted, OperandsGiven, Inside}
 use Rattle.commands.proofs.Attempts.{was-beyond}
 use Rattle.commands.proofs.Known.{not_beyond}
 use Rattle.dispatch.proofs.Pairs.{arm-asks, arm-answers, NoneOf, has_arm, last_arm}

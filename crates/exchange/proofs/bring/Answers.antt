@@ -1,7 +1,6 @@
 -- `exchange::bring` meets its contract: the cursor is at the byte that is next in the reading. Assumes nothing.
 use mathlib.Core.Logic.{inr}
 use native.Mathlib.Omega.{arith}
-use borrow.Author.Rules.{rules}
 use Rattle.exchange.proofs.Cursors.{record-whole, byte-few, shared-fits, local_fits, reads-next, copied}
 use Rattle.exchange.proofs.bring.Goals as goal
 

@@ -1,10 +1,9 @@
 -- `exchange::carry` meets its contract. The invariant: the bytes before the cursor are copied, `left` are to come. Assumes nothing.
 use native.Mathlib.Omega.{arith}
-use borrow.Author.Rules.{rules}
 use Prim.Native.Nat.{◌+◌}
 use Rattle.exchange.proofs.Records.{place-next}
 use Rattle.exchange.proofs.Cursors.{at-found, at_place, at_before, at-chosen, at-within, at-whole, record-whole, byte-few}
-use Rattle.exchange.proofs.Carrying.{UnderWay, under_first, under_last, left-some, under-on}
+use Rattle.exchange.proofs.Carrying.{under_first, under_last, left-some, under-on}
 use Rattle.exchange.proofs.carry.Goals as goal
 
 pub loop-left-init : goal.loop-left-init

@@ -1,7 +1,6 @@
 -- `exchange::copy_bytes` meets its contract. Assumes nothing.
 use mathlib.Core.Path.{sym, ap, ◌∙◌}
 use Prim.Native.Nat.{ℕ}
-use borrow.Author.Rules.{rules}
 use Rattle.memory.specs.Memory.{splice, part}
 use Rattle.exchange.proofs.copy_bytes.Goals as goal
 

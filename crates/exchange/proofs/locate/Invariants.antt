@@ -1,7 +1,5 @@
 -- `exchange::locate` meets its contract. The invariant: the cursor stands right after i bytes. Assumes nothing.
-use mathlib.Core.Path.{◌≡◌, subst}
-use Prim.Native.Nat.{ℕ, ◌-◌, ◌≤◌}
-use native.Mathlib.Omega.{arith}
+use Prim.Native.Nat.{◌-◌, ◌≤◌}
 use Rattle.exchange.specs.Exchange.{At}
 use Rattle.exchange.proofs.locate.Given as goal
 

@@ -1,7 +1,6 @@
 -- `exchange::onward` meets its contract: within the variable, or past its last byte at the next one that has the bit. Assumes nothing.
 use Prim.Native.Nat.{◌+◌}
 use native.Mathlib.Omega.{arith}
-use borrow.Author.Rules.{rules}
 use Rattle.exchange.proofs.Records.{place-next}
 use Rattle.exchange.proofs.Cursors.{at-found, at_place, at_before, at-chosen, at-within, at-whole, record-whole, byte-few}
 use Rattle.exchange.proofs.onward.Goals as goal

@@ -1,7 +1,6 @@
 -- `exchange::publish` meets its contract: the cursor is at the byte that is next in the writing. Assumes nothing.
 use mathlib.Core.Logic.{inl}
 use native.Mathlib.Omega.{arith}
-use borrow.Author.Rules.{rules}
 use Rattle.exchange.proofs.Cursors.{record-whole, byte-few, shared-fits, local_fits, writes-next, copied}
 use Rattle.exchange.proofs.publish.Goals as goal
 

@@ -1,19 +1,17 @@
 -- `exchange::publish_all` meets its contract. The invariant: the bytes of the records before the place are copied. Assumes nothing.
 use mathlib.Core.Path.{refl, sym, ap, ◌∙◌}
-use mathlib.Core.Logic.{⊎_elim, inl}
+use mathlib.Core.Logic.{inl}
 use mathlib.Core.List.{List}
 use Prim.Native.Nat.{◌+◌, ◌-◌, ◌≤◌, ◌<◌}
 use native.Mathlib.Omega.{arith}
 use lib.ListN.{length}
-use borrow.Author.Rules.{rules}
 use Rattle.protocol.specs.State.{Move}
 use Rattle.protocol.specs.Step.{copy}
-use Rattle.protocol.specs.Variables.{local}
 use Rattle.records.specs.File.{variables, record_place}
 use Rattle.taskset.specs.Task.{variables_of}
 use Rattle.exchange.proofs.Records.{record-there}
 use Rattle.exchange.proofs.Cursors.{local_at, writes-by-bit}
-use Rattle.exchange.proofs.Stretches.{Copied, copied_none, copied-named, copied-unnamed, copied_all, record-shared, record-local}
+use Rattle.exchange.proofs.Stretches.{copied_none, copied-named, copied-unnamed, copied_all, record-shared, record-local}
 use Rattle.exchange.proofs.publish_all.Goals as goal
 use Rattle.exchange.proofs.publish_all.Goals.{then-named, else-named}
 
@@ -80,8 +78,7 @@ overflow_cast-file c = omega (arith, c.type_inv.file (c.loop-place.place + 2))
 
 pub copy-requires : goal.copy-requires
 copy-requires c =
-    let at : c.loop-place.place < record_place c.args.file.now (variables c.args.file.now) = omega (arith, c.loop-place-test.true, c.requires.3) in
-    (
+    let at : c.loop-place.place < record_place c.args.file.now (variables c.args.file.now) = omega (arith, c.loop-place-test.true, c.requires.3) in (
       omega (
         arith,
         record-shared _ c.requires.0 c.loop-place.invariant.place at,
@@ -112,18 +109,21 @@ pub loop-place-preserved : goal.loop-place-preserved
 loop-place-preserved c =
     let few : c.args.k < 4 = omega (arith, c.requires.1, c.requires.0.few-cores) in
     let at : c.loop-place.place < record_place c.args.file.now (variables c.args.file.now) = omega (arith, c.loop-place-test.true, c.requires.3) in
-    elim c.if-named.branch [ then-named w ↦ copied-named _ _ _ _ _ _ c.loop-place.invariant at
-    (sym c.named.ensures ∙ w.if-named.true)
-    (w.word-from.ensures
-    ∙ sym (local_at c.args.file.now c.args.k c.loop-place.place few))
-    w.word-to.ensures refl (omega (
-      arith,
-      record-local _ c.requires.0 c.loop-place.invariant.place at _ c.requires.1
-          (inl (sym c.named.ensures ∙ w.if-named.true)),
-      w.word-from.ensures,
-      c.requires.4,
-    )) (w.shared-is ∙ w.copy.ensures) | else-named w ↦ copied-unnamed _ _ _ _ _ _ c.loop-place.invariant at
-    (sym c.named.ensures ∙ w.if-named.false) w.shared-is ]
+    elim c.if-named.branch [
+      | then-named w ↦ copied-named _ _ _ _ _ _ c.loop-place.invariant at
+          (sym c.named.ensures ∙ w.if-named.true)
+          (w.word-from.ensures
+          ∙ sym (local_at c.args.file.now c.args.k c.loop-place.place few))
+          w.word-to.ensures refl (omega (
+            arith,
+            record-local _ c.requires.0 c.loop-place.invariant.place at _ c.requires.1
+                (inl (sym c.named.ensures ∙ w.if-named.true)),
+            w.word-from.ensures,
+            c.requires.4,
+          )) (w.shared-is ∙ w.copy.ensures)
+      | else-named w ↦ copied-unnamed _ _ _ _ _ _ c.loop-place.invariant at
+          (sym c.named.ensures ∙ w.if-named.false) w.shared-is
+    ]
 
 pub shape_of-shared : goal.shape_of-shared
 shape_of-shared c = c.loop-place.invariant.long

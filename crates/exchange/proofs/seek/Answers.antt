@@ -2,7 +2,6 @@
 use mathlib.Core.Path.{sym, ◌∙◌}
 use Prim.Native.Nat.{◌-◌}
 use native.Mathlib.Omega.{arith}
-use Rattle.exchange.specs.Laid.{Passed}
 use Rattle.exchange.proofs.Records.{record-there, passed_none, passed-more}
 use Rattle.exchange.proofs.seek.Goals as goal
 

@@ -1,9 +1,6 @@
 -- `exchange::seek` meets its contract. The invariant: no record up to the place has the bit. Assumes nothing.
-use mathlib.Core.Path.{sym, ◌∙◌}
 use Prim.Native.Nat.{◌-◌}
-use native.Mathlib.Omega.{arith}
 use Rattle.exchange.specs.Laid.{Passed}
-use Rattle.exchange.proofs.Records.{record-there, passed_none, passed-more}
 use Rattle.exchange.proofs.seek.Given as goal
 
 abbrev pub invariant-loop-place : goal.invariant-loop-place

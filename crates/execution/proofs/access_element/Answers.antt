@@ -1,7 +1,6 @@
 -- Each return is a way of AURD and AUWD (proofs/Commands): the addresses, the index, the element, then the copy.
 use mathlib.Core.Path.{sym, ◌∙◌}
 use native.Mathlib.Omega.{arith}
-use borrow.Author.Rules.{rules}
 use Rattle.values.proofs.Widths.{width-le}
 use Rattle.processor.proofs.Commands.{element-beyond, element-index, element-outside, element-done}
 use Rattle.processor.proofs.Inside.{inside, both-inside, select-both}
@@ -37,12 +36,12 @@ returns-then-is_beyond c = element-outside _ _ _ _ _ _ _ _ _ _ _ _ c.requires.0 
 
 pub copy_element-requires : goal.copy_element-requires
 copy_element-requires c = (
-      c.requires.2,
-      select-both _ _ _ _ _ _ c.select.ensures (both-inside _ _ _ _ _ (sym c.any_beyond.ensures ∙ c.if-any_beyond.false)).0
-          (inside _ _ _ (sym c.is_beyond.ensures ∙ c.if-is_beyond.false)),
-      select-both _ _ _ _ _ _ c.select-2.ensures (inside _ _ _ (sym c.is_beyond.ensures ∙ c.if-is_beyond.false))
-          (both-inside _ _ _ _ _ (sym c.any_beyond.ensures ∙ c.if-any_beyond.false)).0,
-    )
+  c.requires.2,
+  select-both _ _ _ _ _ _ c.select.ensures (both-inside _ _ _ _ _ (sym c.any_beyond.ensures ∙ c.if-any_beyond.false)).0
+      (inside _ _ _ (sym c.is_beyond.ensures ∙ c.if-is_beyond.false)),
+  select-both _ _ _ _ _ _ c.select-2.ensures (inside _ _ _ (sym c.is_beyond.ensures ∙ c.if-is_beyond.false))
+      (both-inside _ _ _ _ _ (sym c.any_beyond.ensures ∙ c.if-any_beyond.false)).0,
+)
 
 pub overflow_add-result : goal.overflow_add-result
 overflow_add-result c = omega (arith, c.requires.1.whole, c.requires.1.short)

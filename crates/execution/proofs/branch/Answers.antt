@@ -1,7 +1,6 @@
 -- Each return is a way of JZ and JNZ (proofs/Commands, `branches`); past the address test the byte lies inside the data.
 use mathlib.Core.Path.{sym, ◌∙◌}
 use native.Mathlib.Omega.{arith}
-use borrow.Author.Rules.{rules}
 use Rattle.processor.proofs.Commands.{branches}
 use Rattle.processor.proofs.Inside.{inside}
 use Rattle.execution.proofs.branch.Goals as goal

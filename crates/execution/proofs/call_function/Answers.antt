@@ -1,5 +1,4 @@
 -- Each return is a way of CALF (proofs/Commands, `calls`).
-use borrow.Author.Rules.{rules}
 use Rattle.processor.proofs.Commands.{calls}
 use Rattle.execution.proofs.call_function.Goals as goal
 

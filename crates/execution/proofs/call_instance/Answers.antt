@@ -1,5 +1,4 @@
 -- Each return is a way of CALB (proofs/Commands, `calls`): the nested call is tried first, then the instance.
-use borrow.Author.Rules.{rules}
 use Rattle.processor.proofs.Commands.{calls}
 use Rattle.execution.proofs.call_instance.Goals as goal
 

@@ -1,6 +1,5 @@
 -- The types and the places are those that stand in the code; how the conversion ended is how the instruction ends.
 use mathlib.Core.Path.{refl}
-use borrow.Author.Rules.{rules}
 use Rattle.processor.proofs.Commands.{conversion-done}
 use Rattle.execution.proofs.convert_value.Goals as goal
 

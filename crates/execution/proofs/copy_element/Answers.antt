@@ -1,6 +1,5 @@
 -- In each arm the number that is loaded and stored is a copy of its bytes; the last arm is width 8.
 use native.Mathlib.Omega.{arith}
-use borrow.Author.Rules.{rules}
 use Rattle.values.proofs.Widths.{last-width}
 use Rattle.processor.proofs.Inside.{stored-copy}
 use Rattle.execution.proofs.copy_element.Goals as goal

@@ -1,7 +1,6 @@
 -- Each return is a way of MEMCP (proofs/Commands, `moves`); past the address test both stretches lie inside the data.
 use mathlib.Core.Path.{sym, ◌∙◌}
 use native.Mathlib.Omega.{arith}
-use borrow.Author.Rules.{rules}
 use Rattle.processor.proofs.Commands.{moves}
 use Rattle.processor.proofs.Inside.{both-inside}
 use Rattle.execution.proofs.copy_memory.Goals as goal

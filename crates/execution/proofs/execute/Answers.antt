@@ -1,6 +1,5 @@
 -- `execution::execute` meets its contract, by the code byte. Assumes nothing.
 use mathlib.Core.Path.{sym, ◌∙◌}
-use borrow.Author.Rules.{rules}
 use Rattle.processor.proofs.Accepted.{next_fits}
 use Rattle.execution.proofs.execute.Goals as goal
 

@@ -1,5 +1,4 @@
 -- `execution::execute_frequent` meets its contract: past the commands that say where control goes, a frequent one has three addresses. Assumes nothing.
-use borrow.Author.Rules.{rules}
 use Rattle.processor.proofs.Accepted.{frequent-three, three-here, three-inside, three-given, three-operands, next_fits}
 use Rattle.processor.proofs.Commands.{typed-done}
 use Rattle.execution.proofs.execute_frequent.Goals as goal

@@ -3,7 +3,6 @@
 use mathlib.Core.Path.{refl, sym, ◌∙◌}
 use mathlib.Core.Logic.{inl, inr}
 use native.Mathlib.Omega.{arith}
-use borrow.Author.Rules.{rules}
 use Rattle.verdict.specs.Verdict.{pick}
 use Rattle.code.specs.Commands.{length_of, row_of}
 use Rattle.processor.proofs.Accepted.{inside-code, stands, stands-constant, stands-element, element-of, typed-inside, typed-given, stands-conversion, stands-packing, stands-unpacking, not_last}

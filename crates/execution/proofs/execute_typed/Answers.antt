@@ -1,6 +1,5 @@
 -- `execution::execute_typed` meets its contract: what accepted code says of a command with three addresses, and what it does. Assumes nothing.
 use mathlib.Core.Path.{refl}
-use borrow.Author.Rules.{rules}
 use Rattle.processor.proofs.Accepted.{three-here, three-inside, three-given, three-operands}
 use Rattle.processor.proofs.Commands.{typed-done}
 use Rattle.execution.proofs.execute_typed.Goals as goal

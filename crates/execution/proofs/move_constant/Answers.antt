@@ -1,7 +1,6 @@
 -- Each return is a way of MCD (proofs/Commands, `moves`); past the address test the copy lies inside the data.
 use mathlib.Core.Path.{sym, ◌∙◌}
 use native.Mathlib.Omega.{arith}
-use borrow.Author.Rules.{rules}
 use Rattle.processor.proofs.Commands.{moves}
 use Rattle.processor.proofs.Inside.{inside}
 use Rattle.execution.proofs.move_constant.Goals as goal

@@ -1,5 +1,4 @@
 -- The type and the places are those that stand in the code; how the digits' conversion ended is how the instruction ends.
-use borrow.Author.Rules.{rules}
 use Rattle.processor.proofs.Commands.{packing-done}
 use Rattle.execution.proofs.pack_digits.Goals as goal
 

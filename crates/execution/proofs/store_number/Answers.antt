@@ -2,7 +2,6 @@
 use mathlib.Core.Path.{sym, ◌∙◌}
 use mathlib.Core.Logic.{⊎_elim}
 use native.Mathlib.Omega.{arith}
-use borrow.Author.Rules.{rules}
 use Rattle.processor.proofs.Inside.{inside}
 use Rattle.processor.proofs.Commands.{report-beyond, report-done}
 use Rattle.execution.proofs.store_number.Goals as goal

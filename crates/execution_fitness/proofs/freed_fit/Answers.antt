@@ -1,11 +1,8 @@
 -- Every entry passed is below the depth or 0.
 use mathlib.Core.Path.{sym, ◌∙◌}
 use Prim.Native.Nat.{◌-◌}
-use native.Mathlib.Omega.{arith}
-use borrow.Author.Rules.{rules}
-use borrow.Author.Tests.{not-true, not-false}
-use Rattle.states.specs.Fit.{entry, freed_at, freed_fit}
-use Rattle.states.proofs.Says.{Passing, passing-none, passing-more, passing-stop, passing-end}
+use Rattle.states.specs.Fit.{freed_fit}
+use Rattle.states.proofs.Says.{passing-none, passing-more, passing-stop, passing-end}
 use Rattle.execution_fitness.proofs.freed_fit.Goals as goal
 
 pub loop-i-init : goal.loop-i-init

@@ -1,11 +1,7 @@
 -- Every entry passed is below the depth or 0.
-use mathlib.Core.Path.{sym, ◌∙◌}
 use Prim.Native.Nat.{◌-◌}
-use native.Mathlib.Omega.{arith}
-use borrow.Author.Rules.{rules}
-use borrow.Author.Tests.{not-true, not-false}
-use Rattle.states.specs.Fit.{entry, freed_at, freed_fit}
-use Rattle.states.proofs.Says.{Passing, passing-none, passing-more, passing-stop, passing-end}
+use Rattle.states.specs.Fit.{entry, freed_at}
+use Rattle.states.proofs.Says.{Passing}
 use Rattle.execution_fitness.proofs.freed_fit.Given as goal
 
 abbrev pub invariant-loop-i : goal.invariant-loop-i

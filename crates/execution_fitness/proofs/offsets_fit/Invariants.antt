@@ -1,14 +1,8 @@
 -- Every entry passed lies below the data size.
-use mathlib.Core.Path.{sym, ◌∙◌}
 use Prim.Native.Nat.{◌-◌}
-use native.Mathlib.Omega.{arith}
-use borrow.Author.Rules.{rules}
-use borrow.Author.Tests.{not-true, not-false}
 use lib.Dec.{ltb}
-use mathlib.Core.Path.{ap}
-use mathlib.Core.Bool.{not}
-use Rattle.states.specs.Fit.{entry, offsets_fit}
-use Rattle.states.proofs.Says.{Passing, passing-none, passing-more, passing-stop, passing-end, rejects, admits}
+use Rattle.states.specs.Fit.{entry}
+use Rattle.states.proofs.Says.{Passing}
 use Rattle.execution_fitness.proofs.offsets_fit.Given as goal
 
 abbrev pub invariant-loop-i : goal.invariant-loop-i

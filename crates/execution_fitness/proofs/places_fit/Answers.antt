@@ -1,6 +1,5 @@
 -- The map is that of the code, and no map is needed where there is none.
 use mathlib.Core.Path.{refl}
-use borrow.Author.Rules.{rules}
 use Rattle.execution_fitness.proofs.places_fit.Goals as goal
 
 pub places_start-requires : goal.places_start-requires

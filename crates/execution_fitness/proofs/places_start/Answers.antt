@@ -1,14 +1,10 @@
 -- Every entry passed starts an instruction.
 use mathlib.Core.Path.{sym, ◌∙◌}
 use Prim.Native.Nat.{◌-◌}
-use native.Mathlib.Omega.{arith}
-use borrow.Author.Rules.{rules}
-use borrow.Author.Tests.{not-true, not-false}
 use mathlib.Core.Path.{ap}
 use mathlib.Core.Bool.{not}
-use Rattle.code.specs.Code.{is_start}
-use Rattle.states.specs.Fit.{entry, places_fit}
-use Rattle.states.proofs.Says.{Passing, passing-none, passing-more, passing-stop, passing-end, rejects, admits}
+use Rattle.states.specs.Fit.{places_fit}
+use Rattle.states.proofs.Says.{passing-none, passing-more, passing-stop, passing-end, rejects, admits}
 use Rattle.execution_fitness.proofs.places_start.Goals as goal
 
 pub starts_at-requires : goal.starts_at-requires

@@ -1,6 +1,5 @@
 -- Place 0 is a start by the `requires`; any other is by the map, or by a walk.
 use mathlib.Core.Path.{sym}
-use borrow.Author.Rules.{rules}
 use Rattle.execution_fitness.proofs.starts_at.Goals as goal
 
 pub returns-then-place-eq0 : goal.returns-then-place-eq0

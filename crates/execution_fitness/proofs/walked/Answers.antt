@@ -1,7 +1,6 @@
 -- No place is above 65,535.
-use Prim.Native.Nat.{◌+◌, ◌*◌, ◌-◌, ◌≤◌}
+use Prim.Native.Nat.{◌-◌}
 use native.Mathlib.Omega.{arith}
-use borrow.Author.Rules.{rules}
 use Rattle.execution_fitness.proofs.walked.Goals as goal
 
 pub returns-then-r-eq0 : goal.returns-then-r-eq0

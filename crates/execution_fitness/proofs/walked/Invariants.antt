@@ -1,7 +1,5 @@
 -- No place is above 65,535.
 use Prim.Native.Nat.{◌+◌, ◌*◌, ◌-◌, ◌≤◌}
-use native.Mathlib.Omega.{arith}
-use borrow.Author.Rules.{rules}
 use Rattle.execution_fitness.proofs.walked.Given as goal
 
 abbrev pub invariant-loop-i : goal.invariant-loop-i

@@ -1,6 +1,5 @@
 -- Byte by byte.
 use borrow.Author.Tests.{eq-eqb, ne_eqb}
-use borrow.Author.Rules.{rules}
 use Rattle.taskset.specs.Judge.{has_mark}
 use Rattle.file_judging.proofs.has_mark.Goals as goal
 

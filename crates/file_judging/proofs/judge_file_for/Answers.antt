@@ -3,7 +3,6 @@ use Prim.Native.Nat.{ℕ, ◌+◌, ◌*◌}
 use mathlib.Core.Path.{sym, ap, ◌∙◌}
 use native.Mathlib.Omega.{arith}
 use lib.ListN.{get_or}
-use borrow.Author.Rules.{rules}
 use Rattle.verdict.proofs.Verdict.{skip, stop}
 use Rattle.records.specs.File.{record_place}
 use Rattle.taskset.specs.Judge.{code_place, judge_for}

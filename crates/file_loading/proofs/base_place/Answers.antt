@@ -1,8 +1,7 @@
 -- The sizes before core i are added up.
-use Prim.Native.Nat.{◌*◌, ◌-◌, ◌≤◌}
+use Prim.Native.Nat.{◌-◌}
 use mathlib.Core.Path.{◌≡◌, refl, ap, ◌∙◌}
 use native.Mathlib.Omega.{arith}
-use borrow.Author.Rules.{rules}
 use Rattle.taskset.specs.Layout.{base_place}
 use Rattle.taskset.proofs.Laws.{base-next}
 use Rattle.file_loading.proofs.base_place.Goals as goal

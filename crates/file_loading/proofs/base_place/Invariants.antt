@@ -1,10 +1,7 @@
 -- The sizes before core i are added up.
 use Prim.Native.Nat.{◌*◌, ◌-◌, ◌≤◌}
-use mathlib.Core.Path.{◌≡◌, refl, ap, ◌∙◌}
-use native.Mathlib.Omega.{arith}
-use borrow.Author.Rules.{rules}
+use mathlib.Core.Path.{◌≡◌}
 use Rattle.taskset.specs.Layout.{base_place}
-use Rattle.taskset.proofs.Laws.{base-next}
 use Rattle.file_loading.proofs.base_place.Given as goal
 
 abbrev pub invariant-loop-i : goal.invariant-loop-i

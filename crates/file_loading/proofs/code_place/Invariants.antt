@@ -1,12 +1,7 @@
 -- From core to core: a length and the code.
-use Prim.Native.Nat.{ℕ, ◌+◌, ◌*◌, ◌-◌, ◌≤◌}
-use mathlib.Core.Path.{◌≡◌, ap, ◌∙◌}
-use native.Mathlib.Omega.{arith}
-use borrow.Author.Rules.{rules}
-use lib.ListN.{get_or}
-use Rattle.records.specs.File.{record_place}
+use Prim.Native.Nat.{◌+◌, ◌*◌, ◌-◌, ◌≤◌}
+use mathlib.Core.Path.{◌≡◌}
 use Rattle.taskset.specs.Judge.{code_place}
-use Rattle.taskset.proofs.Laws.{code-next}
 use Rattle.file_loading.proofs.code_place.Given as goal
 
 abbrev pub invariant-loop-i : goal.invariant-loop-i

@@ -1,7 +1,6 @@
 -- The refusal decides.
 use mathlib.Core.Path.{sym}
 use borrow.Author.Tests.{eq-eqb, ne_eqb}
-use borrow.Author.Rules.{rules}
 use Rattle.verdict.specs.Verdict.{pick}
 use Rattle.taskset.specs.Layout.{load_for}
 use Rattle.file_loading.proofs.load_file_for.Goals as goal

@@ -1,5 +1,4 @@
 -- The four zeros.
-use borrow.Author.Rules.{rules}
 use Rattle.file_loading.proofs.no_layout.Goals as goal
 
 pub returns : goal.returns

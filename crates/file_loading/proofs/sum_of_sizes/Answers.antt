@@ -1,6 +1,5 @@
 -- `file_loading::sum_of_sizes` meets its contract: absent cores have size 0. Assumes nothing.
 use native.Mathlib.Omega.{arith}
-use borrow.Author.Rules.{rules}
 use Rattle.taskset.proofs.Exact.{keeps-rules}
 use Rattle.taskset.proofs.Sizes.{sizes-added, size_small}
 use Rattle.file_loading.proofs.sum_of_sizes.Goals as goal

@@ -6,7 +6,6 @@ use Prim.Native.Nat.{ℕ, ◌+◌, ◌-◌, ◌≤◌, ◌<◌}
 use native.Mathlib.Omega.{arith}
 use lib.Dec.{ltb}
 use lib.ListN.{length, get_or, take, drop}
-use borrow.Author.Rules.{rules}
 use mathlib.Core.Path.{ap}
 use mathlib.Core.Bool.{not}
 use Rattle.protocol.specs.Registers.{flag_bound}
@@ -77,7 +76,6 @@ module _ (f t : List ℕ) (k : ℕ) (task : CoreTask) (e : task ≡ core_task f 
   -- in the order of the code
   by-task : (s : Held) → both (freed s) (both (executes s) (both (exchanges s) (flagged s))) ≡ fit_at f t s k
   by-task s = third-first (executes s) (exchanges s) (freed s) (flagged s) ∙ by-rules s
-
 
 pub overflow_add-to : goal.overflow_add-to
 overflow_add-to c = record { fits = omega (arith, inside _ _ _ _ c.requires.2 c.requires.0 c.requires.1) }

@@ -1,6 +1,5 @@
 -- By the mode.
 use borrow.Author.Tests.{le-leb, lt-leb}
-use borrow.Author.Rules.{rules}
 use Rattle.verdict.specs.Verdict.{pick}
 use Rattle.states.specs.Fit.{cycles_fit}
 use Rattle.fitness.proofs.cycles_fit.Goals as goal

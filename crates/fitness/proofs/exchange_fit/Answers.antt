@@ -1,6 +1,5 @@
 -- By the mode.
 use borrow.Author.Tests.{eq-eqb, ne_eqb}
-use borrow.Author.Rules.{rules}
 use Rattle.verdict.specs.Verdict.{pick}
 use Rattle.states.specs.Fit.{exchange_fit}
 use Rattle.fitness.proofs.exchange_fit.Goals as goal

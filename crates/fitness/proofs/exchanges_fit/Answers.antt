@@ -1,5 +1,4 @@
 -- The rules in their order.
-use borrow.Author.Rules.{rules}
 use mathlib.Core.Path.{ap}
 use mathlib.Core.Bool.{not}
 use Rattle.states.specs.Fit.{exchanges_fit}

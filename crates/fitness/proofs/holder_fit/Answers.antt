@@ -2,7 +2,6 @@
 use Prim.Native.Nat.{◌+◌}
 use borrow.Author.Tests.{eq-eqb, ne_eqb}
 use lib.Dec.{eqb}
-use borrow.Author.Rules.{rules}
 use Rattle.states.specs.Fit.{holder_fit}
 use Rattle.states.proofs.Says.{agree-not}
 use Rattle.fitness.proofs.holder_fit.Goals as goal

@@ -8,7 +8,7 @@ use borrow.Author.Tests.{lt-ltb, le-ltb}
 use lib.ListN.{length}
 use Rattle.states.proofs.Tasks.{tasks-at}
 use Rattle.states.proofs.Says.{fails, passes, rejects, admits}
-use Rattle.states.proofs.Line.{Fitting, fitting-none, fitting-stop, fitting-more, fitting-end, too_long_lem, may-by}
+use Rattle.states.proofs.Line.{fitting-none, fitting-stop, fitting-more, fitting-end, too_long_lem, may-by}
 use Rattle.fitness.proofs.line_fit.Goals as goal
 
 pub returns-then-waiting-gt-LINE : goal.returns-then-waiting-gt-LINE

@@ -2,7 +2,6 @@
 use mathlib.Core.Bool.{true, false}
 use borrow.Author.Tests.{eq-eqb, ne_eqb, lt-ltb, le-ltb}
 use lib.Dec.{eqb}
-use borrow.Author.Rules.{rules}
 use Rattle.verdict.specs.Verdict.{either}
 use Rattle.verdict.proofs.Truth.{both-swap}
 use Rattle.states.specs.Fit.{may_wait}

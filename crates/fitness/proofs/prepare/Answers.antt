@@ -1,7 +1,6 @@
 -- `fitness::prepare` meets its contract: a trace that loads makes an accepted set, whose tasks and fitness are judged. Assumes nothing.
 use mathlib.Core.Path.{ap}
 use native.Mathlib.Omega.{arith}
-use borrow.Author.Rules.{rules}
 use Rattle.taskset.specs.declared.Layout.{Layout}
 use Rattle.states.proofs.Accepted.{accepted-set}
 use Rattle.states.proofs.Preparing.{trace-sound, trace-laid, prepared-refused, prepared-sound}

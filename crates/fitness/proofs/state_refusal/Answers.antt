@@ -2,13 +2,11 @@
 use mathlib.Core.Path.{sym, ◌∙◌}
 use Prim.Native.Nat.{◌-◌}
 use native.Mathlib.Omega.{arith}
-use borrow.Author.Rules.{rules}
-use borrow.Author.Tests.{le-leb, lt-leb, eq-eqb, ne_eqb, not-true, not-false}
+use borrow.Author.Tests.{le-leb, lt-leb, eq-eqb, ne_eqb}
 use Rattle.verdict.proofs.Verdict.{yes, no}
-use Rattle.records.specs.File.{cores}
 use Rattle.states.proofs.Tasks.{tasks-at}
-use Rattle.states.specs.Fit.{fit_at, state_fit, state_refusal}
-use Rattle.states.proofs.Says.{Passing, passing-none, passing-more, passing-stop, passing-end, fails, passes}
+use Rattle.states.specs.Fit.{state_fit, state_refusal}
+use Rattle.states.proofs.Says.{passing-none, passing-more, passing-stop, passing-end, fails, passes}
 use Rattle.fitness.proofs.state_refusal.Goals as goal
 
 pub returns-then-s-n : goal.returns-then-s-n
@@ -27,10 +25,10 @@ bounds-tasks-k c = omega (arith, c.requires.2, c.requires.0.few)
 
 pub core_fit-requires : goal.core_fit-requires
 core_fit-requires c = (
-      c.requires.0,
-      rw c.requires.2 at c.loop-k-test.true,
-      tasks-at _ _ c.requires.0 _ c.requires.1 _ (rw c.requires.2 at c.loop-k-test.true),
-    )
+  c.requires.0,
+  rw c.requires.2 at c.loop-k-test.true,
+  tasks-at _ _ c.requires.0 _ c.requires.1 _ (rw c.requires.2 at c.loop-k-test.true),
+)
 
 pub returns-then-not-core_fit : goal.returns-then-not-core_fit
 unfolding state_refusal state_fit

@@ -3,8 +3,6 @@ use mathlib.Core.Path.{◌≡◌, sym, ◌∙◌}
 use mathlib.Core.Bool.{true}
 use native.Mathlib.Omega.{arith}
 use lib.ListN.{length}
-use borrow.Author.Tests.{not-true, not-false}
-use borrow.Author.Rules.{rules}
 use Rattle.taskset.specs.Judge.{is_old, judge}
 use Rattle.forms.proofs.Laws.{convert-refused, convert-granted, new-short, new-mark, new-file, new-length, new-room, new_none, new-written}
 use Rattle.forms.proofs.to_new.Goals as goal

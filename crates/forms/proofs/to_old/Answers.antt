@@ -3,8 +3,6 @@ use mathlib.Core.Path.{◌≡◌, sym, ◌∙◌}
 use mathlib.Core.Bool.{true}
 use native.Mathlib.Omega.{arith}
 use lib.ListN.{length}
-use borrow.Author.Tests.{not-true, not-false}
-use borrow.Author.Rules.{rules}
 use Rattle.taskset.specs.Judge.{is_new, start_place, judge}
 use Rattle.taskset.proofs.Exact.{keeps-rules}
 use Rattle.forms.proofs.BothWays.{body-begins, body-ends}

@@ -3,7 +3,6 @@ use mathlib.Core.Path.{refl, ap, ◌∙◌}
 use mathlib.Core.List.{List}
 use Prim.Native.Nat.{ℕ}
 use native.Mathlib.Omega.{arith}
-use borrow.Author.Rules.{rules}
 use Rattle.memory.specs.Memory.{byte}
 use Rattle.steps.proofs.Given.{code_inside, code_is, start-in}
 use Rattle.instructions.proofs.command_of.Goals as goal

@@ -1,7 +1,6 @@
 -- `instructions::typed_of` meets its contract: the code and the stretch that are lent are those of core k, and the others stay. Assumes nothing.
 use mathlib.Core.Path.{refl}
 use native.Mathlib.Omega.{arith}
-use borrow.Author.Rules.{rules}
 use Rattle.steps.proofs.Given.{at-instruction, code_inside, stretch-inside, executable-in, command-in, instructs-in}
 use Rattle.instructions.proofs.typed_of.Goals as goal
 

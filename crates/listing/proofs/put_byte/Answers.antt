@@ -1,8 +1,6 @@
 -- `listing::put_byte` meets its contract. Past the end a write is dropped on both sides.
 -- Assumes nothing.
-use borrow.Author.Rules.{rules}
 use mathlib.Core.Path.{refl, ap, ◌∙◌}
-use mathlib.Core.Logic.{⊎_elim}
 use lib.ListN.{length, length-set}
 use Rattle.listing.proofs.Writing.{one_byte, one-byte-set}
 use Rattle.listing.proofs.put_byte.Goals as goal

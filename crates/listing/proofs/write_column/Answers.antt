@@ -1,8 +1,7 @@
 -- `listing::write_column` meets its contract: the number, then the byte. Assumes nothing.
 use mathlib.Core.Path.{refl}
-use mathlib.Core.List.{[], ◌∷◌}
+use mathlib.Core.List.{◌∷◌}
 use native.Mathlib.Omega.{arith}
-use borrow.Author.Rules.{rules}
 use Rattle.listing.specs.Listing.{decimal, column}
 use Rattle.listing.proofs.Writing.{writing_start, writing_more, writing-last}
 use Rattle.listing.proofs.write_column.Goals as goal

@@ -2,7 +2,6 @@
 use mathlib.Core.Path.{refl, ◌∙◌}
 use native.Mathlib.Nat.{zero-add}
 use native.Mathlib.Omega.{arith}
-use borrow.Author.Rules.{rules}
 use Rattle.listing.specs.Listing.{header, order_word, head}
 use Rattle.listing.proofs.Writing.{writing_start, writing_more, writing-last}
 use Rattle.listing.proofs.write_head.Goals as goal

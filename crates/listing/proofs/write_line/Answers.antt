@@ -1,7 +1,6 @@
 -- `listing::write_line` meets its contract, column by column. Assumes nothing.
 use mathlib.Core.Path.{refl}
 use native.Mathlib.Omega.{arith}
-use borrow.Author.Rules.{rules}
 use Rattle.listing.specs.Listing.{core_line}
 use Rattle.listing.proofs.Writing.{writing_start, writing_more, writing-last}
 use Rattle.listing.proofs.write_line.Goals as goal

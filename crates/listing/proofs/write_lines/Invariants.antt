@@ -1,14 +1,10 @@
 -- `listing::write_lines` meets its contract. The invariant: the lines that are left are still to be written, and each before took at most 30 bytes.
 -- Assumes nothing.
-use borrow.Author.Rules.{rules}
-use Prim.Native.Nat.{◌+◌, ◌-◌, ◌*◌, ◌≤◌, ◌<◌, min}
-use mathlib.Core.Path.{◌≡◌, sym}
-use native.Mathlib.Omega.{arith}
-use lib.ListN.{length, take, drop, get_or}
-use Rattle.states.specs.Machine.{no_registers}
-use Rattle.listing.specs.Listing.{core_line, core_lines}
-use Rattle.listing.proofs.Writing.{Writing, writing_start, writing_more, writing-end}
-use Rattle.listing.proofs.Lines.{first-line, last_line}
+use Prim.Native.Nat.{◌+◌, ◌-◌, ◌*◌, ◌≤◌}
+use mathlib.Core.Path.{◌≡◌}
+use lib.ListN.{length, take, drop}
+use Rattle.listing.specs.Listing.{core_lines}
+use Rattle.listing.proofs.Writing.{Writing}
 use Rattle.listing.proofs.write_lines.Given as goal
 
 abbrev pub invariant-loop-k : goal.invariant-loop-k

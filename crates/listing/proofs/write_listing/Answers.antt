@@ -4,7 +4,6 @@ use mathlib.Core.Path.{refl, sym, ◌∙◌}
 use native.Mathlib.Nat.{zero-add}
 use native.Mathlib.Omega.{arith}
 use lib.ListN.{take}
-use borrow.Author.Rules.{rules}
 use Rattle.listing.specs.Listing.{listing}
 use Rattle.listing.proofs.Writing.{writing_start, writing_more, writing-last}
 use Rattle.listing.proofs.Answers.{text-short, text-written, listing-head, length-listing}

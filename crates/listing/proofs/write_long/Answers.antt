@@ -1,6 +1,5 @@
 -- `listing::write_long` meets its contract: five bytes, or 21. Assumes nothing.
 use native.Mathlib.Omega.{arith}
-use borrow.Author.Rules.{rules}
 use Rattle.listing.specs.Listing.{long_text}
 use Rattle.listing.proofs.Answers.{text-short, text-written}
 use Rattle.listing.proofs.write_long.Goals as goal

@@ -1,7 +1,6 @@
 -- `listing::write_number` meets its contract: the word, then the number. Assumes nothing.
 use mathlib.Core.Path.{refl, ◌∙◌}
 use native.Mathlib.Nat.{zero-add}
-use borrow.Author.Rules.{rules}
 use Rattle.listing.specs.Listing.{refused_text}
 use Rattle.listing.proofs.Writing.{writing_start, writing_more, writing-last}
 use Rattle.listing.proofs.write_number.Goals as goal

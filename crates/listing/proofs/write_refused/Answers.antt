@@ -1,6 +1,5 @@
 -- `listing::write_refused` meets its contract: the text is measured, then written, or 21. Assumes nothing.
 use native.Mathlib.Omega.{arith}
-use borrow.Author.Rules.{rules}
 use Rattle.listing.specs.Listing.{refused_text}
 use Rattle.listing.proofs.Answers.{text-short, text-written}
 use Rattle.listing.proofs.write_refused.Goals as goal

@@ -1,9 +1,8 @@
 -- `listing::write_taking` meets its contract, byte by byte. Assumes nothing.
 use mathlib.Core.Path.{refl, ap, ◌∙◌}
-use mathlib.Core.List.{[], ◌∷◌}
+use mathlib.Core.List.{◌∷◌}
 use Prim.Native.Nat.{ℕ, ◌%◌}
 use native.Mathlib.Omega.{arith}
-use borrow.Author.Rules.{rules}
 use Rattle.memory.specs.Memory.{splice}
 use Rattle.listing.specs.Listing.{taking_text, space, digit, kind_letter}
 use Rattle.listing.proofs.Writing.{writing_start, writing_more, writing-last}

@@ -1,15 +1,12 @@
 -- `listing::write_takings` meets its contract. The invariant: the takings that are left are still to be written, and each before took three bytes.
 -- Assumes nothing.
-use borrow.Author.Rules.{rules}
-use Prim.Native.Nat.{ℕ, ◌+◌, ◌-◌, ◌*◌, ◌≤◌, ◌<◌, min}
-use mathlib.Core.Path.{◌≡◌, ap, ◌∙◌}
+use Prim.Native.Nat.{◌+◌, ◌-◌, ◌*◌, ◌≤◌}
+use mathlib.Core.Path.{◌≡◌}
 use mathlib.Core.List.{map}
-use native.Mathlib.Omega.{arith}
-use lib.ListN.{length, take, drop, get_or}
+use lib.ListN.{length, take, drop}
 use Rattle.memory.specs.Memory.{flat}
 use Rattle.listing.specs.Listing.{taking_text}
-use Rattle.listing.proofs.Writing.{Writing, writing_start, writing_more, writing-end}
-use Rattle.listing.proofs.Takings.{first-taking, last-taking, length-taking}
+use Rattle.listing.proofs.Writing.{Writing}
 use Rattle.listing.proofs.write_takings.Given as goal
 
 abbrev pub invariant-loop-i : goal.invariant-loop-i

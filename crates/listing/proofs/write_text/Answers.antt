@@ -1,12 +1,12 @@
 -- `listing::write_text` meets its contract. The invariant: what is left of the text is still to be written.
 -- Assumes nothing.
 use borrow.Author.Rules.{rules}
-use Prim.Native.Nat.{◌+◌, ◌-◌, ◌≤◌, ◌<◌}
-use mathlib.Core.Path.{◌≡◌, refl}
-use mathlib.Core.List.{[], ◌∷◌}
+use Prim.Native.Nat.{◌+◌, ◌-◌, ◌<◌}
+use mathlib.Core.Path.{refl}
+use mathlib.Core.List.{◌∷◌}
 use native.Mathlib.Omega.{arith}
 use lib.ListN.{length, drop, get_or, drop_of_length-le}
-use Rattle.listing.proofs.Writing.{Writing, writing_start, writing_more, writing-end, one_of}
+use Rattle.listing.proofs.Writing.{writing_start, writing_more, writing-end, one_of}
 use Rattle.listing.proofs.write_text.Goals as goal
 
 pub loop-i-init : goal.loop-i-init

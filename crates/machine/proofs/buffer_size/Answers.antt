@@ -1,7 +1,6 @@
 -- `machine::buffer_size` meets its contract: a file is loaded, or refused and has no buffer. Assumes nothing.
 use mathlib.Core.Path.{sym, ◌∙◌}
 use native.Mathlib.Omega.{arith}
-use borrow.Author.Rules.{rules}
 use borrow.Author.Tests.{eq-eqb, ne_eqb}
 use Rattle.verdict.proofs.Verdict.{pick_true, pick-false}
 use Rattle.machine.specs.Calls.{buffer_size}

@@ -1,6 +1,5 @@
 -- `machine::check_state` meets its contract: no memory is lent and no core named. Assumes nothing.
 use mathlib.Core.Path.{◌∙◌}
-use borrow.Author.Rules.{rules}
 use Rattle.taskset.proofs.Loading.{file-accepted, file-laid}
 use Rattle.machine.proofs.Calls.{set-number}
 use Rattle.machine.proofs.check_state.Goals as goal

@@ -1,7 +1,6 @@
 -- `machine::next_core` meets its contract: the call is judged, with the given core as the one that is named; then the scan. Assumes nothing.
 use mathlib.Core.Path.{sym, ap, ◌∙◌}
 use native.Mathlib.Omega.{arith}
-use borrow.Author.Rules.{rules}
 use Rattle.taskset.specs.declared.Layout.{Layout}
 use Rattle.taskset.proofs.Loading.{file-accepted, file-laid}
 use Rattle.states.proofs.Accepted.{accepted-set}

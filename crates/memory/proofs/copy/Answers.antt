@@ -1,11 +1,9 @@
 -- `memory::copy` meets its contract. The invariant: what is left to copy makes of the buffer what the whole makes of it at entry.
 -- Assumes nothing.
-use mathlib.Core.Path.{◌≡◌, refl, sym, ◌∙◌}
-use Prim.Native.Nat.{◌+◌, ◌-◌, ◌≤◌}
+use mathlib.Core.Path.{refl, sym, ◌∙◌}
 use native.Mathlib.Nat.{add-zero, sub-zero}
 use native.Mathlib.Omega.{arith}
-use lib.ListN.{length, length-set}
-use Rattle.memory.specs.Memory.{splice, part}
+use lib.ListN.{length-set}
 use Rattle.memory.proofs.Turns.{copy-turn, copy_done}
 use Rattle.memory.proofs.copy.Goals as goal
 

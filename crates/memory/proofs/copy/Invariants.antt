@@ -1,12 +1,9 @@
 -- `memory::copy` meets its contract. The invariant: what is left to copy makes of the buffer what the whole makes of it at entry.
 -- Assumes nothing.
-use mathlib.Core.Path.{◌≡◌, refl, sym, ◌∙◌}
+use mathlib.Core.Path.{◌≡◌}
 use Prim.Native.Nat.{◌+◌, ◌-◌, ◌≤◌}
-use native.Mathlib.Nat.{add-zero, sub-zero}
-use native.Mathlib.Omega.{arith}
-use lib.ListN.{length, length-set}
+use lib.ListN.{length}
 use Rattle.memory.specs.Memory.{splice, part}
-use Rattle.memory.proofs.Turns.{copy-turn, copy_done}
 use Rattle.memory.proofs.copy.Given as goal
 
 abbrev pub invariant-loop-i : goal.invariant-loop-i

@@ -1,9 +1,7 @@
 -- `memory::load` meets its contract. The invariant: v is the number in the bytes from i on.
 -- Assumes nothing.
-use mathlib.Core.Path.{◌≡◌}
-use Prim.Native.Nat.{◌+◌, ◌-◌, ◌^◌, ◌≤◌, ◌<◌}
+use Prim.Native.Nat.{◌+◌, ◌-◌}
 use native.Mathlib.Omega.{arith}
-use Rattle.memory.specs.Memory.{read_le}
 use Rattle.memory.proofs.Turns.{load-turn, load-start, load-done}
 use Rattle.memory.proofs.Number.{read_fits}
 use Rattle.memory.proofs.load.Goals as goal

@@ -2,10 +2,7 @@
 -- Assumes nothing.
 use mathlib.Core.Path.{◌≡◌}
 use Prim.Native.Nat.{◌+◌, ◌-◌, ◌^◌, ◌≤◌, ◌<◌}
-use native.Mathlib.Omega.{arith}
 use Rattle.memory.specs.Memory.{read_le}
-use Rattle.memory.proofs.Turns.{load-turn, load-start, load-done}
-use Rattle.memory.proofs.Number.{read_fits}
 use Rattle.memory.proofs.load.Given as goal
 
 abbrev pub invariant-loop-i : goal.invariant-loop-i

@@ -1,15 +1,9 @@
 -- `memory::move_words` meets its contract. Both loops keep the same: what is left to move makes of the list what the whole move makes of the
 -- first one. Assumes nothing.
-use borrow.Author.Rules.{rules}
-use mathlib.Core.Path.{◌≡◌, refl, sym, ap, ◌∙◌}
+use mathlib.Core.Path.{◌≡◌}
 use Prim.Native.Nat.{◌+◌, ◌-◌, ◌≤◌}
-use native.Mathlib.Omega.{arith}
-use native.Mathlib.Nat.{add-zero, sub-zero}
-use lib.ListN.{length, length-set}
+use lib.ListN.{length}
 use Rattle.memory.specs.Memory.{splice, part}
-use Rattle.memory.proofs.Laws.{length-splice}
-use Rattle.memory.proofs.Turns.{copy_done, byte-done}
-use Rattle.memory.proofs.Words.{moved-turn}
 use Rattle.memory.proofs.move_words.Given as goal
 
 abbrev pub invariant-loop-i : goal.invariant-loop-i

@@ -1,10 +1,8 @@
 -- `memory::zero` meets its contract. The invariant: the first i bytes are zeros.
 -- Assumes nothing.
-use mathlib.Core.Path.{◌≡◌, refl, ◌∙◌}
-use mathlib.Core.List.{◌++◌}
-use Prim.Native.Nat.{◌+◌, ◌-◌, ◌≤◌}
+use mathlib.Core.Path.{refl, ◌∙◌}
 use native.Mathlib.Omega.{arith}
-use lib.ListN.{length, drop, length-set, replicate}
+use lib.ListN.{length-set}
 use borrow.Author.Fill.{fill_more}
 use Rattle.memory.proofs.Turns.{fill_done}
 use Rattle.memory.proofs.zero.Goals as goal

@@ -1,12 +1,9 @@
 -- `memory::zero` meets its contract. The invariant: the first i bytes are zeros.
 -- Assumes nothing.
-use mathlib.Core.Path.{◌≡◌, refl, ◌∙◌}
+use mathlib.Core.Path.{◌≡◌}
 use mathlib.Core.List.{◌++◌}
-use Prim.Native.Nat.{◌+◌, ◌-◌, ◌≤◌}
-use native.Mathlib.Omega.{arith}
-use lib.ListN.{length, drop, length-set, replicate}
-use borrow.Author.Fill.{fill_more}
-use Rattle.memory.proofs.Turns.{fill_done}
+use Prim.Native.Nat.{◌-◌, ◌≤◌}
+use lib.ListN.{length, drop, replicate}
 use Rattle.memory.proofs.zero.Given as goal
 
 abbrev pub invariant-loop-i : goal.invariant-loop-i

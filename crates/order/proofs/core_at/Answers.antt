@@ -1,7 +1,6 @@
 -- `order::core_at` meets its contract. Assumes nothing.
 use mathlib.Core.Path.{refl}
 use native.Mathlib.Omega.{arith}
-use borrow.Author.Rules.{rules}
 use Rattle.order.proofs.core_at.Goals as goal
 
 pub overflow_cast-result : goal.overflow_cast-result

@@ -1,7 +1,6 @@
 -- `order::eight_on` meets its contract: eight equal bytes are k times eight bytes of 1. Assumes nothing.
 use mathlib.Core.Path.{sym, ◌∙◌}
 use native.Mathlib.Omega.{arith}
-use borrow.Author.Rules.{rules}
 use borrow.Author.Tests.{eqb-true}
 use Rattle.verdict.proofs.Verdict.{absurd-bool}
 use Rattle.order.proofs.Eight.{eight-equal}

@@ -1,7 +1,6 @@
 -- `order::execution_ahead` meets its contract: step i is of core k, so one step is a stretch. Assumes nothing.
 use mathlib.Core.Path.{sym}
 use native.Mathlib.Omega.{arith}
-use borrow.Author.Rules.{rules}
 use Rattle.order.proofs.Stretches.{step_in_lem, all_one}
 use Rattle.order.proofs.execution_ahead.Goals as goal
 

@@ -1,11 +1,8 @@
 -- `order::past_waiting` meets its contract. The invariant: the steps passed are of cores that wait. Assumes nothing.
 use mathlib.Core.Path.{sym, ap, ◌∙◌}
-use Prim.Native.Nat.{◌-◌, ◌≤◌}
+use Prim.Native.Nat.{◌-◌}
 use native.Mathlib.Omega.{arith}
-use borrow.Author.Tests.{not-false}
-use lib.ListN.{length}
 use Rattle.semaphore.specs.Line.{semaphore_of, waits_at}
-use Rattle.order.specs.Order.{Waits}
 use Rattle.order.proofs.Stretches.{waits-none, waits-on}
 use Rattle.order.proofs.past_waiting.Goals as goal
 

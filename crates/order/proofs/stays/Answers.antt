@@ -1,7 +1,6 @@
 -- `order::stays` meets its contract: past the end of the order no step is left. Assumes nothing.
 use native.Mathlib.Omega.{arith}
 use borrow.Author.Tests.{lt-ltb, le-ltb}
-use borrow.Author.Rules.{rules}
 use Rattle.order.proofs.stays.Goals as goal
 
 pub returns-then-order-i : goal.returns-then-order-i

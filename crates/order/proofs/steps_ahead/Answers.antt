@@ -1,6 +1,5 @@
 -- `order::steps_ahead` meets its contract: as many steps as leave a byte, of those that are of core k. Assumes nothing.
 use native.Mathlib.Omega.{arith}
-use borrow.Author.Rules.{rules}
 use Rattle.order.proofs.Stretches.{all_none}
 use Rattle.order.proofs.Eight.{ahead-less}
 use Rattle.order.proofs.steps_ahead.Goals as goal

@@ -1,10 +1,7 @@
 -- `order::stretch` meets its contract. The invariant of both loops: the m steps looked at are of core k. Assumes nothing.
 use Prim.Native.Nat.{◌+◌, ◌-◌, ◌≤◌}
-use native.Mathlib.Omega.{arith}
-use borrow.Author.Rules.{rules}
 use lib.ListN.{length}
 use Rattle.order.specs.Order.{AllOn}
-use Rattle.order.proofs.Stretches.{step_in_lem, first_on, all_none, all_more, all_one}
 use Rattle.order.proofs.stretch.Given as goal
 
 abbrev pub invariant-loop-m : goal.invariant-loop-m

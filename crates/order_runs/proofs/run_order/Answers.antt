@@ -3,17 +3,13 @@
 use borrow.Author.Rules.{rules}
 use Prim.Native.Nat.{◌-◌, ◌<◌}
 use mathlib.Core.Path.{refl, sym, ap, ◌∙◌}
-use mathlib.Core.Logic.{⊎_elim}
 use native.Mathlib.Omega.{arith}
 use lib.ListN.{length, get_or, set}
 use Rattle.records.specs.File.{cores as core_count}
-use Rattle.protocol.specs.declared.Registers.{Registers}
-use Rattle.states.specs.Machine.{no_registers, state_of}
-use Rattle.states.specs.Tasks.{no_task}
-use Rattle.steps.specs.Moving.{ExchangeGiven}
-use Rattle.semaphore.specs.Line.{semaphore_of, waits_at, Lined}
+use Rattle.states.specs.Machine.{no_registers}
+use Rattle.semaphore.specs.Line.{semaphore_of, waits_at}
 use Rattle.steps.proofs.Given.{at-instruction, limit-low}
-use Rattle.runner.specs.Running.{single_at, RunningAt}
+use Rattle.runner.specs.Running.{single_at}
 use Rattle.order.proofs.Stretches.{steps_on_lem}
 use Rattle.runner.proofs.Running.{below_at}
 use Rattle.runner.proofs.Loop.{looping-start, moving, shared-length, line-once}
@@ -58,17 +54,17 @@ loop-i-preserved-then-is_single c =
     let on = steps_on_lem c.args.order.now c.loop-i.i c.core_at-k.result c.loop-i-test.true c.core_at-k.ensures.0 in
     let carried = c.run_single.ensures c.args.order.now c.loop-i.i on _ _ _ _ _ _ _ _ _ _ _ refl here.0 in
     elim c.match-run_single.branch [
-      in-Advanced w ↦ (rw (w.all-is ∙ ap (set c.loop-i.all c.core_at-k.result) (w.advanced.ensures ∙ sym (ap (single_at (get_or c.loop-i.all c.core_at-k.result no_registers)) w.in-Advanced.is))) carried, here.1)
+      | in-Advanced w ↦ (rw (w.all-is ∙ ap (set c.loop-i.all c.core_at-k.result) (w.advanced.ensures ∙ sym (ap (single_at (get_or c.loop-i.all c.core_at-k.result no_registers)) w.in-Advanced.is))) carried, here.1)
       | in-Otherwise w ↦ (rw (w.all-is ∙ ap (set c.loop-i.all c.core_at-k.result) (sym (ap (single_at (get_or c.loop-i.all c.core_at-k.result no_registers)) w.in-Otherwise.is))) carried, here.1)
     ]
 
 pub run_core-x-requires : goal.run_core-x-requires
 run_core-x-requires c = (
-      stands c.requires.accepted c.loop-i.invariant.0 c.core_at-k.ensures.1,
-      c.requires.tasked _ c.core_at-k.ensures.1,
-      steps_on_lem c.args.order.now c.loop-i.i c.core_at-k.result c.loop-i-test.true c.core_at-k.ensures.0,
-      c.if-all-k-eq-EXECUTING.true,
-    )
+  stands c.requires.accepted c.loop-i.invariant.0 c.core_at-k.ensures.1,
+  c.requires.tasked _ c.core_at-k.ensures.1,
+  steps_on_lem c.args.order.now c.loop-i.i c.core_at-k.result c.loop-i-test.true c.core_at-k.ensures.0,
+  c.if-all-k-eq-EXECUTING.true,
+)
 
 pub offset_bounds-all-k-else-is_single-3 : goal.offset_bounds-all-k-else-is_single-3
 offset_bounds-all-k-else-is_single-3 c = search (rules, c.core_at-k.ensures.2)

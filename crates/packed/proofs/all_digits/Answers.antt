@@ -3,7 +3,7 @@ use mathlib.Core.Bool.{Bool, ◌&&◌}
 use borrow.Author.Tests.{lt-ltb, le-ltb}
 use native.Mathlib.Omega.{arith}
 use mathlib.Core.Path.{◌≡◌, sym, ap, ◌∙◌}
-use Prim.Native.Nat.{ℕ, ◌+◌, ◌-◌, ◌/◌, ◌%◌, ◌<◌, ◌≤◌}
+use Prim.Native.Nat.{ℕ, ◌+◌, ◌-◌, ◌/◌, ◌%◌, ◌<◌}
 use Rattle.packed.proofs.Decimal as Decimal
 use Rattle.packed.specs.Packed.{digits_below}
 use Rattle.packed.proofs.all_digits.Goals as goal

@@ -1,10 +1,6 @@
 -- `packed::all_digits` meets its contract: each turn tests the lowest digit that is left, and the rest is tested by the turns after it. Assumes nothing.
-use mathlib.Core.Bool.{Bool, ◌&&◌}
-use borrow.Author.Tests.{lt-ltb, le-ltb}
-use native.Mathlib.Omega.{arith}
-use mathlib.Core.Path.{◌≡◌, sym, ap, ◌∙◌}
-use Prim.Native.Nat.{ℕ, ◌+◌, ◌-◌, ◌/◌, ◌%◌, ◌<◌, ◌≤◌}
-use Rattle.packed.proofs.Decimal as Decimal
+use mathlib.Core.Path.{◌≡◌}
+use Prim.Native.Nat.{◌-◌, ◌≤◌}
 use Rattle.packed.specs.Packed.{digits_below}
 use Rattle.packed.proofs.all_digits.Given as goal
 

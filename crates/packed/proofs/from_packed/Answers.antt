@@ -1,7 +1,6 @@
 -- `packed::from_packed` meets its contract: the digits are tested, then read from the top. Assumes nothing.
 use mathlib.Core.Path.{sym, ap, ◌∙◌}
 use Prim.Native.Nat.{ℕ, ◌-◌}
-use borrow.Author.Rules.{rules}
 use Rattle.conversions.specs.declared.Converted.TheVariants.{Gives}
 use Rattle.values.specs.declared.Value.TheVariants.{Unsigned}
 use Rattle.packed.specs.Packed.{unpacked_at}

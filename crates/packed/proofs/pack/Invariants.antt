@@ -1,10 +1,6 @@
 -- `packed::pack` meets its contract: after i turns r has the lowest i digits, and the rest has those above them. Assumes nothing.
-use native.Mathlib.Nat.{mul-zero}
-use native.Mathlib.Nat.{one-mul, div-one, zero-add}
-use native.Mathlib.Omega.{arith}
-use mathlib.Core.Path.{◌≡◌, sym, ap, subst, ◌∙◌}
-use Prim.Native.Nat.{ℕ, ◌+◌, ◌-◌, ◌*◌, ◌/◌, ◌%◌, ◌^◌, ◌<◌, ◌≤◌}
-use Rattle.packed.proofs.Decimal as Decimal
+use mathlib.Core.Path.{◌≡◌}
+use Prim.Native.Nat.{◌+◌, ◌-◌, ◌*◌, ◌/◌, ◌^◌, ◌<◌, ◌≤◌}
 use Rattle.packed.specs.Packed.{packed_digits}
 use Rattle.packed.proofs.pack.Given as goal
 

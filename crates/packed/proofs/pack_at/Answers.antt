@@ -2,7 +2,6 @@
 use Prim.Native.Nat.{ℕ, ◌+◌, ◌≤◌}
 use mathlib.Core.Path.{ap, ◌∙◌, sym, subst}
 use lib.ListN.{length}
-use borrow.Author.Rules.{rules}
 use Rattle.values.specs.Types.{width_of}
 use Rattle.values.proofs.Reading.{width_small}
 use Rattle.memory.specs.Memory.{read_le}
@@ -35,10 +34,10 @@ to_packed-requires c = width_small c.args.t c.requires.0 c.width_of-w.ensures
 
 pub settle-requires : goal.settle-requires
 settle-requires c = let a = c.args in (
-      c.requires.0,
-      to_in (length a.d.now) a.destination _ a.source _ a.t a.t _ c.either_beyond.ensures c.width_of-w.ensures
-          c.width_of-w.ensures c.if-either_beyond.false,
-    )
+  c.requires.0,
+  to_in (length a.d.now) a.destination _ a.source _ a.t a.t _ c.either_beyond.ensures c.width_of-w.ensures
+      c.width_of-w.ensures c.if-either_beyond.false,
+)
 
 pub returns : goal.returns
 unfolding packing packed

@@ -2,7 +2,6 @@
 use borrow.Author.Tests.{lt-ltb, le-ltb}
 use mathlib.Core.Path.{sym, ap, ◌∙◌}
 use Prim.Native.Nat.{ℕ, ◌-◌, ◌*◌, ◌^◌}
-use borrow.Author.Rules.{rules}
 use Rattle.conversions.specs.declared.Converted.TheVariants.{Gives}
 use Rattle.values.specs.declared.Value.TheVariants.{Unsigned}
 use Rattle.packed.proofs.Decimal as Decimal

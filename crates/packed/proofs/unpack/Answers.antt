@@ -3,7 +3,7 @@ use native.Mathlib.Nat.{div-one, le_refl}
 use lib.Pow.{pow_pos}
 use native.Mathlib.Omega.{arith}
 use mathlib.Core.Path.{◌≡◌, sym, ap, subst, ◌∙◌}
-use Prim.Native.Nat.{ℕ, ◌+◌, ◌-◌, ◌*◌, ◌/◌, ◌%◌, ◌^◌, ◌<◌, ◌≤◌}
+use Prim.Native.Nat.{ℕ, ◌+◌, ◌-◌, ◌*◌, ◌/◌, ◌%◌, ◌^◌, ◌<◌}
 use Rattle.packed.proofs.Decimal as Decimal
 use Rattle.packed.specs.Packed.{unpacked_digits}
 use Rattle.packed.proofs.unpack.Goals as goal

@@ -1,10 +1,6 @@
 -- `packed::unpack` meets its contract: from the top digit down, r has the digits above place i. Assumes nothing.
-use native.Mathlib.Nat.{div-one, le_refl}
-use lib.Pow.{pow_pos}
-use native.Mathlib.Omega.{arith}
-use mathlib.Core.Path.{◌≡◌, sym, ap, subst, ◌∙◌}
-use Prim.Native.Nat.{ℕ, ◌+◌, ◌-◌, ◌*◌, ◌/◌, ◌%◌, ◌^◌, ◌<◌, ◌≤◌}
-use Rattle.packed.proofs.Decimal as Decimal
+use mathlib.Core.Path.{◌≡◌}
+use Prim.Native.Nat.{◌-◌, ◌*◌, ◌/◌, ◌^◌, ◌<◌, ◌≤◌}
 use Rattle.packed.specs.Packed.{unpacked_digits}
 use Rattle.packed.proofs.unpack.Given as goal
 

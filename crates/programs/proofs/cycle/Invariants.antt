@@ -1,8 +1,6 @@
 -- An instruction asks for what the loop has tested; the data keep their length, so that they can be given back; the measure is what is left of 2,000.
-use mathlib.Core.Path.{◌≡◌, sym, ◌∙◌}
+use mathlib.Core.Path.{◌≡◌}
 use Prim.Native.Nat.{◌≤◌, ◌-◌}
-use borrow.Author.Rules.{rules}
-use borrow.Author.Tests.{not-false}
 use lib.ListN.{length}
 use Rattle.programs.proofs.cycle.Given as goal
 

@@ -1,8 +1,6 @@
 -- Each line begins behind the end of the line before.
-use Prim.Native.Nat.{◌≤◌, ◌+◌, ◌-◌}
-use lib.ListN.{length}
+use Prim.Native.Nat.{◌-◌}
 use native.Mathlib.Omega.{arith}
-use borrow.Author.Rules.{rules}
 use Rattle.programs.proofs.lines.Goals as goal
 
 pub slice_bounds-case-count : goal.slice_bounds-case-count

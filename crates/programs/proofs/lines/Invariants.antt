@@ -1,8 +1,6 @@
 -- Each line begins behind the end of the line before.
 use Prim.Native.Nat.{◌≤◌, ◌+◌, ◌-◌}
 use lib.ListN.{length}
-use native.Mathlib.Omega.{arith}
-use borrow.Author.Rules.{rules}
 use Rattle.programs.proofs.lines.Given as goal
 
 abbrev pub invariant-loop-from : goal.invariant-loop-from

@@ -1,6 +1,5 @@
 -- The index stays below the length.
 use Prim.Native.Nat.{◌≤◌, ◌-◌}
-use borrow.Author.Rules.{rules}
 use lib.ListN.{length}
 use Rattle.programs.proofs.show_bytes.Given as goal
 

@@ -1,7 +1,6 @@
 -- The four tests in the order of the definition.
 use mathlib.Core.Path.{sym}
 use borrow.Author.Tests.{le-leb, lt-leb}
-use borrow.Author.Rules.{rules}
 use Rattle.records.specs.Records.{core_ok}
 use Rattle.records.proofs.core_ok.Goals as goal
 
@@ -16,22 +15,22 @@ returns-then-most_data-size c = rw (sym c.word_at-size.ensures.0, le-leb _ _ c.i
 pub returns-then-size-word_at : goal.returns-then-size-word_at
 unfolding core_ok
 returns-then-size-word_at c = rw (
-      sym c.word_at-size.ensures.0,
-      le-leb _ _ c.if-size-lt1.false,
-      sym c.most_data.ensures,
-      le-leb _ _ c.if-most_data-size.false,
-      sym c.word_at.ensures.0,
-      lt-leb _ _ c.if-size-word_at.true,
-    )
+  sym c.word_at-size.ensures.0,
+  le-leb _ _ c.if-size-lt1.false,
+  sym c.most_data.ensures,
+  le-leb _ _ c.if-most_data-size.false,
+  sym c.word_at.ensures.0,
+  lt-leb _ _ c.if-size-word_at.true,
+)
 
 pub returns : goal.returns
 unfolding core_ok
 returns c = rw (
-      sym c.word_at-size.ensures.0,
-      le-leb _ _ c.if-size-lt1.false,
-      sym c.most_data.ensures,
-      le-leb _ _ c.if-most_data-size.false,
-      sym c.word_at.ensures.0,
-      le-leb _ _ c.if-size-word_at.false,
-      sym c.word_at-2.ensures.0,
-    )
+  sym c.word_at-size.ensures.0,
+  le-leb _ _ c.if-size-lt1.false,
+  sym c.most_data.ensures,
+  le-leb _ _ c.if-most_data-size.false,
+  sym c.word_at.ensures.0,
+  le-leb _ _ c.if-size-word_at.false,
+  sym c.word_at-2.ensures.0,
+)

@@ -1,7 +1,6 @@
 -- Presence, then the rules.
 use mathlib.Core.Path.{sym, ◌∙◌}
 use borrow.Author.Tests.{le-leb, lt-leb}
-use borrow.Author.Rules.{rules}
 use Rattle.verdict.proofs.Verdict.{skip, halt, yes, no}
 use Rattle.records.specs.Records.{core_refusal}
 use Rattle.records.proofs.core_refusal.Goals as goal

@@ -1,9 +1,7 @@
 -- What is left from core k on is what was asked.
 use Prim.Native.Nat.{◌-◌}
 use mathlib.Core.Path.{sym, ◌∙◌}
-use native.Mathlib.Omega.{arith}
-use Rattle.verdict.proofs.Verdict.{Going, going-none, going_more, going-stop, going_end}
-use Rattle.records.specs.Records.{core_refusal}
+use Rattle.verdict.proofs.Verdict.{going-none, going_more, going-stop, going_end}
 use Rattle.records.proofs.cores_refusal.Goals as goal
 
 pub loop-k-init : goal.loop-k-init

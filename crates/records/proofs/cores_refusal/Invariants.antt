@@ -1,8 +1,6 @@
 -- What is left from core k on is what was asked.
 use Prim.Native.Nat.{◌-◌}
-use mathlib.Core.Path.{sym, ◌∙◌}
-use native.Mathlib.Omega.{arith}
-use Rattle.verdict.proofs.Verdict.{Going, going-none, going_more, going-stop, going_end}
+use Rattle.verdict.proofs.Verdict.{Going}
 use Rattle.records.specs.Records.{core_refusal}
 use Rattle.records.proofs.cores_refusal.Given as goal
 

@@ -2,7 +2,6 @@
 use mathlib.Core.Path.{ap}
 use Prim.Native.Nat.{ℕ}
 use lib.Dec.{eqb}
-use borrow.Author.Rules.{rules}
 use Rattle.records.proofs.Laws.{bit-and}
 use Rattle.records.proofs.has_bit.Goals as goal
 

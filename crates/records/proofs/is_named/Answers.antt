@@ -1,6 +1,5 @@
 -- A reader is named, and so is a writer.
 use mathlib.Core.Path.{sym}
-use borrow.Author.Rules.{rules}
 use Rattle.records.proofs.is_named.Goals as goal
 
 pub returns-then-reads : goal.returns-then-reads

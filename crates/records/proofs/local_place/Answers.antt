@@ -1,6 +1,5 @@
 -- The four local places stand two bytes apart.
 use mathlib.Core.Path.{◌∙◌}
-use borrow.Author.Rules.{rules}
 use Rattle.records.proofs.Laws.{local_at}
 use Rattle.records.proofs.local_place.Goals as goal
 

@@ -1,7 +1,6 @@
 -- The two tests of the definition.
 use mathlib.Core.Path.{sym}
 use borrow.Author.Tests.{lt-ltb, le-ltb}
-use borrow.Author.Rules.{rules}
 use Rattle.records.specs.Records.{meets}
 use Rattle.records.proofs.Laws.{both-alone, both-none}
 use Rattle.records.proofs.meet.Goals as goal

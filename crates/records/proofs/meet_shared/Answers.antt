@@ -1,6 +1,5 @@
 -- Their shared places meet.
 use mathlib.Core.Path.{sym}
-use borrow.Author.Rules.{rules}
 use Rattle.records.specs.Records.{meets_shared}
 use Rattle.records.proofs.meet_shared.Goals as goal
 

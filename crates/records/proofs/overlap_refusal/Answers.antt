@@ -1,11 +1,9 @@
 -- What is left from variable j on is what was asked; the records lie in the file.
-use Prim.Native.Nat.{◌+◌, ◌-◌}
+use Prim.Native.Nat.{◌-◌}
 use mathlib.Core.Path.{sym, ◌∙◌}
 use native.Mathlib.Omega.{arith}
-use borrow.Author.Rules.{rules}
-use Rattle.verdict.proofs.Verdict.{Going, going-none, going_more, going-stop, going_end}
-use Rattle.records.specs.File.{variables}
-use Rattle.records.specs.Records.{pair_refusal, overlap_refusal}
+use Rattle.verdict.proofs.Verdict.{going-none, going_more, going-stop, going_end}
+use Rattle.records.specs.Records.{overlap_refusal}
 use Rattle.records.proofs.Laws.{pair-five, pair-none}
 use Rattle.records.proofs.overlap_refusal.Goals as goal
 

@@ -1,6 +1,5 @@
 -- Shared memory, then each core's data.
 use mathlib.Core.Path.{sym}
-use borrow.Author.Rules.{rules}
 use Rattle.records.specs.Records.{overlap}
 use Rattle.records.proofs.overlapping.Goals as goal
 
@@ -19,25 +18,25 @@ returns-then-meet_in-2 c = rw (sym c.meet_shared.ensures, c.if-meet_shared.false
 pub returns-then-meet_in-3 : goal.returns-then-meet_in-3
 unfolding overlap
 returns-then-meet_in-3 c = rw (
-      sym c.meet_shared.ensures,
-      c.if-meet_shared.false,
-      sym c.meet_in.ensures,
-      c.if-meet_in.false,
-      sym c.meet_in-2.ensures,
-      c.if-meet_in-2.false,
-      sym c.meet_in-3.ensures,
-      c.if-meet_in-3.true,
-    )
+  sym c.meet_shared.ensures,
+  c.if-meet_shared.false,
+  sym c.meet_in.ensures,
+  c.if-meet_in.false,
+  sym c.meet_in-2.ensures,
+  c.if-meet_in-2.false,
+  sym c.meet_in-3.ensures,
+  c.if-meet_in-3.true,
+)
 
 pub returns : goal.returns
 unfolding overlap
 returns c = rw (
-      sym c.meet_shared.ensures,
-      c.if-meet_shared.false,
-      sym c.meet_in.ensures,
-      c.if-meet_in.false,
-      sym c.meet_in-2.ensures,
-      c.if-meet_in-2.false,
-      sym c.meet_in-3.ensures,
-      c.if-meet_in-3.false,
-    ) c.meet_in-4.ensures
+  sym c.meet_shared.ensures,
+  c.if-meet_shared.false,
+  sym c.meet_in.ensures,
+  c.if-meet_in.false,
+  sym c.meet_in-2.ensures,
+  c.if-meet_in-2.false,
+  sym c.meet_in-3.ensures,
+  c.if-meet_in-3.false,
+) c.meet_in-4.ensures

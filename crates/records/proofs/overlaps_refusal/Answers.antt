@@ -1,10 +1,7 @@
 -- Where all rise no two meet; else what is left from variable i on is what was asked.
 use Prim.Native.Nat.{◌-◌}
 use mathlib.Core.Path.{sym, ◌∙◌}
-use native.Mathlib.Omega.{arith}
-use borrow.Author.Rules.{rules}
-use Rattle.verdict.proofs.Verdict.{Going, going-none, going_more, going-stop, going_end}
-use Rattle.records.specs.Records.{overlap_refusal}
+use Rattle.verdict.proofs.Verdict.{going-none, going_more, going-stop, going_end}
 use Rattle.records.proofs.Order.{none-overlaps}
 use Rattle.records.proofs.overlaps_refusal.Goals as goal
 

@@ -1,6 +1,5 @@
 -- Reader, writer, neither.
 use mathlib.Core.Path.{sym}
-use borrow.Author.Rules.{rules}
 use Rattle.verdict.specs.Verdict.{pick}
 use Rattle.records.specs.Records.{part_ok}
 use Rattle.records.proofs.part_ok.Goals as goal

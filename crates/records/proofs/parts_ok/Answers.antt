@@ -1,7 +1,5 @@
 -- Core by core.
 use mathlib.Core.Path.{sym, ◌∙◌}
-use borrow.Author.Tests.{not-true, not-false}
-use borrow.Author.Rules.{rules}
 use Rattle.records.specs.Records.{parts_ok}
 use Rattle.records.proofs.parts_ok.Goals as goal
 
@@ -16,15 +14,15 @@ returns-then-not-part_ok-2 c = rw (sym c.part_ok.ensures ∙ c.if-not-part_ok.fa
 pub returns-then-not-part_ok-3 : goal.returns-then-not-part_ok-3
 unfolding parts_ok
 returns-then-not-part_ok-3 c = rw (
-      sym c.part_ok.ensures ∙ c.if-not-part_ok.false,
-      sym c.part_ok-2.ensures ∙ c.if-not-part_ok-2.false,
-      sym c.part_ok-3.ensures ∙ c.if-not-part_ok-3.true,
-    )
+  sym c.part_ok.ensures ∙ c.if-not-part_ok.false,
+  sym c.part_ok-2.ensures ∙ c.if-not-part_ok-2.false,
+  sym c.part_ok-3.ensures ∙ c.if-not-part_ok-3.true,
+)
 
 pub returns : goal.returns
 unfolding parts_ok
 returns c = rw (
-      sym c.part_ok.ensures ∙ c.if-not-part_ok.false,
-      sym c.part_ok-2.ensures ∙ c.if-not-part_ok-2.false,
-      sym c.part_ok-3.ensures ∙ c.if-not-part_ok-3.false,
-    ) c.part_ok-4.ensures
+  sym c.part_ok.ensures ∙ c.if-not-part_ok.false,
+  sym c.part_ok-2.ensures ∙ c.if-not-part_ok-2.false,
+  sym c.part_ok-3.ensures ∙ c.if-not-part_ok-3.false,
+) c.part_ok-4.ensures

@@ -1,6 +1,5 @@
 -- The READ bits are the high half.
 use borrow.Author.Tests.{lt-ltb}
-use borrow.Author.Rules.{rules}
 use Rattle.protocol.specs.Variables.{reads_it}
 use Rattle.records.proofs.reads.Goals as goal
 

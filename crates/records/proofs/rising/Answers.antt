@@ -1,6 +1,4 @@
 -- Each memory in its turn.
-use borrow.Author.Rules.{rules}
-use borrow.Author.Tests.{not-false}
 use Rattle.verdict.proofs.Verdict.{absurd-bool}
 use Rattle.records.proofs.Order.{each-core}
 use Rattle.records.proofs.rising.Goals as goal

@@ -1,10 +1,6 @@
 -- The variables passed that name the core rise, and `end` is the end of the last.
 use Prim.Native.Nat.{◌-◌}
-use mathlib.Core.Logic.{⊎_elim}
-use native.Mathlib.Omega.{arith}
-use borrow.Author.Rules.{rules}
-use Rattle.verdict.proofs.Verdict.{absurd-bool}
-use Rattle.records.proofs.Order.{RisenIn, risen-none, risen-end, in-more, in-skip}
+use Rattle.records.proofs.Order.{RisenIn}
 use Rattle.records.proofs.rising_in.Given as goal
 
 abbrev pub invariant-loop-i : goal.invariant-loop-i

@@ -1,9 +1,6 @@
 -- The variables passed rise, and `end` is the end of the last.
 use Prim.Native.Nat.{◌-◌}
-use native.Mathlib.Omega.{arith}
-use borrow.Author.Rules.{rules}
-use Rattle.verdict.proofs.Verdict.{absurd-bool}
-use Rattle.records.proofs.Order.{RisenShared, risen-none, risen-end, shared-more}
+use Rattle.records.proofs.Order.{RisenShared}
 use Rattle.records.proofs.rising_shared.Given as goal
 
 abbrev pub invariant-loop-i : goal.invariant-loop-i

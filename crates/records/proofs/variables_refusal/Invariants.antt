@@ -1,9 +1,6 @@
 -- What is left from variable i on is what was asked.
 use Prim.Native.Nat.{◌-◌}
-use mathlib.Core.Path.{sym, ◌∙◌}
-use native.Mathlib.Omega.{arith}
-use borrow.Author.Rules.{rules}
-use Rattle.verdict.proofs.Verdict.{Going, going-none, going_more, going-stop, going_end}
+use Rattle.verdict.proofs.Verdict.{Going}
 use Rattle.records.specs.Records.{variable_refusal}
 use Rattle.records.proofs.variables_refusal.Given as goal
 

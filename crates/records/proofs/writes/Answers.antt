@@ -1,6 +1,5 @@
 -- The WRITE bits are the low half.
 use borrow.Author.Tests.{lt-ltb}
-use borrow.Author.Rules.{rules}
 use Rattle.protocol.specs.Variables.{writes_it}
 use Rattle.records.proofs.writes.Goals as goal
 

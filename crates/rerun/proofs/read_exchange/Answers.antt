@@ -4,7 +4,6 @@ use mathlib.Core.List.{List}
 use Prim.Native.Nat.{ℕ}
 use native.Mathlib.Omega.{arith}
 use lib.ListN.{set}
-use borrow.Author.Rules.{rules}
 use Rattle.memory.specs.Memory.{split}
 use Rattle.taskset.specs.Task.{sizes_of}
 use Rattle.steps.specs.Moving.{StepGiven}
@@ -20,20 +19,20 @@ slice_bounds-read_data-end c = omega (arith, stretch-inside _ c.requires.0.ready
 
 pub read_data-requires : goal.read_data-requires
 read_data-requires c = let given = c.requires in (
-      record {
-        ready = subst⁻¹ (StepGiven _ _ _ _ _) (stretch-is _ given.0.ready given.2 _ refl) given.0.ready;
-        from = given.0.from;
-        upto = given.0.upto;
-        shared = given.0.shared;
-      },
-      given.1,
-    )
+  record {
+    ready = subst⁻¹ (StepGiven _ _ _ _ _) (stretch-is _ given.0.ready given.2 _ refl) given.0.ready;
+    from = given.0.from;
+    upto = given.0.upto;
+    shared = given.0.shared;
+  },
+  given.1,
+)
 
 pub returns : goal.returns
 returns c = let a = c.args in (
-      c.read_data.ensures.0,
-      stretch-kept _ c.requires.0.ready c.requires.2 _ refl _ c.read_data.auto.d
-          ∙ ap (λ (l : List ℕ). set (split (sizes_of a.file.now) a.buffer.now) a.k l)
-          (c.read_data.ensures.1 ∙ ap (λ (l : List ℕ). brought_to a.file.now a.trace.now a.k a.r a.shared.now l)
-          (stretch-is _ c.requires.0.ready c.requires.2 _ refl)),
-    )
+  c.read_data.ensures.0,
+  stretch-kept _ c.requires.0.ready c.requires.2 _ refl _ c.read_data.auto.d
+      ∙ ap (λ (l : List ℕ). set (split (sizes_of a.file.now) a.buffer.now) a.k l)
+      (c.read_data.ensures.1 ∙ ap (λ (l : List ℕ). brought_to a.file.now a.trace.now a.k a.r a.shared.now l)
+      (stretch-is _ c.requires.0.ready c.requires.2 _ refl)),
+)

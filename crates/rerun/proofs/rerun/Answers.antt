@@ -1,6 +1,5 @@
 -- `rerun::rerun` meets its contract: file, lent memory and trace are judged, then the list. Assumes nothing.
 use native.Mathlib.Omega.{arith}
-use borrow.Author.Rules.{rules}
 use Rattle.code.specs.declared.Profile.TheVariants.{Full}
 use Rattle.states.proofs.Accepted.{accepted-set}
 use Rattle.states.proofs.Preparing.{trace-judged, trace-sound, trace-laid}

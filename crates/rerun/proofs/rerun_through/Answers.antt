@@ -1,8 +1,7 @@
 -- `rerun::rerun_through` meets its contract: the memories are copied out where nothing is refused. Assumes nothing.
 use mathlib.Core.Path.{refl, ap₂, ◌∙◌}
-use mathlib.Core.List.{List, []}
+use mathlib.Core.List.{List}
 use Prim.Native.Nat.{ℕ}
-use borrow.Author.Rules.{rules}
 use Rattle.runner.specs.Runs.{left_as}
 use Rattle.machine.specs.Calls.{lent_fits}
 use Rattle.rerun.proofs.Ends.{copied-out, rerun-done, rerun-left}

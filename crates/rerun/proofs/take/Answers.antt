@@ -1,7 +1,6 @@
 -- `rerun::take` meets its contract: a reading leaves shared memory, a writing everything else. Assumes nothing.
 use mathlib.Core.Path.{refl}
 use native.Mathlib.Omega.{arith}
-use borrow.Author.Rules.{rules}
 use Rattle.rerun.proofs.Turns.{reading-due, writing-due, cycles-due}
 use Rattle.rerun.proofs.take.Goals as goal
 

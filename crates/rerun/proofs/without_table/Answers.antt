@@ -1,6 +1,5 @@
 -- `rerun::without_table` meets its contract. Assumes nothing.
 use mathlib.Core.Path.{ap, ◌∙◌}
-use borrow.Author.Rules.{rules}
 use Rattle.states.specs.declared.Held.{Held}
 use Rattle.machine.specs.Calls.{answer_of}
 use Rattle.rerun.proofs.without_table.Goals as goal

@@ -4,7 +4,6 @@ use mathlib.Core.List.{List}
 use Prim.Native.Nat.{ℕ}
 use native.Mathlib.Omega.{arith}
 use lib.ListN.{length}
-use borrow.Author.Rules.{rules}
 use Rattle.protocol.specs.Step.{copy}
 use Rattle.protocol.specs.Variables.{writes_of}
 use Rattle.taskset.specs.Task.{variables_of}
@@ -19,13 +18,13 @@ slice_bounds-publish_all-end c = omega (arith, stretch-inside _ c.requires.0.rea
 
 pub publish_all-requires : goal.publish_all-requires
 publish_all-requires c = (
-      c.requires.0.ready.accepted.laid,
-      c.requires.0.ready.known,
-      c.requires.0.from,
-      c.requires.0.upto,
-      ap length (stretch-is _ c.requires.0.ready c.requires.1 _ refl) ∙ c.requires.0.ready.fit.size,
-      c.requires.0.shared,
-    )
+  c.requires.0.ready.accepted.laid,
+  c.requires.0.ready.known,
+  c.requires.0.from,
+  c.requires.0.upto,
+  ap length (stretch-is _ c.requires.0.ready c.requires.1 _ refl) ∙ c.requires.0.ready.fit.size,
+  c.requires.0.shared,
+)
 
 pub returns : goal.returns
 returns c = let a = c.args in

@@ -1,6 +1,5 @@
 -- `runs::aim_of` meets its contract: a fit state's holder is within its exchange. Assumes nothing.
 use native.Mathlib.Omega.{arith}
-use borrow.Author.Rules.{rules}
 use Rattle.runs.proofs.Aims.{aim-free, in_table, within-reads, within-writes, aim-reading, aim-writing, aim-neither}
 use Rattle.runs.proofs.aim_of.Goals as goal
 

@@ -1,6 +1,5 @@
 -- `runs::run` meets its contract: the call is judged, then its steps are done. Assumes nothing.
 use mathlib.Core.Path.{sym, ◌∙◌}
-use borrow.Author.Rules.{rules}
 use Rattle.code.specs.declared.Profile.TheVariants.{Full}
 use Rattle.machine.proofs.Calls.{lent_laid, run-number, run-refused, run-granted}
 use Rattle.runs.proofs.run.Goals as goal

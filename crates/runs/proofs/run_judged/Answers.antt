@@ -1,7 +1,6 @@
 -- `runs::run_judged` meets its contract: what judging has shown is what the run of an order is given. Assumes nothing.
 use mathlib.Core.Path.{sym, ap, ◌∙◌}
 use native.Mathlib.Omega.{arith}
-use borrow.Author.Rules.{rules}
 use lib.ListN.{length}
 use Rattle.runs.proofs.Judged.{few-variables, near_first, aim-given, run-given}
 use Rattle.runs.proofs.run_judged.Goals as goal

@@ -1,5 +1,4 @@
 -- `runs::step` meets its contract: a step is the run of an order of one byte. Assumes nothing.
-use borrow.Author.Rules.{rules}
 use Rattle.runs.proofs.Steps.{step-as-run}
 use Rattle.runs.proofs.step.Goals as goal
 

@@ -1,5 +1,5 @@
 -- `semaphore::acquired` meets its contract, whether a core waits or not. Assumes nothing.
-use Rattle.std.proofs.Common.{arith, rules, refl}
+use Rattle.std.proofs.Common.{arith, refl}
 use native.Mathlib.Numerals.{add-one}
 use Rattle.semaphore.proofs.Laws.{acquired-is}
 use Rattle.semaphore.proofs.acquired.Goals as goal

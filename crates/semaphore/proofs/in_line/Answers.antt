@@ -4,10 +4,8 @@ use Prim.Native.Nat.{◌-◌}
 use native.Mathlib.Omega.{arith}
 use borrow.Author.Rules.{rules}
 use borrow.Author.Tests.{eq-eqb, ne_eqb}
-use lib.ListN.{length, drop}
+use lib.ListN.{length}
 use Rattle.verdict.specs.Verdict.{pick}
-use Rattle.protocol.specs.Step.{in_line}
-use Rattle.semaphore.specs.Line.{semaphore_of}
 use Rattle.semaphore.proofs.Laws.{line-end, line-past, line-entry}
 use Rattle.semaphore.proofs.in_line.Goals as goal
 

@@ -1,14 +1,9 @@
 -- `semaphore::in_line` meets its contract: what is left of the line from entry i on says the same as the line. Assumes nothing.
-use mathlib.Core.Path.{◌≡◌, refl, sym, ◌∙◌}
+use mathlib.Core.Path.{◌≡◌}
 use Prim.Native.Nat.{◌-◌}
-use native.Mathlib.Omega.{arith}
-use borrow.Author.Rules.{rules}
-use borrow.Author.Tests.{eq-eqb, ne_eqb}
-use lib.ListN.{length, drop}
-use Rattle.verdict.specs.Verdict.{pick}
+use lib.ListN.{drop}
 use Rattle.protocol.specs.Step.{in_line}
 use Rattle.semaphore.specs.Line.{semaphore_of}
-use Rattle.semaphore.proofs.Laws.{line-end, line-past, line-entry}
 use Rattle.semaphore.proofs.in_line.Given as goal
 
 abbrev pub invariant-loop-i : goal.invariant-loop-i

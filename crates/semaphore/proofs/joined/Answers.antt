@@ -1,7 +1,6 @@
 -- `semaphore::joined` meets its contract. Assumes nothing.
 use mathlib.Core.Path.{refl}
 use native.Mathlib.Omega.{arith}
-use borrow.Author.Rules.{rules}
 use Rattle.semaphore.proofs.Laws.{waiting-is, joined_is}
 use Rattle.semaphore.proofs.joined.Goals as goal
 

@@ -3,7 +3,6 @@ use mathlib.Core.Path.{sym}
 use native.Mathlib.Omega.{arith}
 use lib.ListN.{take, length-take, get_or-eq_default}
 use lib.Seq.{get_or-take}
-use borrow.Author.Rules.{rules}
 use Rattle.semaphore.proofs.line_entry.Goals as goal
 
 pub returns-then-m-i : goal.returns-then-m-i

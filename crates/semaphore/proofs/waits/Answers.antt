@@ -1,6 +1,4 @@
 -- `semaphore::waits` meets its contract. Assumes nothing.
-use borrow.Author.Tests.{not-true, not-false}
-use borrow.Author.Rules.{rules}
 use Rattle.semaphore.proofs.Laws.{waits-out, waits-held, waits-free}
 use Rattle.semaphore.proofs.waits.Goals as goal
 

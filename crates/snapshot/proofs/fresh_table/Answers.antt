@@ -1,6 +1,5 @@
 -- `snapshot::fresh_table` meets its contract: it is the call under the full profile. Assumes nothing.
 use mathlib.Core.Path.{◌∙◌}
-use borrow.Author.Rules.{rules}
 use Rattle.snapshot.proofs.Laws.{full-table}
 use Rattle.snapshot.proofs.fresh_table.Goals as goal
 

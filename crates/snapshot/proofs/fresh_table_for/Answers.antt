@@ -1,6 +1,5 @@
 -- `snapshot::fresh_table_for` meets its contract: a table that is too short is refused after the file is judged; else the fresh state by value, refused
 -- or not. Assumes nothing.
-use borrow.Author.Rules.{rules}
 use Rattle.snapshot.proofs.Laws.{fresh-short, fresh-stays, fresh-moves}
 use Rattle.snapshot.proofs.fresh_table_for.Goals as goal
 

@@ -1,5 +1,4 @@
 -- `snapshot::moves` meets its contract: the test by value, of the record's registers. Assumes nothing.
-use borrow.Author.Rules.{rules}
 use mathlib.Core.Path.{sym, ap, ◌∙◌}
 use Prim.Native.Nat.{ℕ}
 use borrow.Author.Tests.{lt-ltb, le-ltb}
@@ -20,4 +19,3 @@ returns c = let a = c.args in
     c.can_move-2.ensures
     ∙ ap (can_move (semaphore_of a.r.semaphore) a.k _) c.registers_in-2.ensures
     ∙ ap (λ (n : ℕ). can_move (semaphore_of a.r.semaphore) a.k n (registers_in a.c)) (sym (pick_true _ _ _ (lt-ltb a.k 4 c.if-k-ge4.false)))
-

@@ -1,5 +1,4 @@
 -- `snapshot::place_after` meets its contract: a remainder by the number of cores, which is a byte. Assumes nothing.
-use borrow.Author.Rules.{rules}
 use mathlib.Core.Path.{sym}
 use Prim.Native.Nat.{◌+◌, ◌<◌}
 use native.Mathlib.Nat.{mod-lt}

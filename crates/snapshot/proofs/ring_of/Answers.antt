@@ -1,5 +1,4 @@
 -- `snapshot::ring_of` meets its contract: file, trace, state and the given core are judged in this order, as in the call by value. Assumes nothing.
-use borrow.Author.Rules.{rules}
 use mathlib.Core.Path.{sym, ap, ◌∙◌}
 use native.Mathlib.Omega.{arith}
 use Rattle.taskset.specs.declared.Layout.{Layout}

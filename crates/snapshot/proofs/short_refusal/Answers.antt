@@ -1,6 +1,5 @@
 -- `snapshot::short_refusal` meets its contract: the file is judged first. Assumes nothing.
 use mathlib.Core.Path.{refl, sym, ◌∙◌}
-use borrow.Author.Rules.{rules}
 use Rattle.verdict.proofs.Verdict.{skip, stop}
 use Rattle.snapshot.proofs.short_refusal.Goals as goal
 

@@ -1,6 +1,5 @@
 -- `snapshot::table_count` meets its contract: by the test. Assumes nothing.
 use borrow.Author.Tests.{lt-ltb, le-ltb}
-use borrow.Author.Rules.{rules}
 use Rattle.verdict.specs.Verdict.{pick}
 use Rattle.snapshot.proofs.table_count.Goals as goal
 

@@ -1,5 +1,4 @@
 -- `snapshot::table_from` meets its contract: field by field. Assumes nothing.
-use borrow.Author.Rules.{rules}
 use mathlib.Core.Path.{refl}
 use Rattle.snapshot.proofs.table_from.Goals as goal
 

@@ -1,7 +1,6 @@
 -- Zeros, and in a file of the new form the start values over them. Assumes nothing.
 use mathlib.Core.Path.{sym, ap, ◌∙◌}
 use native.Mathlib.Omega.{arith}
-use borrow.Author.Rules.{rules}
 use Rattle.protocol.specs.Fresh.{zeros}
 use Rattle.taskset.specs.Task.{variables_of}
 use Rattle.taskset.specs.Starts.{start_data, with_written, start_shared}
@@ -20,12 +19,12 @@ write_data-requires c = (c.requires.0, sym c.is_new.ensures ∙ c.if-is_new.true
 pub returns-then-is_new : goal.returns-then-is_new
 unfolding start_shared
 returns-then-is_new c = let f = c.args.f.now in (
-      c.write_data.ensures,
-      c.write_shared.ensures ∙ ap (with_written (start_data f) (variables_of f)) (c.zero-2.ensures ∙ ap zeros c.requires.3),
-    )
+  c.write_data.ensures,
+  c.write_shared.ensures ∙ ap (with_written (start_data f) (variables_of f)) (c.zero-2.ensures ∙ ap zeros c.requires.3),
+)
 
 pub returns-else-is_new : goal.returns-else-is_new
 returns-else-is_new c = let f = c.args.f.now in (
-      c.zero.ensures ∙ ap zeros c.requires.2 ∙ sym (old-buffer f (sym c.is_new.ensures ∙ c.if-is_new.false)),
-      c.zero-2.ensures ∙ ap zeros c.requires.3 ∙ sym (old-shared f (sym c.is_new.ensures ∙ c.if-is_new.false)),
-    )
+  c.zero.ensures ∙ ap zeros c.requires.2 ∙ sym (old-buffer f (sym c.is_new.ensures ∙ c.if-is_new.false)),
+  c.zero-2.ensures ∙ ap zeros c.requires.3 ∙ sym (old-shared f (sym c.is_new.ensures ∙ c.if-is_new.false)),
+)

@@ -3,11 +3,10 @@ use Prim.Native.Nat.{ℕ, ◌+◌, ◌-◌, ◌*◌, ◌≤◌}
 use mathlib.Core.Path.{refl, sym, ap, ◌∙◌}
 use native.Mathlib.Omega.{arith}
 use lib.ListN.{length, length-replicate}
-use borrow.Author.Rules.{rules}
 use Rattle.memory.specs.Memory.{total}
 use Rattle.taskset.specs.Task.{sizes_of}
 use Rattle.taskset.proofs.Exact.{keeps-rules}
-use Rattle.starts.proofs.Laws.{Filling, filling-none, filling-size, room, pairs-there, fits, pairs-inside, filling-more, filling-done}
+use Rattle.starts.proofs.Laws.{filling-none, filling-size, room, pairs-there, fits, pairs-inside, filling-more, filling-done}
 use Rattle.starts.proofs.write_data.Goals as goal
 
 pub code_place-p-requires : goal.code_place-p-requires

@@ -1,13 +1,6 @@
 -- `Filling`: the data of the first k cores are written, and zeros follow. Assumes nothing.
-use Prim.Native.Nat.{ℕ, ◌+◌, ◌-◌, ◌*◌, ◌≤◌}
-use mathlib.Core.Path.{refl, sym, ap, ◌∙◌}
-use native.Mathlib.Omega.{arith}
-use lib.ListN.{length, length-replicate}
-use borrow.Author.Rules.{rules}
-use Rattle.memory.specs.Memory.{total}
-use Rattle.taskset.specs.Task.{sizes_of}
-use Rattle.taskset.proofs.Exact.{keeps-rules}
-use Rattle.starts.proofs.Laws.{Filling, filling-none, filling-size, room, pairs-there, fits, pairs-inside, filling-more, filling-done}
+use Prim.Native.Nat.{◌-◌}
+use Rattle.starts.proofs.Laws.{Filling}
 use Rattle.starts.proofs.write_data.Given as goal
 
 abbrev pub invariant-loop-k : goal.invariant-loop-k

@@ -2,8 +2,7 @@
 use Prim.Native.Nat.{◌-◌}
 use mathlib.Core.Path.{refl}
 use native.Mathlib.Omega.{arith}
-use borrow.Author.Rules.{rules}
-use Rattle.starts.proofs.Laws.{Pairing, pairing-none, pairing-more, pairing-inside, pairing-done}
+use Rattle.starts.proofs.Laws.{pairing-none, pairing-more, pairing-inside, pairing-done}
 use Rattle.starts.proofs.write_pairs.Goals as goal
 
 pub loop-i-init : goal.loop-i-init

@@ -1,9 +1,6 @@
 -- `Pairing`: i start values are written, and what is left makes of the data what all make of them at entry. Assumes nothing.
 use Prim.Native.Nat.{◌-◌}
-use mathlib.Core.Path.{refl}
-use native.Mathlib.Omega.{arith}
-use borrow.Author.Rules.{rules}
-use Rattle.starts.proofs.Laws.{Pairing, pairing-none, pairing-more, pairing-inside, pairing-done}
+use Rattle.starts.proofs.Laws.{Pairing}
 use Rattle.starts.proofs.write_pairs.Given as goal
 
 abbrev pub invariant-loop-i : goal.invariant-loop-i

@@ -3,10 +3,9 @@ use Prim.Native.Nat.{◌+◌, ◌-◌, ◌≤◌}
 use mathlib.Core.Path.{sym, ap, ◌∙◌}
 use native.Mathlib.Omega.{arith}
 use lib.ListN.{length}
-use borrow.Author.Rules.{rules}
 use Rattle.taskset.specs.declared.Layout.{Layout}
 use Rattle.taskset.proofs.Accepted.{length-buffer}
-use Rattle.starts.proofs.Laws.{Publishing, publishing-none, record-there, shared-fits, buffer-fits, publishing-more, copied-as, publishing-done}
+use Rattle.starts.proofs.Laws.{publishing-none, record-there, shared-fits, buffer-fits, publishing-more, copied-as, publishing-done}
 use Rattle.starts.proofs.write_shared.Goals as goal
 
 pub loop-i-init : goal.loop-i-init
@@ -48,23 +47,23 @@ width-requires c =
 
 pub copy-requires : goal.copy-requires
 copy-requires c = let f = c.args.f.now in (
-      omega (
-        arith,
-        shared-fits f c.requires.0 _ _ _ _ _ c.loop-i.invariant c.loop-i-test.true _ _ c.writer-w.ensures.0
-            c.base_of.ensures,
-        c.shared_place-to.ensures,
-        c.width.ensures,
-      ),
-      omega (
-        arith,
-        buffer-fits f c.requires.0 _ _ _ _ _ c.loop-i.invariant c.loop-i-test.true _ _ c.writer-w.ensures.0
-            c.base_of.ensures,
-        c.local_place.ensures,
-        c.width.ensures,
-        length-buffer f,
-        ap length c.requires.2,
-      ),
-    )
+  omega (
+    arith,
+    shared-fits f c.requires.0 _ _ _ _ _ c.loop-i.invariant c.loop-i-test.true _ _ c.writer-w.ensures.0
+        c.base_of.ensures,
+    c.shared_place-to.ensures,
+    c.width.ensures,
+  ),
+  omega (
+    arith,
+    buffer-fits f c.requires.0 _ _ _ _ _ c.loop-i.invariant c.loop-i-test.true _ _ c.writer-w.ensures.0
+        c.base_of.ensures,
+    c.local_place.ensures,
+    c.width.ensures,
+    length-buffer f,
+    ap length c.requires.2,
+  ),
+)
 
 pub overflow_add-p : goal.overflow_add-p
 overflow_add-p c =

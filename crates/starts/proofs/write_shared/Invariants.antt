@@ -1,12 +1,6 @@
 -- `Publishing`: the variables before number i are written, and those left make of shared memory what all make of it at entry. Assumes nothing.
-use Prim.Native.Nat.{◌+◌, ◌-◌, ◌≤◌}
-use mathlib.Core.Path.{sym, ap, ◌∙◌}
-use native.Mathlib.Omega.{arith}
-use lib.ListN.{length}
-use borrow.Author.Rules.{rules}
-use Rattle.taskset.specs.declared.Layout.{Layout}
-use Rattle.taskset.proofs.Accepted.{length-buffer}
-use Rattle.starts.proofs.Laws.{Publishing, publishing-none, record-there, shared-fits, buffer-fits, publishing-more, copied-as, publishing-done}
+use Prim.Native.Nat.{◌-◌}
+use Rattle.starts.proofs.Laws.{Publishing}
 use Rattle.starts.proofs.write_shared.Given as goal
 
 abbrev pub invariant-loop-i : goal.invariant-loop-i

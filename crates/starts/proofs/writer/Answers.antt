@@ -1,7 +1,6 @@
 -- The first core whose WRITE bit is set; with none of the first three, core 3. Assumes nothing.
 use mathlib.Core.Path.{sym, ◌∙◌}
 use native.Mathlib.Omega.{arith}
-use borrow.Author.Rules.{rules}
 use Rattle.verdict.specs.Verdict.{pick}
 use Rattle.taskset.specs.Starts.{writer_of}
 use Rattle.starts.proofs.writer.Goals as goal

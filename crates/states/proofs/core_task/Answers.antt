@@ -3,7 +3,6 @@ use mathlib.Core.Path.{◌≡◌, ap}
 use mathlib.Core.List.{List}
 use Prim.Native.Nat.{ℕ, ◌+◌, ◌*◌, ◌<◌}
 use native.Mathlib.Omega.{arith}
-use borrow.Author.Rules.{rules}
 use Rattle.records.specs.File.{variables, record_place}
 use Rattle.taskset.specs.declared.Layout.{Layout}
 use Rattle.taskset.specs.Layout.{layout_of}

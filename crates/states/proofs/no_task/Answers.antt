@@ -1,6 +1,5 @@
 -- `states::no_task` meets its contract: the layout of no core is all zeros too. Assumes nothing.
 use mathlib.Core.Path.{ap}
-use borrow.Author.Rules.{rules}
 use Rattle.taskset.specs.declared.CoreLayout.{CoreLayout}
 use Rattle.states.proofs.no_task.Goals as goal
 

@@ -1,7 +1,6 @@
 -- Zeros past the last core.
 use mathlib.Core.Path.{ap, sym, ◌∙◌}
 use borrow.Author.Tests.{lt-ltb, le-ltb}
-use borrow.Author.Rules.{rules}
 use Rattle.verdict.proofs.Verdict.{pick_true, pick-false}
 use Rattle.taskset.specs.declared.Layout.{Layout}
 use Rattle.states.specs.Tasks.{task_at}

@@ -1,8 +1,6 @@
 -- Each answer is a case of mode 0. Assumes nothing.
 use mathlib.Core.Path.{◌∙◌}
-use borrow.Author.Tests.{not-true, not-false}
 use native.Mathlib.Omega.{arith}
-use borrow.Author.Rules.{rules}
 use Rattle.steps.proofs.Given.{spent, joined, read-acquired}
 use Rattle.steps.proofs.begin_reading.Goals as goal
 
@@ -17,7 +15,7 @@ take_record-requires c = (c.requires.0, omega (arith, c.if-c-cycles.false))
 
 pub returns : goal.returns
 returns c = λ sh. (
-      (λ m u. read-acquired c.requires.0 m _ _ c.requires.1 (omega (arith, c.if-c-cycles.false)) c.take_record.ensures.0
-          c.take_record.ensures.1 (u ∙ c.if-not-turn.false) sh),
-      c.if-not-turn.false,
-    )
+  (λ m u. read-acquired c.requires.0 m _ _ c.requires.1 (omega (arith, c.if-c-cycles.false)) c.take_record.ensures.0
+      c.take_record.ensures.1 (u ∙ c.if-not-turn.false) sh),
+  c.if-not-turn.false,
+)

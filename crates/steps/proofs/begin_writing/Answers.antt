@@ -1,5 +1,4 @@
 -- `steps::begin_writing` meets its contract. Assumes nothing.
-use borrow.Author.Tests.{not-true, not-false}
 use Rattle.verdict.specs.Verdict.{pick}
 use Rattle.steps.proofs.begin_writing.Goals as goal
 

@@ -1,7 +1,6 @@
 -- `steps::bytes_ahead` meets its contract. Assumes nothing.
 use mathlib.Core.Logic.{inl, inr}
 use native.Mathlib.Omega.{arith}
-use borrow.Author.Rules.{rules}
 use Rattle.steps.proofs.bytes_ahead.Goals as goal
 
 pub returns-then-next-c : goal.returns-then-next-c

@@ -1,12 +1,8 @@
 -- What is left to clear makes of the data what the whole makes of the first. Assumes nothing.
-use mathlib.Core.Path.{◌≡◌, refl, sym, ap, ◌∙◌}
-use mathlib.Core.List.{List}
-use Prim.Native.Nat.{ℕ, suc, ◌+◌, ◌-◌, ◌≤◌, ◌<◌}
-use native.Mathlib.Nat.{sub-zero}
-use native.Mathlib.Omega.{arith}
-use lib.ListN.{length, set, replicate, length-set}
+use mathlib.Core.Path.{◌≡◌}
+use Prim.Native.Nat.{◌-◌, ◌≤◌}
+use lib.ListN.{length, replicate}
 use Rattle.memory.specs.Memory.{splice}
-use Rattle.memory.proofs.Turns.{splice-turn}
 use Rattle.steps.proofs.clear.Given as goal
 
 abbrev pub invariant-loop-i : goal.invariant-loop-i

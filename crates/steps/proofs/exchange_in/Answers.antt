@@ -1,6 +1,5 @@
 -- Each arm is what its function ensures; from mode 5 on a core is stopped. Assumes nothing.
 use native.Mathlib.Omega.{arith}
-use borrow.Author.Rules.{rules}
 use Rattle.steps.proofs.Does.{begins-writing, does-stopped}
 use Rattle.steps.proofs.exchange_in.Goals as goal
 

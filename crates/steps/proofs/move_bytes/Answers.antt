@@ -3,7 +3,6 @@ use mathlib.Core.Path.{refl, ap, ◌∙◌}
 use mathlib.Core.List.{List}
 use Prim.Native.Nat.{ℕ}
 use native.Mathlib.Omega.{arith}
-use borrow.Author.Rules.{rules}
 use lib.ListN.{length}
 use Rattle.steps.proofs.Given.{stretch-inside, stretch-is, reading-ahead, writing-ahead, bytes-read-in, bytes-written-in}
 use Rattle.steps.proofs.move_bytes.Goals as goal

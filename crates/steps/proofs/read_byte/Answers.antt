@@ -1,6 +1,5 @@
 -- Each answer is a case of mode 1: no byte is left, the last one, or one of several. Assumes nothing.
 use native.Mathlib.Omega.{arith}
-use borrow.Author.Rules.{rules}
 use Rattle.steps.proofs.Given.{core-few, reads-left, read_none, read-last, read_more}
 use Rattle.steps.proofs.read_byte.Goals as goal
 
@@ -9,13 +8,13 @@ returns-then-c-x c = λ b. ((λ h z. read_none c.requires.0 _ h c.requires.1 c.i
 
 pub bring-requires : goal.bring-requires
 bring-requires c = (
-      c.requires.0.accepted.laid,
-      c.requires.0.known,
-      c.requires.3,
-      reads-left c.requires.0 c.if-c-x.false,
-      c.requires.0.fit.size,
-      c.requires.2,
-    )
+  c.requires.0.accepted.laid,
+  c.requires.0.known,
+  c.requires.3,
+  reads-left c.requires.0 c.if-c-x.false,
+  c.requires.0.fit.size,
+  c.requires.2,
+)
 
 pub returns-then-c-x-2 : goal.returns-then-c-x-2
 returns-then-c-x-2 c = λ b. ((λ h z. read-last c.requires.0 _ h _ c.requires.1 c.if-c-x-2.true c.bring.ensures), tt)

@@ -1,7 +1,6 @@
 -- The record of this cycle lies within a trace that has bytes, its inputs within the data. Assumes nothing.
 use mathlib.Core.Path.{refl}
 use native.Mathlib.Omega.{arith}
-use borrow.Author.Rules.{rules}
 use Rattle.steps.proofs.Given.{record-inside, inputs-inside, stored-time, stored-input, blank-time, blank-input}
 use Rattle.steps.proofs.take_record.Goals as goal
 
@@ -31,6 +30,6 @@ load-requires c = (omega (arith, record-inside c.requires.0 c.if-trace-eq0.false
 
 pub returns : goal.returns
 returns c = (
-      stored-time c.requires.0 c.if-trace-eq0.false _ _ refl c.load.ensures.0,
-      stored-input c.requires.0 c.if-trace-eq0.false _ _ refl c.copy.ensures,
-    )
+  stored-time c.requires.0 c.if-trace-eq0.false _ _ refl c.load.ensures.0,
+  stored-input c.requires.0 c.if-trace-eq0.false _ _ refl c.copy.ensures,
+)

@@ -1,6 +1,5 @@
 -- Each answer is a case of mode 4: no byte is left, the last one, or one of several. Assumes nothing.
 use native.Mathlib.Omega.{arith}
-use borrow.Author.Rules.{rules}
 use Rattle.steps.proofs.Given.{core-few, writes-left, write-none, write-last, write-more}
 use Rattle.steps.proofs.write_byte.Goals as goal
 
@@ -9,13 +8,13 @@ returns-then-c-x c = λ b. ((λ h z. write-none c.requires.0 _ h c.requires.1 c.
 
 pub publish-requires : goal.publish-requires
 publish-requires c = (
-      c.requires.0.accepted.laid,
-      c.requires.0.known,
-      c.requires.3,
-      writes-left c.requires.0 c.if-c-x.false,
-      c.requires.0.fit.size,
-      c.requires.2,
-    )
+  c.requires.0.accepted.laid,
+  c.requires.0.known,
+  c.requires.3,
+  writes-left c.requires.0 c.if-c-x.false,
+  c.requires.0.fit.size,
+  c.requires.2,
+)
 
 pub returns-then-c-x-2 : goal.returns-then-c-x-2
 returns-then-c-x-2 c = λ b. ((λ h z. write-last c.requires.0 _ h _ c.requires.1 c.if-c-x-2.true c.publish.ensures), tt)
@@ -25,6 +24,6 @@ onward-requires c = (c.requires.0.accepted.laid, c.requires.4, omega (arith, cor
 
 pub returns : goal.returns
 returns c = λ b. (
-      (λ h z. write-more c.requires.0 _ h _ c.requires.1 c.if-c-x-2.false c.publish.ensures),
-      (c.requires.1, c.onward.ensures),
-    )
+  (λ h z. write-more c.requires.0 _ h _ c.requires.1 c.if-c-x-2.false c.publish.ensures),
+  (c.requires.1, c.onward.ensures),
+)

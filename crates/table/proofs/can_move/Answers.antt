@@ -2,7 +2,6 @@
 use mathlib.Core.Path.{◌∙◌}
 use mathlib.Core.Bool.{true, false}
 use borrow.Author.Tests.{lt-ltb, le-ltb}
-use borrow.Author.Rules.{rules}
 use Rattle.verdict.specs.Verdict.{pick}
 use Rattle.verdict.proofs.Truth.{both-swap}
 use Rattle.semaphore.specs.Line.{semaphore_of}

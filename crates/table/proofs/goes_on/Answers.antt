@@ -1,6 +1,5 @@
 -- `table::goes_on` meets its contract. Assumes nothing.
 use mathlib.Core.Path.{sym, ◌∙◌}
-use borrow.Author.Rules.{rules}
 use Rattle.table.proofs.goes_on.Goals as goal
 
 pub returns-then-turn : goal.returns-then-turn

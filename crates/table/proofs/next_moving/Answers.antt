@@ -1,9 +1,8 @@
 -- The cores passed don't move; the first that does is the answer. The measure is what is left of the ring. Assumes nothing.
-use Prim.Native.Nat.{◌+◌, ◌-◌}
+use Prim.Native.Nat.{◌-◌}
 use native.Mathlib.Omega.{arith}
-use borrow.Author.Rules.{rules}
 use Rattle.table.proofs.Ring.{looking-none}
-use Rattle.table.proofs.Scan.{Scanning, inside-four, scan-named, scan-more, scan-none}
+use Rattle.table.proofs.Scan.{inside-four, scan-named, scan-more, scan-none}
 use Rattle.table.proofs.next_moving.Goals as goal
 
 pub loop-i-init : goal.loop-i-init

@@ -1,5 +1,4 @@
 -- `takings::is_due` meets its contract, a case at a time. Assumes nothing.
-use borrow.Author.Rules.{rules}
 use Rattle.takings.proofs.Bytes.{reading-off, reading-due, writing-due}
 use Rattle.takings.proofs.is_due.Goals as goal
 

@@ -1,7 +1,6 @@
 -- Zero past the last core; one where the trace has no bytes, else the count.
 use mathlib.Core.Path.{sym, ◌∙◌}
 use borrow.Author.Tests.{le-ltb}
-use borrow.Author.Rules.{rules}
 use Rattle.verdict.specs.Verdict.{pick}
 use Rattle.taskset.specs.Trace.{count_of}
 use Rattle.taskset.proofs.Records.{counted-blank, counted-stored}

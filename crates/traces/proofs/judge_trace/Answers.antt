@@ -1,6 +1,5 @@
 -- The trace has no bytes; or its parts end where it ends, or they do not.
 use mathlib.Core.Path.{sym, ◌∙◌}
-use borrow.Author.Rules.{rules}
 use Rattle.taskset.proofs.Records.{judged-blank, judged-end, judged-elsewhere}
 use Rattle.traces.proofs.judge_trace.Goals as goal
 

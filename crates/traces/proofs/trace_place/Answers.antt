@@ -1,8 +1,7 @@
 -- From core to core: a count and the records.
-use Prim.Native.Nat.{◌*◌, ◌-◌, ◌≤◌}
+use Prim.Native.Nat.{◌-◌}
 use mathlib.Core.Path.{◌≡◌, refl, ap, ◌∙◌}
 use native.Mathlib.Omega.{arith}
-use borrow.Author.Rules.{rules}
 use Rattle.taskset.specs.Trace.{trace_place}
 use Rattle.taskset.proofs.Laws.{trace-next, records-small}
 use Rattle.traces.proofs.trace_place.Goals as goal

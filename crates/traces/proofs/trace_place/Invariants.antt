@@ -1,10 +1,7 @@
 -- From core to core: a count and the records.
 use Prim.Native.Nat.{◌*◌, ◌-◌, ◌≤◌}
-use mathlib.Core.Path.{◌≡◌, refl, ap, ◌∙◌}
-use native.Mathlib.Omega.{arith}
-use borrow.Author.Rules.{rules}
+use mathlib.Core.Path.{◌≡◌}
 use Rattle.taskset.specs.Trace.{trace_place}
-use Rattle.taskset.proofs.Laws.{trace-next, records-small}
 use Rattle.traces.proofs.trace_place.Given as goal
 
 abbrev pub invariant-loop-i : goal.invariant-loop-i

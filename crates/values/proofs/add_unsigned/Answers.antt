@@ -1,5 +1,5 @@
 -- `values::add_unsigned` meets its contract. Each arm is the supplied wrapping sum at its width; one law serves all four. Assumes nothing.
-use Rattle.std.proofs.Common.{ℕ, ◌+◌, ◌*◌, ◌%◌, ◌^◌, sym, ap, ◌∙◌, rules}
+use Rattle.std.proofs.Common.{ℕ, ◌+◌, ◌*◌, ◌%◌, ◌^◌, sym, ap, ◌∙◌}
 use Rattle.values.proofs.Widths as Widths
 use Rattle.values.proofs.add_unsigned.Goals as goal
 

@@ -1,7 +1,7 @@
 -- `values::below_zero` meets its contract. -1 - k is in range, and is the number one below -k. Assumes nothing.
 use mir.Facts.{to_z_pos}
 use Rattle.values.proofs.Signs.{minus_one, read64}
-use Rattle.std.proofs.Common.{ℤ, negsuc, ◌-ℤ◌, sym, ap, ◌∙◌, subst, w64, SFits, to_z, of_z, rules}
+use Rattle.std.proofs.Common.{ℤ, negsuc, ◌-ℤ◌, sym, ap, ◌∙◌, subst, w64, SFits, to_z, of_z}
 use Rattle.values.proofs.below_zero.Goals as goal
 
 pub overflow_sub-result : goal.overflow_sub-result

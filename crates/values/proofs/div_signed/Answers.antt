@@ -1,6 +1,6 @@
 -- `values::div_signed` meets its contract. By -1 the quotient is the negative number, which wraps; by any other divisor it fits. Assumes nothing.
 use lib.Signed.{quot_z}
-use Rattle.std.proofs.Common.{◌≡◌, ◌*◌, ℤ, negsuc, neg_ℤ, sym, ap, ◌∙◌, w64, to_z, of_z, rules}
+use Rattle.std.proofs.Common.{◌≡◌, ◌*◌, ℤ, negsuc, neg_ℤ, sym, ap, ◌∙◌, w64, to_z, of_z}
 use Rattle.values.proofs.Widths as Widths
 use Rattle.values.proofs.Signs as Signs
 use Rattle.values.specs.Width.{wrap}

@@ -1,5 +1,5 @@
 -- `values::flip` meets its contract. The complement of 64 bits, cut to the width, is the complement at the width. Assumes nothing.
-use Rattle.std.proofs.Common.{◌∙◌, rules}
+use Rattle.std.proofs.Common.{◌∙◌}
 use Rattle.values.proofs.Bits.{flip-at}
 use Rattle.values.proofs.flip.Goals as goal
 

@@ -1,5 +1,5 @@
 -- `values::low_bytes` meets its contract. A shift of 1 by fewer than 64 places is a power of two. Assumes nothing.
-use Rattle.std.proofs.Common.{◌≡◌, ℕ, ◌*◌, ◌%◌, ◌^◌, ◌<◌, sym, ap, subst, mod-eq_of_lt, arith, pow_pos, rules}
+use Rattle.std.proofs.Common.{◌≡◌, ℕ, ◌*◌, ◌%◌, ◌^◌, ◌<◌, sym, ap, subst, mod-eq_of_lt, arith, pow_pos}
 use Rattle.values.proofs.Widths.{shifted}
 use Rattle.values.proofs.low_bytes.Goals as goal
 

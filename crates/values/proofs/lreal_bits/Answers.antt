@@ -1,7 +1,7 @@
 -- `values::lreal_bits` meets its contract. A float differs from itself exactly if it is NaN. Assumes nothing.
 use lib.Ieee as Ieee
 use lib.Ieee.{binary64}
-use Rattle.std.proofs.Common.{sym, ap, rules}
+use Rattle.std.proofs.Common.{sym, ap}
 use Rattle.values.proofs.Floats.{differs, not-differs}
 use Rattle.values.proofs.lreal_bits.Goals as goal
 

@@ -1,7 +1,6 @@
 -- `values::lreal_in` meets its contract. Each arm knows the variant; 0 / 0 is NaN. Assumes nothing.
 use lib.Ieee.{binary64}
 use Rattle.values.proofs.Floats.{zero_by_zero}
-use Rattle.std.proofs.Common.{rules}
 use Rattle.values.proofs.lreal_in.Goals as goal
 
 pub returns-in-Bool : goal.returns-in-Bool

@@ -1,6 +1,6 @@
 -- `values::lreal_of` meets its contract. A pattern is a NaN exactly if it lies above infinity. Assumes nothing.
 use lib.Ieee.{binary64}
-use Rattle.std.proofs.Common.{sym, ◌∙◌, rules}
+use Rattle.std.proofs.Common.{sym, ◌∙◌}
 use Rattle.values.proofs.Floats.{nan-above, number-below, zero_by_zero}
 use Rattle.values.proofs.lreal_of.Goals as goal
 

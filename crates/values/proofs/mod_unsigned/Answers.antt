@@ -1,5 +1,5 @@
 -- `values::mod_unsigned` meets its contract. The test of the divisor is the definition's. Assumes nothing.
-use Rattle.std.proofs.Common.{sym, rules, eq-eqb, ne_eqb}
+use Rattle.std.proofs.Common.{sym, eq-eqb, ne_eqb}
 use Rattle.verdict.proofs.Verdict.{pick_true, pick-false}
 use Rattle.values.specs.Width.{unsigned_remainder}
 use Rattle.values.proofs.mod_unsigned.Goals as goal

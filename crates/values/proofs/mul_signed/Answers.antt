@@ -1,5 +1,5 @@
 -- `values::mul_signed` meets its contract. The product of the patterns, cut to the width, is the pattern of the product (`modular`). Assumes nothing.
-use Rattle.std.proofs.Common.{◌*◌, ◌^◌, ◌≤◌, ◌*ℤ◌, sym, ◌∙◌, rules}
+use Rattle.std.proofs.Common.{◌*◌, ◌^◌, ◌≤◌, ◌*ℤ◌, sym, ◌∙◌}
 use Rattle.values.proofs.Widths as Widths
 use Rattle.values.proofs.Signs as Signs
 use Rattle.values.proofs.mul_signed.Goals as goal

@@ -1,5 +1,5 @@
 -- `values::mul_unsigned` meets its contract. The low bytes of the product modulo 2 ^ 64. Assumes nothing.
-use Rattle.std.proofs.Common.{ℕ, ◌*◌, ◌%◌, ◌^◌, ap, ◌∙◌, rules}
+use Rattle.std.proofs.Common.{ℕ, ◌*◌, ◌%◌, ◌^◌, ap, ◌∙◌}
 use Rattle.values.proofs.Widths as Widths
 use Rattle.values.proofs.mul_unsigned.Goals as goal
 

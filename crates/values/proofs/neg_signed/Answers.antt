@@ -1,5 +1,5 @@
 -- `values::neg_signed` meets its contract. 0 minus the pattern is the pattern of the negative number. Assumes nothing.
-use Rattle.std.proofs.Common.{◌*◌, ◌^◌, ◌≤◌, neg_ℤ, sym, ◌∙◌, arith, rules}
+use Rattle.std.proofs.Common.{◌*◌, ◌^◌, ◌≤◌, neg_ℤ, sym, ◌∙◌, arith}
 use Rattle.values.proofs.Widths as Widths
 use Rattle.values.proofs.Signs as Signs
 use Rattle.values.proofs.neg_signed.Goals as goal

@@ -1,5 +1,5 @@
 -- `values::pattern_of` meets its contract. Each arm is the pattern of its kind. Assumes nothing.
-use Rattle.std.proofs.Common.{◌*◌, sym, ap, ◌∙◌, rules}
+use Rattle.std.proofs.Common.{◌*◌, sym, ap, ◌∙◌}
 use Rattle.values.proofs.Widths as Widths
 use Rattle.values.proofs.Signs as Signs
 use Rattle.values.specs.Values.{pattern_of}

@@ -1,5 +1,5 @@
 -- `values::rotate_left` meets its contract. No place modulo the width leaves the bits; any other count is a turn. Assumes nothing.
-use Rattle.std.proofs.Common.{◌*◌, ◌%◌, ◌<◌, ◌∙◌, mod-lt, arith, rules}
+use Rattle.std.proofs.Common.{◌*◌, ◌%◌, ◌<◌, ◌∙◌, mod-lt, arith}
 use Rattle.values.proofs.Bits.{left-none}
 use Rattle.values.specs.Width.{rotate_left}
 use Rattle.values.proofs.rotate_left.Goals as goal

@@ -1,5 +1,5 @@
 -- `values::rotate_right` meets its contract. No place modulo the width leaves the bits; any other count is a turn the other way. Assumes nothing.
-use Rattle.std.proofs.Common.{◌*◌, ◌%◌, ◌<◌, ◌∙◌, mod-lt, arith, rules}
+use Rattle.std.proofs.Common.{◌*◌, ◌%◌, ◌<◌, ◌∙◌, mod-lt, arith}
 use Rattle.values.proofs.Bits.{right-none}
 use Rattle.values.specs.Width.{rotate_right}
 use Rattle.values.proofs.rotate_right.Goals as goal

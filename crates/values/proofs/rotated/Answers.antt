@@ -1,5 +1,5 @@
 -- `values::rotated` meets its contract. The two parts lie apart, so that their sum fits. Assumes nothing.
-use Rattle.std.proofs.Common.{◌*◌, arith, rules}
+use Rattle.std.proofs.Common.{◌*◌, arith}
 use Rattle.values.proofs.Bits.{one_shifted, turn_is, turn-fits}
 use Rattle.values.proofs.rotated.Goals as goal
 

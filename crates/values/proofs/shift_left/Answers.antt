@@ -1,5 +1,5 @@
 -- `values::shift_left` meets its contract. Fewer places than the width: the product with a power of two, cut to the width. Assumes nothing.
-use Rattle.std.proofs.Common.{◌∙◌, rules}
+use Rattle.std.proofs.Common.{◌∙◌}
 use Rattle.values.proofs.Bits.{left_out, left_in}
 use Rattle.values.proofs.shift_left.Goals as goal
 

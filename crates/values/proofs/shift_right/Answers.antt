@@ -1,6 +1,5 @@
 -- `values::shift_right` meets its contract. Fewer places than the width: the quotient by a power of two. Assumes nothing.
 use Rattle.values.proofs.Bits.{right-out, right-in}
-use Rattle.std.proofs.Common.{rules}
 use Rattle.values.proofs.shift_right.Goals as goal
 
 pub returns-then-w-places : goal.returns-then-w-places

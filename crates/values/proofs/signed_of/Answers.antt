@@ -2,7 +2,7 @@
 -- stand for themselves, the others for a number below zero. Assumes nothing.
 use mir.Facts.{to_z_pos}
 use Rattle.values.proofs.Signs.{read64, half-small, low_small, back_fits, back_read}
-use Rattle.std.proofs.Common.{◌-◌, ◌*◌, negsuc, sym, ap, ◌∙◌, arith, pow_pos, w64, rules}
+use Rattle.std.proofs.Common.{◌-◌, ◌*◌, negsuc, sym, ap, ◌∙◌, arith, pow_pos, w64}
 use Rattle.values.proofs.Widths as Widths
 use Rattle.values.proofs.signed_of.Goals as goal
 

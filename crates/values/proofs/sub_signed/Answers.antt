@@ -1,5 +1,5 @@
 -- `values::sub_signed` meets its contract. The difference of the patterns is the pattern of the difference (`modular`). Assumes nothing.
-use Rattle.std.proofs.Common.{ℕ, ◌*◌, ◌^◌, ◌<◌, ◌≤◌, ◌-ℤ◌, sym, ◌∙◌, subst, rules}
+use Rattle.std.proofs.Common.{ℕ, ◌*◌, ◌^◌, ◌<◌, ◌≤◌, ◌-ℤ◌, sym, ◌∙◌, subst}
 use Rattle.values.proofs.Widths as Widths
 use Rattle.values.proofs.Signs as Signs
 use Rattle.values.proofs.sub_signed.Goals as goal

@@ -1,6 +1,6 @@
 -- `values::sub_unsigned` meets its contract. Each arm is the supplied wrapping difference at its width; one law serves all four. Assumes nothing.
 use native.Mathlib.Nat.{add-mod-mod}
-use Rattle.std.proofs.Common.{◌≡◌, ℕ, ◌*◌, ◌^◌, sym, ap, ◌∙◌, mod-eq_of_lt, rules}
+use Rattle.std.proofs.Common.{◌≡◌, ℕ, ◌*◌, ◌^◌, sym, ap, ◌∙◌, mod-eq_of_lt}
 use Rattle.values.proofs.Widths as Widths
 use Rattle.values.proofs.sub_unsigned.Goals as goal
 

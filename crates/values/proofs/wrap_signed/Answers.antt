@@ -1,5 +1,5 @@
 -- `values::wrap_signed` meets its contract. The low bytes of the 64-bit pattern are the pattern at the width. Assumes nothing.
-use Rattle.std.proofs.Common.{◌*◌, sym, ◌∙◌, rules}
+use Rattle.std.proofs.Common.{◌*◌, sym, ◌∙◌}
 use Rattle.values.proofs.Widths as Widths
 use Rattle.values.proofs.Signs as Signs
 use Rattle.values.proofs.wrap_signed.Goals as goal

@@ -1,5 +1,5 @@
 -- `values::wrapping_mul` meets its contract. The product by halves: the high half of the cross sum falls out modulo 2 ^ 64. Assumes nothing.
-use Rattle.std.proofs.Common.{ℕ, ◌+◌, ◌*◌, ◌/◌, ◌%◌, ◌^◌, ap, ◌∙◌, arith, rules}
+use Rattle.std.proofs.Common.{ℕ, ◌+◌, ◌*◌, ◌/◌, ◌%◌, ◌^◌, ap, ◌∙◌, arith}
 use Rattle.values.proofs.Widths as Widths
 use Rattle.values.proofs.wrapping_mul.Goals as goal
 

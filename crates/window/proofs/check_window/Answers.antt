@@ -1,6 +1,5 @@
 -- `window::check_window` meets its contract. Assumes nothing.
 use lib.ListN.{length}
-use borrow.Author.Rules.{rules}
 use Rattle.window.proofs.Laws.{number-found}
 use Rattle.window.proofs.check_window.Goals as goal
 

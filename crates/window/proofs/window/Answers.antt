@@ -2,7 +2,6 @@
 use mathlib.Core.Path.{refl, sym, ap, ◌∙◌}
 use Prim.Native.Nat.{◌+◌}
 use native.Mathlib.Omega.{arith}
-use borrow.Author.Rules.{rules}
 use Rattle.window.specs.declared.Shown.TheVariants.{Code, Data}
 use Rattle.window.specs.declared.Shown.{Shown}
 use Rattle.window.specs.declared.Found.{Found}

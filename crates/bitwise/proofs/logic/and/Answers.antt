@@ -1,5 +1,4 @@
 -- `commands::logic::and` meets its contract. Each arm is the command on its kind (`kinds`). Assumes nothing.
-use borrow.Author.Rules.{rules}
 use Rattle.values.specs.Commands.{AND}
 use Rattle.commands.proofs.Arms.{kinds}
 use Rattle.bitwise.proofs.logic.and.Goals as goal

@@ -1,5 +1,4 @@
 -- `commands::logic::and_typed` meets its contract. The operands lie inside the data; what is stored is the command's effect (`known-done`). Assumes nothing.
-use borrow.Author.Rules.{rules}
 use Rattle.verdict.specs.Verdict.{pick}
 use Rattle.values.specs.Types.{width_of}
 use Rattle.values.specs.Commands.{result_type, result_width, second_width, zero_divisor}

@@ -1,5 +1,4 @@
 -- `commands::logic::or` meets its contract. Each arm is the command on its kind (`kinds`). Assumes nothing.
-use borrow.Author.Rules.{rules}
 use Rattle.values.specs.Commands.{OR}
 use Rattle.commands.proofs.Arms.{kinds}
 use Rattle.bitwise.proofs.logic.or.Goals as goal

@@ -1,5 +1,4 @@
 -- `commands::shifts::ror` meets its contract. Each arm is the command on its kind (`ones`). Assumes nothing.
-use borrow.Author.Rules.{rules}
 use Rattle.values.proofs.Widths.{width-pos, width-le}
 use Rattle.values.specs.Commands.{ROR}
 use Rattle.commands.proofs.Arms.{ones}

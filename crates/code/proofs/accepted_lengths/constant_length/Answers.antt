@@ -2,8 +2,6 @@
 use Prim.Native.Nat.{◌+◌}
 use mathlib.Core.Path.{sym, ◌∙◌}
 use native.Mathlib.Omega.{arith}
-use borrow.Author.Rules.{rules}
-use borrow.Author.Tests.{not-true, not-false}
 use Rattle.code.proofs.Laws.{constant-short, constant-cut, constant-unlisted, constant-whole}
 use Rattle.code.proofs.accepted_lengths.constant_length.Goals as goal
 
@@ -24,4 +22,3 @@ returns-then-not-inside c = constant-unlisted _ _ c.requires.1 (sym c.inside.ens
 
 pub returns : goal.returns
 returns c = constant-whole _ _ c.requires.1 (omega arith) (sym c.inside.ensures ∙ c.if-not-inside.false)
-

@@ -1,8 +1,6 @@
 -- What is cut short is refused, and a type outside 1 to 10, of the source or of the destination.
 use mathlib.Core.Path.{sym, ◌∙◌}
 use native.Mathlib.Omega.{arith}
-use borrow.Author.Tests.{not-true, not-false}
-use borrow.Author.Rules.{rules}
 use Rattle.code.proofs.Laws.{length_whole, length_cut, length-unlisted}
 use Rattle.code.proofs.accepted_lengths.conversion_length.Goals as goal
 
@@ -19,4 +17,3 @@ pub returns : goal.returns
 returns c = length_whole _ _ _ c.requires.1 (omega arith) (omega arith)
     (c.requires.2
     ∙ rw (sym c.inside.ensures ∙ c.if-not-inside.false, sym c.inside-2.ensures ∙ c.if-not-inside-2.false))
-

@@ -2,7 +2,6 @@
 use Prim.Native.Nat.{◌+◌}
 use mathlib.Core.Path.{sym, ap, ◌∙◌}
 use native.Mathlib.Omega.{arith}
-use borrow.Author.Rules.{rules}
 use Rattle.memory.specs.Memory.{byte}
 use Rattle.code.specs.Code.{element_ok}
 use Rattle.code.proofs.Laws.{length_whole, length_cut, length-unlisted}

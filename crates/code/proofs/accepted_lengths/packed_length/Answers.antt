@@ -1,7 +1,6 @@
 -- What is cut short is refused, and a type other than 2, 4, 6 and 8.
 use mathlib.Core.Path.{sym, ◌∙◌}
 use native.Mathlib.Omega.{arith}
-use borrow.Author.Rules.{rules}
 use Rattle.code.proofs.Laws.{length_whole, length_cut, length-unlisted}
 use Rattle.code.proofs.accepted_lengths.packed_length.Goals as goal
 

@@ -1,6 +1,5 @@
 -- What is cut short is refused, and nothing else.
 use native.Mathlib.Omega.{arith}
-use borrow.Author.Rules.{rules}
 use Rattle.code.proofs.Laws.{length_whole, length_cut}
 use Rattle.code.proofs.accepted_lengths.plain_length.Goals as goal
 

@@ -1,7 +1,6 @@
 -- What is cut short is refused, and a type that the command does not take.
 use mathlib.Core.Path.{sym, ◌∙◌}
 use native.Mathlib.Omega.{arith}
-use borrow.Author.Rules.{rules}
 use Rattle.code.proofs.Laws.{length_whole, length_cut, length-unlisted}
 use Rattle.code.proofs.accepted_lengths.typed_length.Goals as goal
 

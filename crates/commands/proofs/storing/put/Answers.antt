@@ -1,6 +1,5 @@
 -- `commands::storing::put` meets its contract. What is stored is what `store_pattern` says. Assumes nothing.
 use mathlib.Core.Path.{ap}
-use borrow.Author.Rules.{rules}
 use Rattle.commands.specs.Attempts.{attempt}
 use Rattle.commands.specs.declared.Performed.TheVariants.{Done}
 use Rattle.commands.proofs.storing.put.Goals as goal

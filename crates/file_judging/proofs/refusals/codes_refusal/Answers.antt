@@ -2,10 +2,9 @@
 use Prim.Native.Nat.{◌-◌}
 use mathlib.Core.Path.{sym, ap, ◌∙◌}
 use native.Mathlib.Omega.{arith}
-use borrow.Author.Rules.{rules}
 use Rattle.verdict.proofs.Verdict.{skip, stop, going-stop, going_end}
 use Rattle.taskset.specs.Judge.{code_place, section_refusal, start_place, codes_refusal}
-use Rattle.taskset.proofs.Laws.{Sections, sections-none, sections-more, sections-end}
+use Rattle.taskset.proofs.Laws.{sections-none, sections-more, sections-end}
 use Rattle.file_judging.proofs.refusals.codes_refusal.Goals as goal
 
 pub loop-k-init : goal.loop-k-init
@@ -39,11 +38,11 @@ start_sections-requires c = (c.requires.0, c.requires.2)
 pub starts_refusal-requires : goal.starts_refusal-requires
 unfolding start_place
 starts_refusal-requires c = (
-      omega (arith, c.start_sections.ensures.1, c.requires.1),
-      c.start_sections.ensures.0,
-      sections-end _ _ _ _ _ c.loop-k.invariant c.loop-k-test.false ∙ ap (code_place c.args.f.now) c.requires.2,
-      omega (arith, c.loop-k.invariant.small, c.loop-k.invariant.upto, c.requires.1),
-    )
+  omega (arith, c.start_sections.ensures.1, c.requires.1),
+  c.start_sections.ensures.0,
+  sections-end _ _ _ _ _ c.loop-k.invariant c.loop-k-test.false ∙ ap (code_place c.args.f.now) c.requires.2,
+  omega (arith, c.loop-k.invariant.small, c.loop-k.invariant.upto, c.requires.1),
+)
 
 pub returns : goal.returns
 unfolding codes_refusal

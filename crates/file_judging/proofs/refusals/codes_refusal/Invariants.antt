@@ -1,11 +1,6 @@
 -- `Sections`: what is left from core k on is what was asked, and its length stands at p. The start values follow the last code.
 use Prim.Native.Nat.{◌-◌}
-use mathlib.Core.Path.{sym, ap, ◌∙◌}
-use native.Mathlib.Omega.{arith}
-use borrow.Author.Rules.{rules}
-use Rattle.verdict.proofs.Verdict.{skip, stop, going-stop, going_end}
-use Rattle.taskset.specs.Judge.{code_place, section_refusal, start_place, codes_refusal}
-use Rattle.taskset.proofs.Laws.{Sections, sections-none, sections-more, sections-end}
+use Rattle.taskset.proofs.Laws.{Sections}
 use Rattle.file_judging.proofs.refusals.codes_refusal.Given as goal
 
 abbrev pub invariant-loop-k : goal.invariant-loop-k

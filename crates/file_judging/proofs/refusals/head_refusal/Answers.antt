@@ -1,8 +1,7 @@
 -- Each return is the first refusal of the chain.
 use mathlib.Core.Path.{sym, ◌∙◌}
 use native.Mathlib.Omega.{arith}
-use borrow.Author.Tests.{le-leb, lt-leb, not-true, not-false}
-use borrow.Author.Rules.{rules}
+use borrow.Author.Tests.{le-leb, lt-leb}
 use Rattle.verdict.proofs.Verdict.{skip, halt, yes, no}
 use Rattle.taskset.specs.Judge.{head_refusal}
 use Rattle.file_judging.proofs.refusals.head_refusal.Goals as goal

@@ -1,6 +1,5 @@
 -- One of the two marks.
 use mathlib.Core.Path.{sym, ◌∙◌}
-use borrow.Author.Rules.{rules}
 use Rattle.file_judging.proofs.refusals.is_mark.Goals as goal
 
 pub returns-then-is_old : goal.returns-then-is_old

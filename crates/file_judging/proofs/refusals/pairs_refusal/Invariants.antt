@@ -1,11 +1,6 @@
 -- `Pairs`: what is left from number i on is what was asked, and `least` is what its place must reach.
 use Prim.Native.Nat.{◌-◌}
-use native.Mathlib.Omega.{arith}
-use borrow.Author.Rules.{rules}
-use borrow.Author.Tests.{lt-leb}
-use Rattle.verdict.proofs.Verdict.{halt, no}
-use Rattle.taskset.specs.Judge.{pairs_refusal}
-use Rattle.taskset.proofs.Laws.{Pairs, pairs-none, pairs-more, pair-cut, pair-beyond, pair-falls, pair-fine, pairs-stop, pairs_end}
+use Rattle.taskset.proofs.Laws.{Pairs}
 use Rattle.file_judging.proofs.refusals.pairs_refusal.Given as goal
 
 abbrev pub invariant-loop-i : goal.invariant-loop-i

@@ -4,7 +4,6 @@ use mathlib.Core.Path.{◌≡◌, sym, ap, ◌∙◌}
 use native.Mathlib.Omega.{arith}
 use borrow.Author.Tests.{le-leb, lt-leb}
 use lib.ListN.{take, drop}
-use borrow.Author.Rules.{rules}
 use Rattle.verdict.proofs.Verdict.{skip, halt, yes, no}
 use Rattle.memory.specs.Memory.{word, part}
 use Rattle.code.specs.Code.{judge_code_for}

@@ -1,7 +1,6 @@
 -- All cores in the new form, none in the old.
 use mathlib.Core.Path.{sym, ◌∙◌}
 use native.Mathlib.Omega.{arith}
-use borrow.Author.Rules.{rules}
 use Rattle.verdict.proofs.Verdict.{pick_true, pick-false}
 use Rattle.file_judging.proofs.refusals.start_sections.Goals as goal
 

@@ -2,9 +2,8 @@
 use Prim.Native.Nat.{ℕ, ◌-◌}
 use mathlib.Core.Path.{sym, ap, ◌∙◌}
 use native.Mathlib.Omega.{arith}
-use borrow.Author.Rules.{rules}
 use Rattle.taskset.specs.Judge.{pairs_refusal}
-use Rattle.taskset.proofs.Laws.{Starting, starting-none, starting-more, starts-stop, starts-done, starts-followed}
+use Rattle.taskset.proofs.Laws.{starting-none, starting-more, starts-stop, starts-done, starts-followed}
 use Rattle.file_judging.proofs.refusals.starts_refusal.Goals as goal
 
 pub loop-k-init : goal.loop-k-init

@@ -1,10 +1,6 @@
 -- `Starting`: what is left from core k on is what was asked, and its count stands at p.
-use Prim.Native.Nat.{ℕ, ◌-◌}
-use mathlib.Core.Path.{sym, ap, ◌∙◌}
-use native.Mathlib.Omega.{arith}
-use borrow.Author.Rules.{rules}
-use Rattle.taskset.specs.Judge.{pairs_refusal}
-use Rattle.taskset.proofs.Laws.{Starting, starting-none, starting-more, starts-stop, starts-done, starts-followed}
+use Prim.Native.Nat.{◌-◌}
+use Rattle.taskset.proofs.Laws.{Starting}
 use Rattle.file_judging.proofs.refusals.starts_refusal.Given as goal
 
 abbrev pub invariant-loop-k : goal.invariant-loop-k

@@ -4,7 +4,6 @@ use native.Mathlib.Omega.{arith}
 use mathlib.Core.Path.{◌≡◌, ap, sym, ◌∙◌}
 use lib.ListN.{get_or}
 use borrow.Author.Tests.{le-leb, lt-leb}
-use borrow.Author.Rules.{rules}
 use Rattle.verdict.specs.Verdict.{first}
 use Rattle.records.specs.File.{variables}
 use Rattle.records.specs.Records.{variable_refusal}

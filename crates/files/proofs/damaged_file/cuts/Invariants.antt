@@ -1,6 +1,5 @@
 -- Counts up to n.
 use Prim.Native.Nat.{◌-◌, ◌≤◌}
-use borrow.Author.Rules.{rules}
 use Rattle.files.proofs.damaged_file.cuts.Given as goal
 
 abbrev pub invariant-loop-i : goal.invariant-loop-i

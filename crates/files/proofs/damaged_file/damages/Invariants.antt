@@ -1,7 +1,6 @@
 -- Counts up to n; the file keeps its length.
 use Prim.Native.Nat.{◌-◌, ◌≤◌}
 use mathlib.Core.Path.{◌≡◌}
-use borrow.Author.Rules.{rules}
 use lib.ListN.{length}
 use Rattle.files.proofs.damaged_file.damages.Given as goal
 

@@ -1,7 +1,6 @@
 -- Counts up to 4,092; the file keeps its length.
 use Prim.Native.Nat.{◌-◌, ◌≤◌}
 use mathlib.Core.Path.{◌≡◌}
-use borrow.Author.Rules.{rules}
 use lib.ListN.{length}
 use Rattle.files.proofs.largest_file.put_adds.Given as goal
 

@@ -1,6 +1,5 @@
 -- Counts up to n.
 use Prim.Native.Nat.{◌-◌, ◌≤◌}
-use borrow.Author.Rules.{rules}
 use Rattle.files.proofs.trace_samples.trace_cuts.Given as goal
 
 abbrev pub invariant-loop-i : goal.invariant-loop-i

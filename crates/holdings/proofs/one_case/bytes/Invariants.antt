@@ -1,7 +1,6 @@
 -- The index stays below the length.
 -- Assumes nothing.
 use Prim.Native.Nat.{◌≤◌, ◌-◌}
-use borrow.Author.Rules.{rules}
 use Rattle.holdings.proofs.one_case.bytes.Given as goal
 
 abbrev pub invariant-loop-i : goal.invariant-loop-i

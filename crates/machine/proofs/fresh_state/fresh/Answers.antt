@@ -1,6 +1,5 @@
 -- `machine::fresh` meets its contract: it is the call under the full profile. Assumes nothing.
 use mathlib.Core.Path.{◌∙◌}
-use borrow.Author.Rules.{rules}
 use Rattle.machine.proofs.Calls.{fresh-full}
 use Rattle.machine.proofs.fresh_state.fresh.Goals as goal
 

@@ -1,6 +1,5 @@
 -- `machine::fresh_for` meets its contract: the file is judged, then the lent memory, which is filled. Assumes nothing.
 use mathlib.Core.Path.{sym, ◌∙◌}
-use borrow.Author.Rules.{rules}
 use Rattle.machine.proofs.Calls.{lent-to, fresh-number, fresh-refused-for, fresh-any}
 use Rattle.machine.proofs.fresh_state.fresh_for.Goals as goal
 

@@ -1,7 +1,6 @@
 -- `machine::fresh_judged` meets its contract: both memories are filled. Assumes nothing.
 use mathlib.Core.Path.{refl, ◌∙◌}
 use native.Mathlib.Omega.{arith}
-use borrow.Author.Rules.{rules}
 use Rattle.code.specs.declared.Profile.TheVariants.{Full}
 use Rattle.taskset.proofs.Exact.{keeps-rules}
 use Rattle.machine.proofs.Calls.{lent-sizes, fresh-none-for, fresh-granted-for, fresh-full}

@@ -1,6 +1,5 @@
 -- `machine::idle_table` meets its contract, by computation. Assumes nothing.
 use mathlib.Core.Path.{refl}
-use borrow.Author.Rules.{rules}
 use Rattle.machine.specs.Calls.{table_of}
 use Rattle.machine.proofs.fresh_state.idle_table.Goals as goal
 

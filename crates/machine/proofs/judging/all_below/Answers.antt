@@ -1,14 +1,9 @@
 -- `machine::all_below` meets its contract. The invariant: the largest byte so far and what is left of the order are judged as the whole is.
 -- Assumes nothing.
-use mathlib.Core.Path.{◌≡◌, sym, ◌∙◌}
-use mathlib.Core.Logic.{⊎_elim}
-use Prim.Native.Nat.{◌-◌, ◌≤◌, ◌<◌}
+use mathlib.Core.Path.{sym, ◌∙◌}
+use Prim.Native.Nat.{◌-◌}
 use native.Mathlib.Omega.{arith}
-use lib.Dec.{ltb}
-use lib.ListN.{length, drop}
-use Rattle.verdict.specs.Verdict.{both}
-use Rattle.runner.specs.Runs.{all_below}
-use Rattle.machine.proofs.Calls.{below_none, below_more, below-done, below_all}
+use Rattle.machine.proofs.Calls.{below_none, below-done, below_all}
 use Rattle.machine.proofs.judging.all_below.Goals as goal
 
 pub loop-i-init : goal.loop-i-init

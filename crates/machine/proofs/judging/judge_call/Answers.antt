@@ -1,8 +1,6 @@
 -- `machine::judge_call` meets its contract: each answer is the first of the tests that refuses. Assumes nothing.
 use mathlib.Core.Path.{refl, sym, ◌∙◌}
 use native.Mathlib.Omega.{arith}
-use borrow.Author.Tests.{not-true, not-false}
-use borrow.Author.Rules.{rules}
 use Rattle.machine.proofs.Calls.{held-judged, held-tasks, below-laid, judge-refused, judge-file, judge-held, judge-unnamed, judge-none}
 use Rattle.machine.proofs.judging.judge_call.Goals as goal
 

@@ -1,6 +1,5 @@
 -- `machine::lent_fits` meets its contract. Assumes nothing.
 use mathlib.Core.Path.{sym, ◌∙◌}
-use borrow.Author.Rules.{rules}
 use borrow.Author.Tests.{eq-eqb, ne_eqb}
 use Rattle.machine.specs.Calls.{lent_fits}
 use Rattle.machine.proofs.judging.lent_fits.Goals as goal

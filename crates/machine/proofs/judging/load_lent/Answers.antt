@@ -1,6 +1,5 @@
 -- `machine::load_lent` meets its contract: the file is judged, then lent memory. Assumes nothing.
 use mathlib.Core.Path.{sym, ◌∙◌}
-use borrow.Author.Rules.{rules}
 use Rattle.taskset.proofs.Loading.{file-accepted-for, file-laid-for}
 use Rattle.machine.proofs.Calls.{lent-refused, lent-held, lent-unfit, lent-full}
 use Rattle.machine.proofs.judging.load_lent.Goals as goal

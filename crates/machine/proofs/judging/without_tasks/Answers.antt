@@ -1,6 +1,5 @@
 -- `machine::without_tasks` meets its contract, by computation. Assumes nothing.
 use mathlib.Core.Path.{refl}
-use borrow.Author.Rules.{rules}
 use Rattle.machine.proofs.judging.without_tasks.Goals as goal
 
 pub returns : goal.returns

@@ -1,7 +1,6 @@
 -- The index stays below the length.
 -- Assumes nothing.
 use Prim.Native.Nat.{◌≤◌, ◌-◌}
-use borrow.Author.Rules.{rules}
 use lib.ListN.{length}
 use Rattle.set_points.proofs.printing.bytes.Given as goal
 

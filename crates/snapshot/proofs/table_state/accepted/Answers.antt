@@ -1,5 +1,4 @@
 -- `snapshot::table_state::accepted` meets its contract: record by record. Assumes nothing.
-use borrow.Author.Rules.{rules}
 use mathlib.Core.Path.{refl}
 use Rattle.snapshot.proofs.table_state.accepted.Goals as goal
 

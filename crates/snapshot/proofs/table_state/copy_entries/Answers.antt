@@ -1,11 +1,10 @@
 -- `snapshot::table_state::copy_entries` meets its contract. The invariant: what is left to copy makes of the entries what the whole makes of them at entry.
 -- Assumes nothing.
-use mathlib.Core.Path.{◌≡◌, refl, sym, ◌∙◌}
-use Prim.Native.Nat.{◌+◌, ◌-◌, ◌≤◌}
+use mathlib.Core.Path.{refl, sym, ◌∙◌}
+use Prim.Native.Nat.{◌-◌}
 use native.Mathlib.Nat.{add-zero, sub-zero}
 use native.Mathlib.Omega.{arith}
-use lib.ListN.{length, length-set}
-use Rattle.memory.specs.Memory.{splice, part}
+use lib.ListN.{length-set}
 use Rattle.memory.proofs.Turns.{copy-turn, copy_done}
 use Rattle.snapshot.proofs.table_state.copy_entries.Goals as goal
 

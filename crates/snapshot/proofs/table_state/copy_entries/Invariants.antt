@@ -1,12 +1,9 @@
 -- `snapshot::table_state::copy_entries` meets its contract. The invariant: what is left to copy makes of the entries what the whole makes of them at entry.
 -- Assumes nothing.
-use mathlib.Core.Path.{◌≡◌, refl, sym, ◌∙◌}
+use mathlib.Core.Path.{◌≡◌}
 use Prim.Native.Nat.{◌+◌, ◌-◌, ◌≤◌}
-use native.Mathlib.Nat.{add-zero, sub-zero}
-use native.Mathlib.Omega.{arith}
-use lib.ListN.{length, length-set}
+use lib.ListN.{length}
 use Rattle.memory.specs.Memory.{splice, part}
-use Rattle.memory.proofs.Turns.{copy-turn, copy_done}
 use Rattle.snapshot.proofs.table_state.copy_entries.Given as goal
 
 abbrev pub invariant-loop-i : goal.invariant-loop-i

@@ -1,5 +1,4 @@
 -- `snapshot::table_state::core_of` meets its contract: field by field. Assumes nothing.
-use borrow.Author.Rules.{rules}
 use mathlib.Core.Path.{refl}
 use Rattle.snapshot.specs.Snapshot.{core_of}
 use Rattle.snapshot.proofs.table_state.core_of.Goals as goal

@@ -1,5 +1,4 @@
 -- `snapshot::table_state::join` meets its contract: each stack is copied to its place. Assumes nothing.
-use borrow.Author.Rules.{rules}
 use mathlib.Core.Path.{refl}
 use native.Mathlib.Omega.{arith}
 use Rattle.snapshot.specs.Snapshot.{entries}
@@ -9,12 +8,12 @@ use Rattle.snapshot.proofs.table_state.join.Goals as goal
 pub returns : goal.returns
 unfolding entries
 returns c = rw (
-      c.copy_entries-4.ensures,
-      c.copy_entries-3.ensures,
-      c.copy_entries-2.ensures,
-      c.copy_entries.ensures,
-      part-whole c.args.a 16 (omega arith),
-      part-whole c.args.b 16 (omega arith),
-      part-whole c.args.c 16 (omega arith),
-      part-whole c.args.d 16 (omega arith),
-    ) refl
+  c.copy_entries-4.ensures,
+  c.copy_entries-3.ensures,
+  c.copy_entries-2.ensures,
+  c.copy_entries.ensures,
+  part-whole c.args.a 16 (omega arith),
+  part-whole c.args.b 16 (omega arith),
+  part-whole c.args.c 16 (omega arith),
+  part-whole c.args.d 16 (omega arith),
+) refl

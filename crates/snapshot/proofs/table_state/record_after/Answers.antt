@@ -1,5 +1,4 @@
 -- `snapshot::table_state::record_after` meets its contract: by the count of cores. Assumes nothing.
-use borrow.Author.Rules.{rules}
 use mathlib.Core.Path.{refl}
 use borrow.Author.Tests.{lt-ltb, le-ltb}
 use Rattle.verdict.specs.Verdict.{pick}

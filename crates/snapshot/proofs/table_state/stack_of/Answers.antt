@@ -1,5 +1,4 @@
 -- `snapshot::table_state::stack_of` meets its contract: sixteen entries are copied over sixteen zeros. Assumes nothing.
-use borrow.Author.Rules.{rules}
 use mathlib.Core.Path.{◌∙◌}
 use native.Mathlib.Omega.{arith}
 use Rattle.memory.proofs.Laws.{length_part}

@@ -1,5 +1,4 @@
 -- `snapshot::table_state::state_of` meets its contract: field by field. Assumes nothing.
-use borrow.Author.Rules.{rules}
 use mathlib.Core.Path.{refl}
 use Rattle.snapshot.specs.Snapshot.{held}
 use Rattle.snapshot.proofs.table_state.state_of.Goals as goal

@@ -1,5 +1,4 @@
 -- `snapshot::table_state::table_places` meets its contract: the four stacks are joined. Assumes nothing.
-use borrow.Author.Rules.{rules}
 use Rattle.snapshot.specs.Snapshot.{held_places}
 use Rattle.snapshot.proofs.table_state.table_places.Goals as goal
 

@@ -1,5 +1,4 @@
 -- `steps::after::cursor_after` meets its contract, by the answer. Assumes nothing.
-use borrow.Author.Rules.{rules}
 use mathlib.Core.Path.{refl}
 use Rattle.steps.proofs.after.cursor_after.Goals as goal
 

@@ -1,5 +1,4 @@
 -- `steps::after::line_after` meets its contract, by the answer. Assumes nothing.
-use borrow.Author.Rules.{rules}
 use Rattle.steps.proofs.after.line_after.Goals as goal
 
 pub joined-requires : goal.joined-requires

@@ -1,5 +1,4 @@
 -- `steps::after::list_taking` meets its contract, by the answer. Assumes nothing.
-use borrow.Author.Rules.{rules}
 use Rattle.steps.proofs.Listed.{none-listed, reading-listed, writing-listed}
 use Rattle.steps.proofs.after.list_taking.Goals as goal
 

@@ -1,5 +1,4 @@
 -- `steps::after::registers_after` meets its contract, by the answer. Assumes nothing.
-use borrow.Author.Rules.{rules}
 use mathlib.Core.Path.{sym, ap, ◌∙◌}
 use Rattle.protocol.specs.Registers.{read_acquired, byte_copied, read_released, write_acquired, write_released}
 use Rattle.steps.proofs.after.registers_after.Goals as goal

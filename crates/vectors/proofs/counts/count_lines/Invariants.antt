@@ -1,5 +1,5 @@
 -- `vectors::counts::count_lines` meets its contract. The invariant: i is at most the length. Assumes nothing.
-use Rattle.std.proofs.Common.{◌-◌, ◌≤◌, length, rules}
+use Rattle.std.proofs.Common.{◌-◌, ◌≤◌, length}
 use Rattle.vectors.proofs.counts.count_lines.Given as goal
 
 abbrev pub invariant-loop-i : goal.invariant-loop-i

@@ -1,5 +1,5 @@
 -- `vectors::counts::print_counts` meets its contract. The invariant: k is at most 64. Assumes nothing.
-use Rattle.std.proofs.Common.{◌-◌, ◌≤◌, rules}
+use Rattle.std.proofs.Common.{◌-◌, ◌≤◌}
 use Rattle.vectors.proofs.counts.print_counts.Given as goal
 
 abbrev pub invariant-loop-k : goal.invariant-loop-k

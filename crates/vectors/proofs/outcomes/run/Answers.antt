@@ -5,8 +5,8 @@ use Rattle.vectors.proofs.outcomes.run.Goals as goal
 
 pub perform-requires : goal.perform-requires
 perform-requires c = record {
-      taken = sym c.takes_type.ensures ∙ c.if-not-takes_type.false;
-      to_low = omega arith;
-      first-low = omega arith;
-      second-low = omega arith;
-    }
+  taken = sym c.takes_type.ensures ∙ c.if-not-takes_type.false;
+  to_low = omega arith;
+  first-low = omega arith;
+  second-low = omega arith;
+}
