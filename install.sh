@@ -1,6 +1,6 @@
 #!/bin/sh
 # Installs the proved library for C and Rust: PREFIX/lib/librikzord.a, PREFIX/include/rikzord.h, PREFIX/lib/pkgconfig/rikzord.pc and, where `cargo` is there,
-# the command PREFIX/bin/rikzord. It takes target/staticlib/librikzord.a, which `rt staticlib rikzord` writes.
+# the command PREFIX/bin/rikzord. It takes target/staticlib/librikzord.a, which `tools/staticlib rikzord` writes.
 #
 #   install.sh PREFIX                 for example install.sh "$HOME/.local"
 #   install.sh PREFIX --library       the library alone, without the command
@@ -15,7 +15,7 @@ case $1 in -*) usage ;; esac
 here=$(cd "$(dirname "$0")" && pwd)
 library=$here/target/staticlib/librikzord.a
 if [ ! -f "$library" ]; then
-    echo "install.sh: no $library; \`rt staticlib rikzord\` writes it" >&2
+    echo "install.sh: no $library; \`tools/staticlib rikzord\` writes it" >&2
     exit 1
 fi
 mkdir -p "$1/lib/pkgconfig" "$1/include"

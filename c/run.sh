@@ -4,7 +4,7 @@
 # the start values and the reruns of document 02, 2.4, 2.7, 2.11, 2.14, 2.10, 2.12 and 2.13.
 set -e
 cd "$(dirname "$0")/.."
-rt staticlib rikzord
+tools/staticlib rikzord
 mkdir -p target/c
 gcc -std=c99 -Wall -Wextra -Werror -Iinclude -o target/c/first c/first.c target/staticlib/librikzord.a
 printf 'refused 0; core 0 in mode 0, cycles complete 1, takings 2\n' > target/c/expected

@@ -1,6 +1,6 @@
 /* The C interface of Rikzord: a multi-core task machine whose every function is proved to meet its contract.
  *
- * Link with librikzord.a, which `rt staticlib rikzord` writes; `install.sh PREFIX` puts it, this header and rikzord.pc in their places, so that
+ * Link with librikzord.a, which `tools/staticlib rikzord` writes; `install.sh PREFIX` puts it, this header and rikzord.pc in their places, so that
  * `pkg-config --cflags --libs rikzord` gives the flags. There is no heap and no hidden state: all memory is the caller's. c/first.c is a program to start from.
  *
  * What a caller owes, and no proof can check:

@@ -10,7 +10,7 @@ fn main() {
     let folder = match folder.canonicalize() {
         Ok(folder) if folder.join("librikzord.a").is_file() => folder,
         _ => panic!(
-            "no librikzord.a in {}: `rt staticlib rikzord` writes it to target/staticlib, RIKZORD_LIB names another folder",
+            "no librikzord.a in {}: `tools/staticlib rikzord` writes it to target/staticlib, RIKZORD_LIB names another folder",
             folder.display()
         ),
     };

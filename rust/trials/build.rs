@@ -11,7 +11,7 @@ fn main() {
     let folder = Path::new("..").join(folder);
     let folder = match folder.canonicalize() {
         Ok(folder) if folder.join("libcopies.a").is_file() => folder,
-        _ => panic!("no libcopies.a in {}: `rt staticlib copies` writes it", folder.display()),
+        _ => panic!("no libcopies.a in {}: `tools/staticlib copies` writes it", folder.display()),
     };
     println!("cargo:rerun-if-changed={}", folder.join("libcopies.a").display());
     println!("cargo:rustc-link-search=native={}", folder.display());

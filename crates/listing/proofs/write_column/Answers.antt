@@ -1,6 +1,6 @@
 -- `listing::write_column` meets its contract: the number, then the byte. Assumes nothing.
 use mathlib.Core.Path.{refl}
-use mathlib.Core.List.{◌∷◌}
+use mathlib.Core.List.{[], ◌∷◌}
 use native.Mathlib.Omega.{arith}
 use Rattle.listing.specs.Listing.{decimal, column}
 use Rattle.listing.proofs.Writing.{writing_start, writing_more, writing-last}

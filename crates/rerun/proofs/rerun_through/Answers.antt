@@ -1,6 +1,6 @@
 -- `rerun::rerun_through` meets its contract: the memories are copied out where nothing is refused. Assumes nothing.
 use mathlib.Core.Path.{refl, ap₂, ◌∙◌}
-use mathlib.Core.List.{List}
+use mathlib.Core.List.{[], List}
 use Prim.Native.Nat.{ℕ}
 use Rattle.runner.specs.Runs.{left_as}
 use Rattle.machine.specs.Calls.{lent_fits}

@@ -1,7 +1,7 @@
 //! MEMCP's copy (document 02, 2.5) in three ways with one contract: by words as the machine does it, by single bytes, and through an array. Copies
 //! of random stretches, sharing bytes or not, are held to the standard library's; then 2,000 bytes are timed, and the memory compared.
 //!
-//! `copies [rounds]`, after `rt staticlib copies`
+//! `copies [rounds]`, after `tools/staticlib copies`
 
 use independent::random::Random;
 use std::time::{Duration, Instant};
