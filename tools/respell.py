@@ -4,7 +4,7 @@
 usage: python3 tools/respell.py        at the top of the repository, once, on what the toolchain's own port script made
 
 Names of src/ (functions, fields, constants, variants) are in that spelling already and stay. A name that would fall together with another one
-is given its own below: a lemma named as the definition that it speaks of gets `_lem`, and five definitions get another word.
+is given its own below: a lemma named as the definition that it speaks of gets `_lem`, and four definitions get another word.
 """
 
 import os

@@ -176,6 +176,9 @@ pub struct Bounds {
     pub depth: u32,
 }
 
+// The greatest count that an instruction counter holds.
+const MOST_COUNT: u32 = 65535;
+
 // The refusal of accepted code, or 0 and its numbers.
 fn bounds_in(code: &[u8]) -> Bounds
     requires { (0 < length code.now) × (length code.now ≤ 8192) × (judge_code code.now ≡ 0) }
@@ -189,7 +192,7 @@ fn bounds_in(code: &[u8]) -> Bounds
             depth: 0,
         };
     }
-    if 65535 < m.count {
+    if MOST_COUNT < m.count {
         return Bounds {
             refusal: verdict::OVER_COUNT,
             count: 0,
