@@ -2,6 +2,7 @@
 #![tactic(auto)]
 
 ghost use Rattle.std.specs.Prelude.{◌≤◌, length};
+ghost use Rattle.io.specs.Counts.{IsPrefixLen};
 
 use std::fs;
 use std::io::Read;
@@ -28,7 +29,7 @@ fn read_full<F: Read>(file: &mut F, bytes: &mut [u8]) -> usize
 
 // Reads a file from its start until `bytes` is full or the file ends, and answers how many bytes came: none of a missing file.
 pub fn read_file<R: Files>(rt: &R, path: &str, bytes: &mut [u8]) -> usize
-    ensures { result ≤ length bytes.new }
+    ensures { IsPrefixLen result bytes.new }
 {
     match fs::open(rt, path) {
         Ok(mut file) => read_full(&mut file, bytes),
