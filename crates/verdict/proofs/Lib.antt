@@ -1,3 +1,4 @@
 pub mod Truth
 pub mod Verdict
+pub mod Refusals
 pub mod Items

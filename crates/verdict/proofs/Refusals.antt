@@ -1,0 +1,46 @@
+-- Laws of `specs/Refusals`: a refusal has a number above 0, so a chain of items stops at it and goes on behind an answer that has none. Assumes nothing.
+use mathlib.Core.Path.{◌≡◌}
+use Prim.Native.Nat.{ℕ, ◌<◌, ◌-◌}
+use native.Mathlib.Omega.{arith}
+use Rattle.verdict.specs.declared.Refusal.{Refusal}
+use Rattle.verdict.specs.declared.Refusal.TheVariants.{CutFile, NoMark, BadCore, BadVariable, Overlapping, BadInstruction, BadTarget, NoSuchCore, BadLengths, BadTrace, UnfitState, LeftOver, NotAbove, OverCount, WideType, BadSpan, FewPlaces, BadRun, BadStart, HasStarts, NotProduced, OutsideWindow}
+use Rattle.verdict.specs.Verdict.{next, first}
+use Rattle.verdict.specs.Refusals.{number_of}
+use Rattle.verdict.proofs.Verdict.{stop, Going, going-stop}
+
+pub number-above-zero : (r : Refusal) → 0 < number_of r
+number-above-zero CutFile = omega arith
+number-above-zero NoMark = omega arith
+number-above-zero BadCore = omega arith
+number-above-zero BadVariable = omega arith
+number-above-zero Overlapping = omega arith
+number-above-zero BadInstruction = omega arith
+number-above-zero BadTarget = omega arith
+number-above-zero NoSuchCore = omega arith
+number-above-zero BadLengths = omega arith
+number-above-zero BadTrace = omega arith
+number-above-zero UnfitState = omega arith
+number-above-zero LeftOver = omega arith
+number-above-zero NotAbove = omega arith
+number-above-zero OverCount = omega arith
+number-above-zero WideType = omega arith
+number-above-zero BadSpan = omega arith
+number-above-zero FewPlaces = omega arith
+number-above-zero BadRun = omega arith
+number-above-zero BadStart = omega arith
+number-above-zero HasStarts = omega arith
+number-above-zero NotProduced = omega arith
+number-above-zero OutsideWindow = omega arith
+
+pub refused : (r : Refusal) → (number_of r ≡ 0 → ⊥)
+refused r e = let h : 0 < number_of r = number-above-zero r in let y : ⊥ = omega arith in y
+
+-- ---- a chain of items: the first answer is a refusal
+
+pub stop-refused : (r : Refusal) {a : ℕ} (b : ℕ) → number_of r ≡ a → number_of r ≡ next a b
+stop-refused r b e = stop b e (refused r)
+
+-- ---- a loop over items: the answer of item i is a refusal
+
+pub going-refused : (g : ℕ → ℕ) (s n i : ℕ) (r : Refusal) → Going g s n i → i < n → number_of r ≡ g i → number_of r ≡ first g (n - s) s
+going-refused g s n i r w h e = going-stop g s n i (number_of r) w h e (refused r)
