@@ -1,7 +1,6 @@
 -- Signed 64-bit numbers: a number and its bits, by its sign. Assumes nothing.
-use Rattle.std.proofs.Common.{◌≡◌, ℕ, zero, suc, ◌+◌, ◌-◌, ◌*◌, ◌/◌, ◌%◌, ◌^◌, ◌<◌, ◌≤◌, Bool, true, false, T, eqb, ltb, ℤ, pos, negsuc, ◌-ℤ◌, neg_ℤ, nat_abs, sym, refl, ap, ◌∙◌, subst, le_trans, lt_of_le_of_lt, mod-eq_of_lt, div-lt_iff_lt-mul, div-le_self, arith, pow_mono, to_z-of_z, w64, Fits, SFits, to_z, of_z, ltb-false, ltb-true, le-ltb, lt-ltb, eq-eqb, ne_eqb, eqb-true}
-use lib.Signed.{mag, le_z, non_neg, quot_z, rem_z, mag_rem}
-use lib.Dec.{leb-zero}
+use Rattle.std.proofs.Common.{◌≡◌, ℕ, zero, suc, ◌+◌, ◌-◌, ◌*◌, ◌/◌, ◌%◌, ◌^◌, ◌<◌, ◌≤◌, Bool, true, false, T, eqb, ltb, ℤ, pos, negsuc, ◌-ℤ◌, neg_ℤ, sym, refl, ap, ◌∙◌, subst, le_trans, lt_of_le_of_lt, mod-eq_of_lt, div-lt_iff_lt-mul, div-le_self, arith, pow_mono, to_z-of_z, w64, SFits, to_z, of_z, ltb-false, ltb-true, le-ltb, lt-ltb, eq-eqb, ne_eqb, eqb-true}
+use lib.Signed.{mag, quot_z, rem_z, mag_rem}
 use borrow.Author.Tests.{eqb-false}
 use native.Mathlib.Nat.{mod-eq-sub-mod, mod-one, le-suc}
 use mir.Facts.{to_z_pos}
@@ -16,42 +15,11 @@ minus_one (suc k) = ap negsuc (omega arith)
 pub read64 : (z : ℤ) → mag z < 2 ^ 63 → to_z w64 (of_z w64 z) ≡ z
 read64 z h = to_z-of_z {w = w64} (record { sfits = h })
 
--- what the cast of a number that is not negative asks and gives
-pub cast-up : (z : ℤ) → le_z (pos 0) z ≡ true → mag z < 2 ^ 63 → T (non_neg z) × Fits w64 (nat_abs z)
-cast-up (pos n) e h = (tt, record { fits = omega arith })
-cast-up (negsuc n) e h = absurd (subst T (sym e) tt)
-
-pub pattern-up : (z : ℤ) → le_z (pos 0) z ≡ true → mag z < 2 ^ 63 → nat_abs z ≡ pattern 64 z
+-- the bits of a number are its pattern
+pub bits-pattern : (z : ℤ) → mag z < 2 ^ 63 → of_z w64 z ≡ pattern 64 z
 unfolding pattern
-pattern-up (pos n) e h = let l : n < 2 ^ 64 = omega arith in sym (mod-eq_of_lt l)
-pattern-up (negsuc n) e h = absurd (subst T (sym e) tt)
-
--- and of -1 - z, where z is negative
-pub mirrored : (z : ℤ) → le_z (pos 0) z ≡ false → negsuc 0 -ℤ z ≡ pos (mag z)
-mirrored (pos n) e = absurd (subst T (sym (leb-zero n) ∙ e) tt)
-mirrored (negsuc n) e = let l : 1 ≤ suc n = omega arith in rw (le-ltb (suc n) 1 l) (ap pos (omega arith))
-
-pub pattern-down : (z : ℤ) → le_z (pos 0) z ≡ false → mag z < 2 ^ 63 → 2 ^ 64 - 1 - mag z ≡ pattern 64 z
-unfolding pattern
-pattern-down (pos n) e h = absurd (subst T (sym (leb-zero n) ∙ e) tt)
-pattern-down (negsuc n) e h = let l : n < 2 ^ 64 = omega arith in omega (arith, mod-eq_of_lt l)
-
--- what holds of z holds of what is read back from its bits
-pub at64 : (P : ℤ → Type 0) (z : ℤ) → mag z < 2 ^ 63 → P z → P (to_z w64 (of_z w64 z))
-at64 P z h p = subst P (sym (read64 z h)) p
-
-module _ (z : ℤ) (h : mag z < 2 ^ 63) (e : le_z (pos 0) (to_z w64 (of_z w64 z)) ≡ false) where
-  below : le_z (pos 0) z ≡ false
-  below = subst (λ (y : ℤ). le_z (pos 0) y ≡ false) (read64 z h) e
-
-  pub mirrored64 : negsuc 0 -ℤ to_z w64 (of_z w64 z) ≡ pos (mag z)
-  mirrored64 = ap (λ (y : ℤ). negsuc 0 -ℤ y) (read64 z h) ∙ mirrored z below
-
-  pub mirror-read : to_z w64 (of_z w64 (negsuc 0 -ℤ to_z w64 (of_z w64 z))) ≡ pos (mag z)
-  mirror-read = ap (λ (y : ℤ). to_z w64 (of_z w64 y)) mirrored64 ∙ read64 (pos (mag z)) h
-
-  pub pattern-below : 2 ^ 64 - 1 - nat_abs (to_z w64 (of_z w64 (negsuc 0 -ℤ to_z w64 (of_z w64 z)))) ≡ pattern 64 z
-  pattern-below = ap (λ (y : ℤ). 2 ^ 64 - 1 - nat_abs y) mirror-read ∙ pattern-down z below h
+bits-pattern (pos n) h = let l : n < 2 ^ 64 = omega arith in sym (mod-eq_of_lt l)
+bits-pattern (negsuc n) h = let l : n < 2 ^ 64 = omega arith in omega (arith, mod-eq_of_lt l)
 
 -- ---- a pattern of fewer than eight bytes: half of the range is added, and taken off again after the sum has wrapped
 

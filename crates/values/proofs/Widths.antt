@@ -1,12 +1,10 @@
 -- Whole numbers modulo 2 ^ b, once for every b. `Cong m z r`: r is z modulo m. It is kept by sums and products (`cong-add`, `cong-mul`),
 -- and a pattern is the one number below 2 ^ b with it (`pattern-cong`, `cong-pattern`). `modular` is the law that ADD, SUB and MUL cite.
 -- Assumes nothing.
-use Rattle.std.proofs.Common.{◌≡◌, ℕ, zero, suc, ◌+◌, ◌-◌, ◌*◌, ◌/◌, ◌%◌, ◌^◌, ◌<◌, ◌≤◌, Bool, true, false, cond, ltb, ℤ, pos, negsuc, ◌+ℤ◌, ◌-ℤ◌, ◌*ℤ◌, neg_ℤ, sym, refl, ap, ◌∙◌, subst, inl, inr, lt_of_le_of_lt, add-zero, le_of_lt, add_assoc, mod-lt, mod-eq_of_lt, mul_assoc, mul_comm, add-mul, add_comm, mul-le-mul_left, mul-lt-mul_of_pos_right, one-mul, pow-suc, mul-zero, div-add-mod', mul-add, mul_right_comm, div-one, arith, pow_pos, pow_mono, ltb-false, ltb-true, le-ltb, lt-ltb}
+use Rattle.std.proofs.Common.{◌≡◌, ℕ, zero, suc, ◌+◌, ◌-◌, ◌*◌, ◌/◌, ◌%◌, ◌^◌, ◌<◌, ◌≤◌, Bool, true, false, cond, ltb, ℤ, pos, negsuc, ◌+ℤ◌, ◌-ℤ◌, ◌*ℤ◌, neg_ℤ, sym, refl, ap, ◌∙◌, subst, inl, inr, add-zero, add_assoc, mod-lt, mod-eq_of_lt, mul_assoc, mul_comm, add-mul, add_comm, one-mul, pow-suc, mul-zero, div-add-mod', mul-add, div-one, arith, pow_pos, pow_mono, ltb-false, ltb-true, le-ltb, lt-ltb}
 use native.Mathlib.Nat.{mod-mod, mod-add-mod, add-mod-mod, mod-eq-sub-mod, mod_self, zero-mod, add-mul-mod_self_right}
-use native.Mathlib.Nat.{mul-add-mod_self_right, mul-mul-mul_comm}
 use lib.IntN.{sub_ℕ, -ℤ-+ℤ_cancel}
 use lib.Signed.{quot_z}
-use lib.Arith.{mod-mul}
 use lib.Pow.{mod-mod-pow, pow-lt}
 use Rattle.verdict.specs.Verdict.{pick}
 use Rattle.values.specs.Width.{Width, pattern, signed, wrap}
@@ -163,14 +161,7 @@ pub signed_high : (b p : ℕ) → 2 ^ (b - 1) ≤ p → signed b p ≡ negsuc (2
 unfolding signed pick
 signed_high b p h = rw (le-ltb p (2 ^ (b - 1)) h)
 
--- one law for the four widths of a supplied wrapping sum
-pub add_at : (w b : ℕ) → 8 * w ≡ b → (x y : ℕ) {r : ℕ} → r ≡ (x % 2 ^ b + y % 2 ^ b) % 2 ^ b → r ≡ (x + y) % 2 ^ (8 * w)
-unfolding pattern
-add_at w b e x y h =
-    modular b (pos x +ℤ pos y) (x % 2 ^ b + y % 2 ^ b) (cong-add (2 ^ b) (pos x) (pos y) (x % 2 ^ b) (y % 2 ^ b) (mod-mod x (2 ^ b)) (mod-mod y (2 ^ b))) h
-    ∙ ap (λ (k : ℕ). (x + y) % 2 ^ k) (sym e)
-
--- and of the low bytes of a product of 64 bits
+-- the low bytes of a product of 64 bits
 pub mul_at : (w : ℕ) → w ≤ 8 → (x y : ℕ) {r : ℕ} → r ≡ (x * y) % 2 ^ 64 % 2 ^ (8 * w) → r ≡ (x * y) % 2 ^ (8 * w)
 unfolding pattern
 mul_at w h x y e =
@@ -194,28 +185,6 @@ width-le (inl e) = omega arith
 width-le (inr (inl e)) = omega arith
 width-le (inr (inr (inl e))) = omega arith
 width-le (inr (inr (inr e))) = omega arith
-
--- ---- a product of two halves
-pub product-fits : (k : ℕ) {x y : ℕ} → x < 2 ^ k → y < 2 ^ k → x * y < 2 ^ k * 2 ^ k
-product-fits k {x} {y} p q = lt_of_le_of_lt (mul-le-mul_left x (le_of_lt q)) (mul-lt-mul_of_pos_right p (pow_pos k))
-
-low_part : (m x s : ℕ) → 0 < m → (x + s % (m * m) % m * m) % (m * m) ≡ (x + s * m) % (m * m)
-low_part m x s h =
-    ap (λ (k : ℕ). (x + k * m) % (m * m)) (ap (λ (k : ℕ). k % m) (mod-mul s h h) ∙ mul-add-mod_self_right (s / m % m) m (s % m) ∙ mod-mod s m)
-    ∙ sym (add-mul-mod_self_right (x + s % m * m) (s / m) (m * m))
-    ∙ ap (λ (k : ℕ). k % (m * m)) (omega (arith, ap (λ (k : ℕ). k * m) (div-add-mod' s m), add-mul (s / m * m) (s % m) m, mul_assoc (s / m) m m))
-
--- (q m + r) (t m + u)
-expand : (m q r t u : ℕ) → r * u + (q * u + r * t) * m + q * t * (m * m) ≡ (q * m + r) * (t * m + u)
-expand m q r t u =
-    omega (arith, add-mul (q * u) (r * t) m, add-mul (q * m) r (t * m + u), mul-add (q * m) (t * m) u, mul-add r (t * m) u, mul_assoc r t m, mul_right_comm q u m, mul-mul-mul_comm q m t m)
-
-pub mul-halves : (m a b : ℕ) → 0 < m →
-    (a % m * (b % m) + (a / m * (b % m) + a % m * (b / m)) % (m * m) % m * m) % (m * m) ≡ (a * b) % (m * m)
-mul-halves m a b h =
-    low_part m (a % m * (b % m)) (a / m * (b % m) + a % m * (b / m)) h
-    ∙ sym (add-mul-mod_self_right (a % m * (b % m) + (a / m * (b % m) + a % m * (b / m)) * m) (a / m * (b / m)) (m * m))
-    ∙ ap (λ (k : ℕ). k % (m * m)) (expand m (a / m) (a % m) (b / m) (b % m) ∙ ap (λ (k : ℕ). k * (b / m * m + b % m)) (div-add-mod' a m) ∙ ap (λ (k : ℕ). a * k) (div-add-mod' b m))
 
 -- ---- the negative of a number
 pub cong-minus : (m : ℕ) (z : ℤ) (p r : ℕ) → Cong m z p → (r + p) % m ≡ 0 → Cong m (neg_ℤ z) r
@@ -249,11 +218,14 @@ cong-difference b x y p q r hx hy e =
     in
     cong-same (2 ^ b) (x -ℤ y) (p + (2 ^ b - q % 2 ^ b)) r g (cong-add (2 ^ b) x (neg_ℤ y) p (2 ^ b - q % 2 ^ b) hx (cong-minus (2 ^ b) y q (2 ^ b - q % 2 ^ b) hy z))
 
--- one law for the four widths of a supplied wrapping difference
-pub sub_at : (w b : ℕ) → 8 * w ≡ b → (x y r : ℕ) → r < 2 ^ b → (r + y % 2 ^ b) % 2 ^ b ≡ x % 2 ^ b → r ≡ pattern (8 * w) (pos x -ℤ pos y)
-sub_at w b e x y r l h =
-    modular b (pos x -ℤ pos y) r (cong-difference b (pos x) (pos y) x y r refl refl (sym (add-mod-mod r y (2 ^ b)) ∙ h)) (sym (mod-eq_of_lt l))
-    ∙ ap (λ (k : ℕ). pattern k (pos x -ℤ pos y)) (sym e)
+-- the low bytes of a difference of 64 bits
+pub sub_at : (w : ℕ) → w ≤ 8 → (x y : ℕ) → y < 2 ^ 64 → {r : ℕ} → r ≡ (x + (2 ^ 64 - y)) % 2 ^ 64 % 2 ^ (8 * w) → r ≡ pattern (8 * w) (pos x -ℤ pos y)
+sub_at w h x y l e =
+    let d = (x + (2 ^ 64 - y)) % 2 ^ 64 in
+    let k : ((x + (2 ^ 64 - y)) % 2 ^ 64 + y) % 2 ^ 64 ≡ x % 2 ^ 64 =
+    mod-add-mod (x + (2 ^ 64 - y)) (2 ^ 64) y ∙ ap (λ (n : ℕ). n % 2 ^ 64) (omega arith) ∙ gone (2 ^ 64) x (2 ^ 64) (mod_self (2 ^ 64))
+    in
+    modular (8 * w) (pos x -ℤ pos y) d (cong-narrow w h (pos x -ℤ pos y) d (cong-difference 64 (pos x) (pos y) x y d refl refl k)) e
 
 -- the difference of two patterns, congruent to that of the numbers
 pub cong-subtract : (b : ℕ) (x y : ℤ) (p q : ℕ) → Cong (2 ^ b) x p → Cong (2 ^ b) y q → Cong (2 ^ b) (x -ℤ y) (pattern b (pos p -ℤ pos q))

@@ -47,10 +47,7 @@ pub fn truth_in(v: Value) -> bool
 {
     match v {
         Value::Bool(x) => x,
-        Value::Signed(_) => false,
-        Value::Unsigned(_) => false,
-        Value::Real(_) => false,
-        Value::Lreal(_) => false,
+        _ => false,
     }
 }
 
@@ -58,11 +55,8 @@ pub fn signed_in(v: Value) -> i64
     ensures { result ≡ signed_in v }
 {
     match v {
-        Value::Bool(_) => 0,
         Value::Signed(x) => x,
-        Value::Unsigned(_) => 0,
-        Value::Real(_) => 0,
-        Value::Lreal(_) => 0,
+        _ => 0,
     }
 }
 
@@ -70,11 +64,8 @@ pub fn unsigned_in(v: Value) -> u64
     ensures { result ≡ unsigned_in v }
 {
     match v {
-        Value::Bool(_) => 0,
-        Value::Signed(_) => 0,
         Value::Unsigned(x) => x,
-        Value::Real(_) => 0,
-        Value::Lreal(_) => 0,
+        _ => 0,
     }
 }
 
@@ -82,11 +73,8 @@ pub fn real_in(v: Value) -> f32
     ensures { result ≡ real_in v }
 {
     match v {
-        Value::Bool(_) => 0.0 / 0.0,
-        Value::Signed(_) => 0.0 / 0.0,
-        Value::Unsigned(_) => 0.0 / 0.0,
         Value::Real(x) => x,
-        Value::Lreal(_) => 0.0 / 0.0,
+        _ => f32::NAN,
     }
 }
 
@@ -94,11 +82,8 @@ pub fn lreal_in(v: Value) -> f64
     ensures { result ≡ lreal_in v }
 {
     match v {
-        Value::Bool(_) => 0.0 / 0.0,
-        Value::Signed(_) => 0.0 / 0.0,
-        Value::Unsigned(_) => 0.0 / 0.0,
-        Value::Real(_) => 0.0 / 0.0,
         Value::Lreal(x) => x,
+        _ => f64::NAN,
     }
 }
 
@@ -107,7 +92,7 @@ fn real_of(p: u32) -> f32
     ensures { result ≡ Ieee.of_bits binary32 p }
 {
     if 0x7f80_0000 < p % 0x8000_0000 {
-        0.0 / 0.0
+        f32::NAN
     } else {
         f32::from_bits(p)
     }
@@ -117,7 +102,7 @@ fn lreal_of(p: u64) -> f64
     ensures { result ≡ Ieee.of_bits binary64 p }
 {
     if 0x7ff0_0000_0000_0000 < p % 0x8000_0000_0000_0000 {
-        0.0 / 0.0
+        f64::NAN
     } else {
         f64::from_bits(p)
     }
@@ -127,16 +112,16 @@ fn lreal_of(p: u64) -> f64
 fn real_bits(x: f32) -> u32
     ensures { result ≡ Ieee.to_bits binary32 x }
 {
-    if x != x { 0x7fc0_0000 } else { f32::to_bits(x) }
+    if x.is_nan() { 0x7fc0_0000 } else { x.to_bits() }
 }
 
 fn lreal_bits(x: f64) -> u64
     ensures { result ≡ Ieee.to_bits binary64 x }
 {
-    if x != x {
+    if x.is_nan() {
         0x7ff8_0000_0000_0000
     } else {
-        f64::to_bits(x)
+        x.to_bits()
     }
 }
 
@@ -144,11 +129,7 @@ fn lreal_bits(x: f64) -> u64
 fn bits_of(x: i64) -> u64
     ensures { result ≡ pattern 64 x }
 {
-    if 0 <= x {
-        x as u64
-    } else {
-        u64::MAX - ((-1 - x) as u64)
-    }
+    x.cast_unsigned()
 }
 
 // The low w bytes of p.
@@ -204,43 +185,21 @@ pub fn add_unsigned(w: usize, x: u64, y: u64) -> u64
     requires { Width w }
     ensures { result ≡ (x + y) % 2 ^ (8 * w) }
 {
-    match w {
-        1 => std::num::wrapping_add_u8((x % 256) as u8, (y % 256) as u8) as u64,
-        2 => std::num::wrapping_add_u16((x % 65536) as u16, (y % 65536) as u16) as u64,
-        4 => std::num::wrapping_add_u32((x % 4294967296) as u32, (y % 4294967296) as u32) as u64,
-        _ => std::num::wrapping_add_u64(x, y),
-    }
+    low_bytes(w, x.wrapping_add(y))
 }
 
 pub fn sub_unsigned(w: usize, x: u64, y: u64) -> u64
     requires { Width w }
     ensures { result ≡ pattern (8 * w) (pos x -ℤ pos y) }
 {
-    match w {
-        1 => std::num::wrapping_sub_u8((x % 256) as u8, (y % 256) as u8) as u64,
-        2 => std::num::wrapping_sub_u16((x % 65536) as u16, (y % 65536) as u16) as u64,
-        4 => std::num::wrapping_sub_u32((x % 4294967296) as u32, (y % 4294967296) as u32) as u64,
-        _ => std::num::wrapping_sub_u64(x, y),
-    }
-}
-
-// The low 64 bits of a product, by halves.
-fn wrapping_mul(x: u64, y: u64) -> u64
-    ensures { result ≡ (x * y) % 2 ^ 64 }
-{
-    let x0 = x % 4294967296;
-    let x1 = x / 4294967296;
-    let y0 = y % 4294967296;
-    let y1 = y / 4294967296;
-    let cross = std::num::wrapping_add_u64(x1 * y0, x0 * y1);
-    std::num::wrapping_add_u64(x0 * y0, cross % 4294967296 * 4294967296)
+    low_bytes(w, x.wrapping_sub(y))
 }
 
 pub fn mul_unsigned(w: usize, x: u64, y: u64) -> u64
     requires { w ≤ 8 }
     ensures { result ≡ (x * y) % 2 ^ (8 * w) }
 {
-    low_bytes(w, wrapping_mul(x, y))
+    low_bytes(w, x.wrapping_mul(y))
 }
 
 pub fn add_signed(w: usize, x: i64, y: i64) -> i64
@@ -268,7 +227,7 @@ fn neg_signed(w: usize, x: i64) -> i64
     requires { Width w }
     ensures { result ≡ wrap (8 * w) (neg_ℤ x) }
 {
-    signed_of(w, low_bytes(w, std::num::wrapping_sub_u64(0, bits_of(x))))
+    signed_of(w, low_bytes(w, bits_of(x).wrapping_neg()))
 }
 
 // The quotient at w bytes, cut toward zero; the lowest by -1 is the lowest.

@@ -1,16 +1,18 @@
--- `values::lreal_in` meets its contract. Each arm knows the variant; 0 / 0 is NaN. Assumes nothing.
-use lib.Ieee.{binary64}
-use Rattle.values.proofs.Floats.{zero_by_zero}
+-- `values::lreal_in` meets its contract. What is no LREAL holds NaN. Assumes nothing.
+use lib.Ieee.{Float, nan}
+use Rattle.std.proofs.Common.{◌≡◌, refl, ◌∙◌}
+use Rattle.values.specs.Values.{lreal_in}
+use Rattle.values.specs.declared.Value.{Value}
+use Rattle.values.specs.declared.Value.TheVariants.{Bool as VBool, Signed, Unsigned, Real, Lreal}
+use Rattle.values.proofs.Floats.{quiet-nan}
 use Rattle.values.proofs.lreal_in.Goals as goal
 
-pub returns-in-Bool : goal.returns-in-Bool
-returns-in-Bool c = rw c.in-Bool.is (zero_by_zero binary64)
+no-lreal : (v : Value) → ((x : Float) → v ≡ Lreal x → ⊥) → nan ≡ lreal_in v
+no-lreal (VBool x) h = refl
+no-lreal (Signed z) h = refl
+no-lreal (Unsigned k) h = refl
+no-lreal (Real x) h = refl
+no-lreal (Lreal x) h = absurd (h x refl)
 
-pub returns-in-Signed : goal.returns-in-Signed
-returns-in-Signed c = rw c.in-Signed.is (zero_by_zero binary64)
-
-pub returns-in-Unsigned : goal.returns-in-Unsigned
-returns-in-Unsigned c = rw c.in-Unsigned.is (zero_by_zero binary64)
-
-pub returns-in-Real : goal.returns-in-Real
-returns-in-Real c = rw c.in-Real.is (zero_by_zero binary64)
+pub returns-in_default : goal.returns-in_default
+returns-in_default c = quiet-nan.1 ∙ no-lreal c.args.v c.in_default.not-Lreal

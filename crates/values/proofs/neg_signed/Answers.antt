@@ -14,9 +14,9 @@ pub returns : goal.returns
 returns c = let w = c.args.w in
     let h : w ≤ 8 = Widths.width-le c.requires in
     let p = c.bits_of.result in
-    let r = c.wrapping_sub_u64.result in
+    let r = c.wrapping_neg.result in
     let k : Widths.Cong (2 ^ 64) c.args.x p = Signs.bits-cong 8 (omega arith) c.args.x c.ranges.x.sfits c.bits_of.ensures in
     Signs.read64 c.signed_of.result c.signed_of.type_inv ∙ c.signed_of.ensures
     ∙ Widths.wrap-of (8 * w) (neg_ℤ c.args.x) c.low_bytes.result
-    (Widths.cong-pattern (8 * w) (neg_ℤ c.args.x) r (Widths.cong-narrow w h (neg_ℤ c.args.x) r (Widths.cong-minus (2 ^ 64) c.args.x p r k c.wrapping_sub_u64.ensures.value))
+    (Widths.cong-pattern (8 * w) (neg_ℤ c.args.x) r (Widths.cong-narrow w h (neg_ℤ c.args.x) r (Widths.cong-minus (2 ^ 64) c.args.x p r k c.wrapping_neg.ensures))
     ∙ sym c.low_bytes.ensures)
