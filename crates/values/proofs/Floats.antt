@@ -3,6 +3,7 @@ use Rattle.std.proofs.Common.{◌≡◌, ℕ, ◌*◌, ◌%◌, ◌<◌, ◌≤�
 use lib.Ieee as Ieee
 use lib.Ieee.{Float, Format, nan, inf, fin, binary32, binary64, ones, hid, top}
 use lib.Ieee.Bits.{nan_bits_is, nan_bits_above}
+use lib.Ieee.Compare.{differs_from_itself}
 
 pub is-nan : (x : Float) → Ieee.is_nan x ≡ true → x ≡ nan
 unfolding Ieee.is_nan
@@ -28,3 +29,13 @@ zero_by_zero binary64 = refl
 pub quiet-nan : (Ieee.of_bits binary32 0x7fc00000 ≡ nan) × (Ieee.of_bits binary64 0x7ff8000000000000 ≡ nan)
 unfolding Ieee.of_bits
 quiet-nan = (refl, refl)
+
+-- what differs from itself is nan, and what does not is a number
+pub differs : (x : Float) → Ieee.ne x x ≡ true → x ≡ nan
+differs x e = differs_from_itself x (subst T (sym e) tt)
+
+pub not-differs : (x : Float) → Ieee.ne x x ≡ false → T (not (Ieee.is_nan x))
+unfolding Ieee.ne Ieee.eq Ieee.is_nan
+not-differs nan e = absurd (subst T e tt)
+not-differs (inf s) e = tt
+not-differs (fin s m k) e = tt
