@@ -1,5 +1,5 @@
 -- Floats and their patterns, once for both formats. Assumes nothing.
-use Rattle.std.proofs.Common.{◌≡◌, ℕ, ◌*◌, ◌%◌, ◌<◌, ◌≤◌, Bool, true, not, T, sym, refl, ◌∙◌, subst, le-ltb, lt-ltb}
+use Rattle.std.proofs.Common.{◌≡◌, ℕ, ◌*◌, ◌%◌, ◌<◌, ◌≤◌, Bool, true, false, not, T, sym, refl, ◌∙◌, subst, le-ltb, lt-ltb}
 use lib.Ieee as Ieee
 use lib.Ieee.{Float, Format, nan, inf, fin, binary32, binary64, ones, hid, top}
 use lib.Ieee.Bits.{nan_bits_is, nan_bits_above}

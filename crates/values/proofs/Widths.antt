@@ -161,6 +161,13 @@ pub signed_high : (b p : ℕ) → 2 ^ (b - 1) ≤ p → signed b p ≡ negsuc (2
 unfolding signed pick
 signed_high b p h = rw (le-ltb p (2 ^ (b - 1)) h)
 
+-- one law for the four widths of a supplied wrapping sum
+pub add_at : (w b : ℕ) → 8 * w ≡ b → (x y : ℕ) {r : ℕ} → r ≡ (x % 2 ^ b + y % 2 ^ b) % 2 ^ b → r ≡ (x + y) % 2 ^ (8 * w)
+unfolding pattern
+add_at w b e x y h =
+    modular b (pos x +ℤ pos y) (x % 2 ^ b + y % 2 ^ b) (cong-add (2 ^ b) (pos x) (pos y) (x % 2 ^ b) (y % 2 ^ b) (mod-mod x (2 ^ b)) (mod-mod y (2 ^ b))) h
+    ∙ ap (λ (k : ℕ). (x + y) % 2 ^ k) (sym e)
+
 -- the low bytes of a product of 64 bits
 pub mul_at : (w : ℕ) → w ≤ 8 → (x y : ℕ) {r : ℕ} → r ≡ (x * y) % 2 ^ 64 % 2 ^ (8 * w) → r ≡ (x * y) % 2 ^ (8 * w)
 unfolding pattern
@@ -218,14 +225,12 @@ cong-difference b x y p q r hx hy e =
     in
     cong-same (2 ^ b) (x -ℤ y) (p + (2 ^ b - q % 2 ^ b)) r g (cong-add (2 ^ b) x (neg_ℤ y) p (2 ^ b - q % 2 ^ b) hx (cong-minus (2 ^ b) y q (2 ^ b - q % 2 ^ b) hy z))
 
--- the low bytes of a difference of 64 bits
-pub sub_at : (w : ℕ) → w ≤ 8 → (x y : ℕ) → y < 2 ^ 64 → {r : ℕ} → r ≡ (x + (2 ^ 64 - y)) % 2 ^ 64 % 2 ^ (8 * w) → r ≡ pattern (8 * w) (pos x -ℤ pos y)
-sub_at w h x y l e =
-    let d = (x + (2 ^ 64 - y)) % 2 ^ 64 in
-    let k : ((x + (2 ^ 64 - y)) % 2 ^ 64 + y) % 2 ^ 64 ≡ x % 2 ^ 64 =
-    mod-add-mod (x + (2 ^ 64 - y)) (2 ^ 64) y ∙ ap (λ (n : ℕ). n % 2 ^ 64) (omega arith) ∙ gone (2 ^ 64) x (2 ^ 64) (mod_self (2 ^ 64))
-    in
-    modular (8 * w) (pos x -ℤ pos y) d (cong-narrow w h (pos x -ℤ pos y) d (cong-difference 64 (pos x) (pos y) x y d refl refl k)) e
+-- one law for the four widths of a supplied wrapping difference
+pub sub_at : (w b : ℕ) → 8 * w ≡ b → (x y u v : ℕ) → u % 2 ^ b ≡ x % 2 ^ b → v % 2 ^ b ≡ y % 2 ^ b → v ≤ 2 ^ b → {r : ℕ} → r ≡ (u + (2 ^ b - v)) % 2 ^ b → r ≡ pattern (8 * w) (pos x -ℤ pos y)
+sub_at w b e x y u v f g l h =
+    let k : (u + (2 ^ b - v) + v) % 2 ^ b ≡ u % 2 ^ b = ap (λ (n : ℕ). n % 2 ^ b) (omega arith) ∙ gone (2 ^ b) u (2 ^ b) (mod_self (2 ^ b)) in
+    modular b (pos x -ℤ pos y) (u + (2 ^ b - v)) (cong-difference b (pos x) (pos y) u v (u + (2 ^ b - v)) f g k) h
+    ∙ ap (λ (k : ℕ). pattern k (pos x -ℤ pos y)) (sym e)
 
 -- the difference of two patterns, congruent to that of the numbers
 pub cong-subtract : (b : ℕ) (x y : ℤ) (p q : ℕ) → Cong (2 ^ b) x p → Cong (2 ^ b) y q → Cong (2 ^ b) (x -ℤ y) (pattern b (pos p -ℤ pos q))

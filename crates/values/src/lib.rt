@@ -180,19 +180,29 @@ fn wrap_signed(w: usize, z: i64) -> i64
     signed_of(w, low_bytes(w, bits_of(z)))
 }
 
-// Sums, differences and products at w bytes.
+// Sums, differences and products at w bytes. Sums and differences by the supplied operation of each width, as document 01 names the form.
 pub fn add_unsigned(w: usize, x: u64, y: u64) -> u64
     requires { Width w }
     ensures { result ≡ (x + y) % 2 ^ (8 * w) }
 {
-    low_bytes(w, x.wrapping_add(y))
+    match w {
+        1 => ((x % 256) as u8).wrapping_add((y % 256) as u8) as u64,
+        2 => ((x % 65536) as u16).wrapping_add((y % 65536) as u16) as u64,
+        4 => ((x % 4294967296) as u32).wrapping_add((y % 4294967296) as u32) as u64,
+        _ => x.wrapping_add(y),
+    }
 }
 
 pub fn sub_unsigned(w: usize, x: u64, y: u64) -> u64
     requires { Width w }
     ensures { result ≡ pattern (8 * w) (pos x -ℤ pos y) }
 {
-    low_bytes(w, x.wrapping_sub(y))
+    match w {
+        1 => ((x % 256) as u8).wrapping_sub((y % 256) as u8) as u64,
+        2 => ((x % 65536) as u16).wrapping_sub((y % 65536) as u16) as u64,
+        4 => ((x % 4294967296) as u32).wrapping_sub((y % 4294967296) as u32) as u64,
+        _ => x.wrapping_sub(y),
+    }
 }
 
 pub fn mul_unsigned(w: usize, x: u64, y: u64) -> u64
