@@ -20,10 +20,8 @@ fn show_byte(b: u8) {
 }
 
 fn show(d: &[u8]) {
-    let mut i: usize = 0;
-    while i < d.len() {
-        show_byte(d[i]);
-        i += 1;
+    for b in d {
+        show_byte(*b);
     }
 }
 
