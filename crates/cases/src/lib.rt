@@ -14,20 +14,23 @@ const HASH: u8 = 35;
 
 const NEW_LINE: u8 = 10;
 
-// No digit.
-const NONE: u8 = 255;
-
 // ---- one field of a line
 
 // The value of a hex digit, written with capitals.
-fn digit(c: u8) -> u8 {
-    if 48 <= c && c <= 57 {
-        return c - 48;
+fn digit(c: u8) -> Option<u8> {
+    match c {
+        b'0'..=b'9' => Some(c - b'0'),
+        b'A'..=b'F' => Some(c - b'A' + 10),
+        _ => None,
     }
-    if 65 <= c && c <= 70 {
-        return c - 55;
+}
+
+// The value of a decimal digit.
+fn decimal_digit(c: u8) -> Option<u8> {
+    match c {
+        b'0'..=b'9' => Some(c - b'0'),
+        _ => None,
     }
-    NONE
 }
 
 // How far a field was read: the semicolons before, the digits in it, and the last of them.
@@ -41,8 +44,8 @@ pub struct Reading {
 fn put(s: &mut [u8], i: usize, b: u8)
     ensures { length s.new ≡ length s.old }
 {
-    if i < s.len() {
-        s[i] = b;
+    if let Some(place) = s.get_mut(i) {
+        *place = b;
     }
 }
 
@@ -71,22 +74,20 @@ fn take(r: Reading, c: u8, k: usize, out: &mut [u8]) -> Reading
     if c == SEMICOLON {
         return Reading {
             field: passed(r.field, c),
-            digits: r.digits,
-            last: r.last,
+            ..r
         };
     }
     if r.field != k {
         return r;
     }
-    let d = digit(c);
-    if d == NONE {
+    let Some(last) = digit(c) else {
         return r;
-    }
-    store(r, d, out);
+    };
+    store(r, last, out);
     Reading {
-        field: r.field,
         digits: r.digits % 65536 + 1,
-        last: d,
+        last,
+        ..r
     }
 }
 
@@ -95,10 +96,8 @@ pub fn bytes(line: &[u8], k: usize, out: &mut [u8]) -> usize
     ensures { IsPrefixLen result out.new }
 {
     let mut r = begun();
-    let mut i: usize = 0;
-    while i < line.len() {
-        r = take(r, line[i], k, out);
-        i += 1;
+    for c in line {
+        r = take(r, *c, k, out);
     }
     io::count((r.digits / 2) as isize, out)
 }
@@ -113,14 +112,10 @@ fn passed(field: usize, c: u8) -> usize {
 
 // The number n with one more digit, where the character belongs to field k and is one.
 fn counted(n: usize, field: usize, k: usize, c: u8) -> usize {
-    if field != k {
-        return n;
+    match decimal_digit(c) {
+        Some(d) if field == k => (n % 65536) * 10 + d as usize,
+        _ => n,
     }
-    let d = digit(c);
-    if 9 < d {
-        return n;
-    }
-    (n % 65536) * 10 + d as usize
 }
 
 // The decimal number in field k, below 65,536.
@@ -129,12 +124,9 @@ pub fn number(line: &[u8], k: usize) -> usize
 {
     let mut field: usize = 0;
     let mut n: usize = 0;
-    let mut i: usize = 0;
-    while i < line.len() {
-        let c = line[i];
-        n = counted(n, field, k, c);
-        field = passed(field, c);
-        i += 1;
+    for c in line {
+        n = counted(n, field, k, *c);
+        field = passed(field, *c);
     }
     n % 65536
 }
@@ -157,13 +149,7 @@ fn spelt(word: u64, c: u8) -> u64 {
 }
 
 fn whole(word: &[u8]) -> u64 {
-    let mut letters: u64 = 0;
-    let mut i: usize = 0;
-    while i < word.len() {
-        letters = spelt(letters, word[i]);
-        i += 1;
-    }
-    letters
+    word.iter().fold(0, |letters, c| spelt(letters, *c))
 }
 
 // A letter goes on with its word, or begins one.
@@ -196,13 +182,17 @@ fn spell(r: Spelling, c: u8, k: usize, word: u64, nth: usize) -> Spelling {
     if 97 <= c && c <= 122 {
         return lettered(r, c);
     }
-    if r.field != k || r.word != word || r.blanks != nth || 9 < digit(c) {
+    if r.field != k || r.word != word || r.blanks != nth {
         return r;
     }
-    let mut t = r;
-    t.number = (r.number % 65536) * 10 + digit(c) as usize;
-    t.digits = r.digits % 256 + 1;
-    t
+    let Some(d) = decimal_digit(c) else {
+        return r;
+    };
+    Spelling {
+        number: (r.number % 65536) * 10 + d as usize,
+        digits: r.digits % 256 + 1,
+        ..r
+    }
 }
 
 fn unread() -> Spelling {
@@ -220,10 +210,8 @@ fn unread() -> Spelling {
 pub fn behind(line: &[u8], k: usize, word: &[u8], nth: usize, other: u16) -> u16 {
     let wanted = whole(word);
     let mut r = unread();
-    let mut i: usize = 0;
-    while i < line.len() {
-        r = spell(r, line[i], k, wanted, nth);
-        i += 1;
+    for c in line {
+        r = spell(r, *c, k, wanted, nth);
     }
     if r.digits == 0 {
         return other;
@@ -234,16 +222,14 @@ pub fn behind(line: &[u8], k: usize, word: &[u8], nth: usize, other: u16) -> u16
 // Whether words, each with a blank behind it, have this one among them.
 fn lists(words: &[u8], word: u64) -> bool {
     let mut letters: u64 = 0;
-    let mut i: usize = 0;
-    while i < words.len() {
-        if words[i] != BLANK {
-            letters = spelt(letters, words[i]);
+    for c in words {
+        if *c != BLANK {
+            letters = spelt(letters, *c);
         } else if letters == word {
             return true;
         } else {
             letters = 0;
         }
-        i += 1;
     }
     false
 }
@@ -251,14 +237,11 @@ fn lists(words: &[u8], word: u64) -> bool {
 // Whether each number in field k stands behind one of these words, so that no misspelt one is passed over.
 pub fn knows(line: &[u8], k: usize, words: &[u8]) -> bool {
     let mut r = unread();
-    let mut i: usize = 0;
-    while i < line.len() {
-        let c = line[i];
-        r = spell(r, c, k, 0, 0);
-        if r.field == k && digit(c) <= 9 && !lists(words, r.word) {
+    for c in line {
+        r = spell(r, *c, k, 0, 0);
+        if r.field == k && decimal_digit(*c).is_some() && !lists(words, r.word) {
             return false;
         }
-        i += 1;
     }
     true
 }
@@ -269,17 +252,12 @@ pub fn knows(line: &[u8], k: usize, words: &[u8]) -> bool {
 fn found(text: &[u8], from: usize, c: u8) -> usize
     ensures { (result ≤ length text.now) × (from ≤ length text.now → from ≤ result) }
 {
-    if text.len() <= from {
-        return text.len();
-    }
-    let mut i: usize = from;
-    while i < text.len() {
+    for i in from..text.len() {
         if text[i] == c {
             return i;
         }
-        i += 1;
     }
-    i
+    text.len()
 }
 
 // Where the name of a case ends: its first semicolon.
@@ -298,8 +276,8 @@ pub fn line_end(text: &[u8], from: usize) -> usize
 
 // Whether a line is a case.
 pub fn is_case(line: &[u8]) -> bool {
-    if line.len() == 0 {
-        return false;
+    match line.first() {
+        Some(c) => *c != HASH,
+        None => false,
     }
-    line[0] != HASH
 }

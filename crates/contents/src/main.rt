@@ -17,15 +17,7 @@ fn number(n: usize) {
 
 // The place after the last byte that is not 0.
 fn used(s: &[u8]) -> usize {
-    let mut n: usize = 0;
-    let mut i: usize = 0;
-    while i < s.len() {
-        if s[i] != 0 {
-            n = i + 1;
-        }
-        i += 1;
-    }
-    n
+    s.iter().rposition(|b| *b != 0).map_or(0, |i| i + 1)
 }
 
 // Byte i, with the start and the end of its line.
@@ -44,13 +36,11 @@ fn show_byte(label: &[u8], i: usize, b: u8) {
 
 fn show_bytes(label: &[u8], s: &[u8]) {
     let end = used(s);
-    let mut i: usize = 0;
-    while i < s.len() {
+    for (i, b) in s.iter().enumerate() {
         if end <= i && i % 8 == 0 {
             return;
         }
-        show_byte(label, i, s[i]);
-        i += 1;
+        show_byte(label, i, *b);
     }
     if s.len() % 8 != 0 {
         text(b"\n");
@@ -61,15 +51,9 @@ fn show_bytes(label: &[u8], s: &[u8]) {
 
 // The n bytes at a place of the data buffer.
 fn show_part(label: &[u8], s: &[u8], place: usize, n: usize) {
-    if s.len() < n {
-        return;
+    if n <= s.len() && place <= s.len() - n {
+        show_bytes(label, &s[place..place + n]);
     }
-    if s.len() - n < place {
-        return;
-    }
-    let a = place;
-    let e = place + n;
-    show_bytes(label, &s[a..e]);
 }
 
 fn show_core(label: &[u8], buffer: &[u8], c: CoreLayout) {
@@ -123,13 +107,12 @@ fn run_in(file: &[u8], trace: &[u8], order: &[u8], layout: Layout, n: usize, buf
     if buffer.len() < n {
         return;
     }
-    let a = 0;
     show_run(
         file,
         trace,
         order,
         layout,
-        &mut buffer[a..n],
+        &mut buffer[..n],
         &mut shared,
         &mut list,
     );
@@ -152,21 +135,6 @@ fn run_files(file: &[u8], trace: &[u8], order: &[u8]) {
     );
 }
 
-// The first f, t and o bytes.
-fn run_parts(file: &[u8], f: usize, trace: &[u8], t: usize, order: &[u8], o: usize) {
-    if file.len() < f {
-        return;
-    }
-    if trace.len() < t {
-        return;
-    }
-    if order.len() < o {
-        return;
-    }
-    let a = 0;
-    run_files(&file[a..f], &trace[a..t], &order[a..o]);
-}
-
 // A missing file counts as empty.
 fn main(rt: HostRuntime) {
     let mut file = [0u8; 82800];
@@ -175,5 +143,5 @@ fn main(rt: HostRuntime) {
     let f = read_file(&rt, "task.bin", &mut file);
     let t = read_file(&rt, "trace.bin", &mut trace);
     let o = read_file(&rt, "order.bin", &mut order);
-    run_parts(&file, f, &trace, t, &order, o);
+    run_files(&file[..f], &trace[..t], &order[..o]);
 }

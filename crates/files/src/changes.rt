@@ -1,8 +1,8 @@
 // Changes to a file; what lies past its end is dropped.
 
 pub fn put(f: &mut [u8], p: usize, b: u8) {
-    if p < f.len() {
-        f[p] = b;
+    if let Some(byte) = f.get_mut(p) {
+        *byte = b;
     }
 }
 

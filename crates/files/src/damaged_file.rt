@@ -14,32 +14,26 @@ fn damage(f: &mut [u8], n: usize, p: usize, b: u8) {
 // Five other values of the byte at p.
 fn five(f: &mut [u8], n: usize, p: usize) {
     let old = memory::byte_at(f, p);
-    damage(f, n, p, 0);
-    damage(f, n, p, 255);
-    damage(f, n, p, old ^ 1);
-    damage(f, n, p, old ^ 8);
-    damage(f, n, p, old ^ 128);
+    for b in [0, 255, old ^ 1, old ^ 8, old ^ 128] {
+        damage(f, n, p, b);
+    }
 }
 
 fn damages(f: &mut [u8], n: usize) {
-    let mut p: usize = 0;
-    while p < n {
+    for p in 0..n {
         five(f, n, p);
         if p % 10 == 9 {
             text(b"\n");
         } else {
             text(b" ");
         }
-        p = p + 1;
     }
     text(b"\n");
 }
 
 fn cuts(f: &[u8], n: usize) {
-    let mut i: usize = 0;
-    while i < n {
+    for i in 0..n {
         number(begin(f, i) as usize);
-        i = i + 1;
     }
     text(b"\n");
 }

@@ -11,6 +11,5 @@ pub fn begin(f: &[u8], n: usize) -> u8 {
     if f.len() < n {
         return 99;
     }
-    let a = 0;
-    file_judging::judge_file(&f[a..n])
+    file_judging::judge_file(&f[..n])
 }

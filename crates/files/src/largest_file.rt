@@ -31,10 +31,8 @@ fn put_variable(f: &mut [u8], i: usize) {
 }
 
 fn put_variables(f: &mut [u8]) {
-    let mut i: usize = 0;
-    while i < 64 {
+    for i in 0..64 {
         put_variable(f, i);
-        i = i + 1;
     }
 }
 
@@ -54,12 +52,10 @@ fn largest() -> [u8; 33600] {
 
 // ADD I48 in all but the last eight bytes of each code.
 fn put_adds(f: &mut [u8]) {
-    let mut i: usize = 0;
-    while i < 4092 {
+    for i in 0..4092 {
         let p = 800 + 8194 * (i / 1023) + 8 * (i % 1023);
         put(f, p, 16);
         put(f, p + 1, 3);
-        i = i + 1;
     }
 }
 

@@ -21,8 +21,7 @@ pub fn layout(f: &[u8]) {
     show(b"cores", l.cores);
     show(b"variables", l.variables);
     show(b"first record", l.first);
-    core(l.core[0]);
-    core(l.core[1]);
-    core(l.core[2]);
-    core(l.core[3]);
+    for c in l.core {
+        core(c);
+    }
 }

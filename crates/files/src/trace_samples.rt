@@ -6,16 +6,13 @@ fn begin_trace(f: &[u8], t: &[u8], n: usize) -> u8 {
     if t.len() < n {
         return 99;
     }
-    let a = 0;
-    traces::judge_trace(f, &t[a..n])
+    traces::judge_trace(f, &t[..n])
 }
 
 fn trace_cuts(f: &[u8], t: &[u8], n: usize) {
-    let mut i: usize = 0;
-    while i < n {
+    for i in 0..n {
         text(b" ");
         number(begin_trace(f, t, i) as usize);
-        i = i + 1;
     }
     text(b"\n");
 }

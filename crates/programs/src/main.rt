@@ -24,10 +24,8 @@ fn show_byte(b: u8) {
 }
 
 fn show_bytes(s: &[u8]) {
-    let mut i: usize = 0;
-    while i < s.len() {
-        show_byte(s[i]);
-        i += 1;
+    for b in s {
+        show_byte(*b);
     }
 }
 
@@ -116,8 +114,7 @@ fn cycle(code: &[u8], d: &mut [u8], limit: u16) -> Registers
     let mut r = begun();
     let mut places: [u16; 16] = [0; 16];
     let mut offsets: [u16; 16] = [0; 16];
-    let mut i: usize = 0;
-    while i < 2000 {
+    for _ in 0..2000 {
         if limit <= r.count {
             return protocol::faulted(r, protocol::LIMIT);
         }
@@ -135,7 +132,6 @@ fn cycle(code: &[u8], d: &mut [u8], limit: u16) -> Registers
                 return last;
             }
         }
-        i += 1;
     }
     r
 }

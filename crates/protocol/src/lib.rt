@@ -35,7 +35,7 @@ pub const CONVERSION: u8 = 6;
 
 // A core's registers, in C's layout for the lent core table. The call stack stands beside them, so that a step moves no array.
 #[repr(C)]
-#[derive(Clone, Copy)]
+#[derive(Clone, Copy, PartialEq, Eq)]
 pub struct Registers {
     pub mode: u8,
     pub counter: u16, // program counter

@@ -1,6 +1,5 @@
 // The calls that write or look for a core, each as one number.
 use super::lent_memory::{filled, kept, length_of};
-use super::same_states::same_state;
 use super::state_words::{GIVEN, LEFT, USUAL, state_in_words};
 use machine::Next;
 use runner::RunAnswer;
@@ -17,10 +16,10 @@ const NONE: u8 = 200;
 
 // The number of a call: 0, if it was accepted and left the state that the case says; its refusal's, if it was refused and nothing changed.
 fn says(r: RunAnswer, unchanged: bool, before: Held, after: Held) -> u8 {
-    if r.refusal == 0 && same_state(r.state, after) {
+    if r.refusal == 0 && r.state == after {
         return 0;
     }
-    if r.refusal != 0 && r.taken == 0 && unchanged && same_state(r.state, before) {
+    if r.refusal != 0 && r.taken == 0 && unchanged && r.state == before {
         return r.refusal;
     }
     CHANGED

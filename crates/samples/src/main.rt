@@ -1,14 +1,13 @@
 // Document 01's samples on the public calls, from standard input (file `stdin`, which says how a case is written): the listing of `cores`, the bench values
 // that are not marked, every refusal, states that are fit or not, what a step changes, and the next core to move. Each case tells its name, what came, and ok
 // or WRONG beside what the documents say.
-// Not here: states in words (src/state_words.rt); states compared (src/same_states.rt); memory to lend (src/lent_memory.rt); the calls (src/call_numbers.rt);
+// Not here: states in words (src/state_words.rt); memory to lend (src/lent_memory.rt); the calls (src/call_numbers.rt);
 // what is printed (src/printing.rt).
 #![tactic(auto)]
 
 mod call_numbers;
 mod lent_memory;
 mod printing;
-mod same_states;
 mod state_words;
 
 ghost use Rattle.io.specs.Counts.{IsPrefixLen};

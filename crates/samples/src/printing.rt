@@ -37,15 +37,10 @@ fn last_field_is(line: &[u8], text: &[u8]) -> bool {
     if line[from - 2] != b';' {
         return false;
     }
-    let mut i: usize = 0;
-    while i < text.len() {
-        let c = line[from + i];
-        if c != text[i] && (c != b'/' || text[i] != b'\n') {
-            return false;
-        }
-        i += 1;
-    }
-    true
+    line[from..]
+        .iter()
+        .zip(text)
+        .all(|(c, t)| c == t || *c == b'/' && *t == b'\n')
 }
 
 // The text of n bytes beside that of the case.
@@ -53,8 +48,7 @@ pub fn show(line: &[u8], out: &[u8], n: usize) {
     if out.len() < n {
         return;
     }
-    let start = 0;
-    text(&out[start..n]);
+    text(&out[..n]);
     named(line);
-    told(last_field_is(line, &out[start..n]));
+    told(last_field_is(line, &out[..n]));
 }

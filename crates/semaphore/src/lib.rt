@@ -8,7 +8,7 @@ ghost use Rattle.semaphore.specs.Line.{semaphore_of, waits_at, line_of, Lined};
 
 // The semaphore and its line, the first core first. Entries from `waiting` on say nothing; they are 0 after a call.
 #[repr(C)]
-#[derive(Clone, Copy)]
+#[derive(Clone, Copy, PartialEq, Eq)]
 pub struct Semaphore {
     pub holder: u8, // 0 where it is free, k + 1 where core k holds it
     pub waiting: u8, // cores in line

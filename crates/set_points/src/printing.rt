@@ -15,10 +15,8 @@ fn byte(b: u8) {
 }
 
 pub fn bytes(s: &[u8]) {
-    let mut i = 0;
-    while i < s.len() {
-        byte(s[i]);
-        i += 1;
+    for b in s {
+        byte(*b);
     }
 }
 
@@ -26,9 +24,8 @@ pub fn memories(buffer: &[u8], shared: &[u8]) {
     text(b"data");
     bytes(buffer);
     text(b"\nshared 9 to 12");
-    number(memory::byte_at(shared, 9) as usize);
-    number(memory::byte_at(shared, 10) as usize);
-    number(memory::byte_at(shared, 11) as usize);
-    number(memory::byte_at(shared, 12) as usize);
+    for place in 9..13 {
+        number(memory::byte_at(shared, place) as usize);
+    }
     text(b"\n");
 }

@@ -15,7 +15,7 @@ use semaphore::Semaphore;
 use taskset::{CoreLayout, Layout, TraceLayout};
 
 // The state of up to four cores. The call stack of core k is entries 16k to 16k + 15 of `places` and `offsets`.
-#[derive(Clone, Copy)]
+#[derive(Clone, Copy, PartialEq, Eq)]
 pub struct Held {
     pub count: u8, // records of the core table
     pub semaphore: Semaphore,

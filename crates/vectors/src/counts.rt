@@ -27,16 +27,13 @@ pub fn count_lines(
     differed: &mut [u64; 64],
 ) -> Line {
     let mut line = start;
-    let mut i = 0;
-    while i < s.len() {
-        let c = s[i];
-        if c == b'\n' {
+    for c in s {
+        if *c == b'\n' {
             count(line, compared, differed);
             line = fresh();
         } else {
-            line = longer(line, c);
+            line = longer(line, *c);
         }
-        i += 1;
     }
     line
 }
@@ -51,11 +48,9 @@ fn print_count(code: u64, compared: u64, differed: u64) {
 }
 
 pub fn print_counts(compared: &[u64; 64], differed: &[u64; 64]) {
-    let mut k: usize = 0;
-    while k < 64 {
+    for k in 0..64 {
         if 0 < compared[k] {
             print_count(k as u64, compared[k], differed[k]);
         }
-        k += 1;
     }
 }

@@ -16,13 +16,8 @@ use std::fs::File;
 use std::io::Read;
 use vector_line::fresh;
 
-// The turns left after one that read n bytes: none at the end of the file. A proved loop has to end, and nothing says that a file does.
-fn turns_left(turns: u64, n: usize) -> u64
-    requires { 0 < turns }
-    ensures { result < turns }
-{
-    if n == 0 { 0 } else { turns - 1 }
-}
+// The most reads of a file.
+const READS: u32 = 1_000_000;
 
 // Reads into the buffer; a read that fails counts as the end of the file.
 fn read_some(file: &mut File, buffer: &mut [u8]) -> usize
@@ -34,17 +29,18 @@ fn read_some(file: &mut File, buffer: &mut [u8]) -> usize
     }
 }
 
-// Reads an open file whole, in fewer turns than are given, and prints its counts.
+// Reads an open file whole and prints its counts. A proved loop has to end, and nothing says that a file does: so many reads at most.
 fn count_file(file: &mut File) {
     let mut compared = [0u64; 64];
     let mut differed = [0u64; 64];
     let mut line = fresh();
-    let mut turns: u64 = 1000000;
-    while 0 < turns {
+    for _ in 0..READS {
         let mut buffer = [0u8; 4096];
         let n = read_some(file, &mut buffer);
+        if n == 0 {
+            break;
+        }
         line = count_lines(&buffer[..n], line, &mut compared, &mut differed);
-        turns = turns_left(turns, n);
     }
     print_counts(&compared, &differed);
 }
