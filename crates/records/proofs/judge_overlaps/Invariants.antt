@@ -1,11 +1,7 @@
 -- Where all rise no two meet; else what is left from variable i on is what was asked.
-use Prim.Native.Nat.{◌-◌}
 use Rattle.verdict.proofs.Verdict.{Going}
 use Rattle.records.specs.Records.{overlap_refusal}
-use Rattle.records.proofs.overlaps_refusal.Given as goal
+use Rattle.records.proofs.judge_overlaps.Given as goal
 
 abbrev pub invariant-loop-i : goal.invariant-loop-i
 invariant-loop-i l = Going (overlap_refusal l.f) 0 l.m l.i
-
-abbrev pub decreases-loop-i : goal.decreases-loop-i
-decreases-loop-i l = l.m - l.i

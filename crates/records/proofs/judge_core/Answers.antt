@@ -3,7 +3,7 @@ use mathlib.Core.Path.{sym, ◌∙◌}
 use borrow.Author.Tests.{le-leb, lt-leb}
 use Rattle.verdict.proofs.Verdict.{skip, halt, yes, no}
 use Rattle.records.specs.Records.{core_refusal}
-use Rattle.records.proofs.core_refusal.Goals as goal
+use Rattle.records.proofs.judge_core.Goals as goal
 
 pub returns-then-f-k : goal.returns-then-f-k
 unfolding core_refusal
@@ -13,6 +13,6 @@ pub returns-then-core_ok : goal.returns-then-core_ok
 unfolding core_refusal
 returns-then-core_ok c = skip (yes _ _ (le-leb _ _ c.if-f-k.false)) (sym (yes _ _ (sym c.core_ok.ensures ∙ c.if-core_ok.true)))
 
-pub returns : goal.returns
+pub returns-else-core_ok : goal.returns-else-core_ok
 unfolding core_refusal
-returns c = skip (yes _ _ (le-leb _ _ c.if-f-k.false)) (sym (no _ _ (sym c.core_ok.ensures ∙ c.if-core_ok.false)))
+returns-else-core_ok c = skip (yes _ _ (le-leb _ _ c.if-f-k.false)) (sym (no _ _ (sym c.core_ok.ensures ∙ c.if-core_ok.false)))

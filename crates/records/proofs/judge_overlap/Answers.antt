@@ -1,11 +1,10 @@
 -- What is left from variable j on is what was asked; the records lie in the file.
-use Prim.Native.Nat.{◌-◌}
 use mathlib.Core.Path.{sym, ◌∙◌}
 use native.Mathlib.Omega.{arith}
 use Rattle.verdict.proofs.Verdict.{going-none, going_more, going-stop, going_end}
 use Rattle.records.specs.Records.{overlap_refusal}
 use Rattle.records.proofs.Laws.{pair-five, pair-none}
-use Rattle.records.proofs.overlap_refusal.Goals as goal
+use Rattle.records.proofs.judge_overlap.Goals as goal
 
 pub loop-j-init : goal.loop-j-init
 loop-j-init c = going-none _ _ _
