@@ -4,7 +4,7 @@ use native.Mathlib.Omega.{arith}
 use borrow.Author.Tests.{le-leb, lt-leb}
 use Rattle.verdict.proofs.Verdict.{skip, halt, yes, no}
 use Rattle.taskset.specs.Judge.{head_refusal}
-use Rattle.file_judging.proofs.refusals.head_refusal.Goals as goal
+use Rattle.file_judging.proofs.refusals.judge_head.Goals as goal
 
 pub returns-then-f-lt4 : goal.returns-then-f-lt4
 unfolding head_refusal
@@ -38,4 +38,4 @@ unfolding head_refusal
 returns c = skip (yes _ _ (le-leb _ _ c.if-f-lt4.false))
     (skip (yes _ _ (sym c.is_mark.ensures ∙ c.if-not-is_mark.false))
     (skip (yes _ _ (le-leb _ _ c.if-f-lt5.false))
-    (skip (yes _ _ (rw (le-leb _ _ c.if-n-lt1.false, le-leb _ _ c.if-n-gt4.false))) c.cores_refusal.ensures)))
+    (skip (yes _ _ (rw (le-leb _ _ c.if-n-lt1.false, le-leb _ _ c.if-n-gt4.false))) c.judge_cores.ensures)))

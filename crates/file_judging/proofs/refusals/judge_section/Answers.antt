@@ -8,7 +8,7 @@ use Rattle.verdict.proofs.Verdict.{skip, halt, yes, no}
 use Rattle.memory.specs.Memory.{word, part}
 use Rattle.code.specs.Code.{judge_code_for}
 use Rattle.taskset.specs.Judge.{section_refusal}
-use Rattle.file_judging.proofs.refusals.section_refusal.Goals as goal
+use Rattle.file_judging.proofs.refusals.judge_section.Goals as goal
 
 pub returns-then-f-a : goal.returns-then-f-a
 unfolding section_refusal

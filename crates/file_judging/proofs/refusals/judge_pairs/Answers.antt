@@ -1,11 +1,10 @@
 -- `Pairs`: what is left from number i on is what was asked, and `least` is what its place must reach.
-use Prim.Native.Nat.{◌-◌}
 use native.Mathlib.Omega.{arith}
 use borrow.Author.Tests.{lt-leb}
 use Rattle.verdict.proofs.Verdict.{halt, no}
 use Rattle.taskset.specs.Judge.{pairs_refusal}
 use Rattle.taskset.proofs.Laws.{pairs-none, pairs-more, pair-cut, pair-beyond, pair-falls, pair-fine, pairs-stop, pairs_end}
-use Rattle.file_judging.proofs.refusals.pairs_refusal.Goals as goal
+use Rattle.file_judging.proofs.refusals.judge_pairs.Goals as goal
 
 pub returns-then-f-first : goal.returns-then-f-first
 unfolding pairs_refusal
@@ -38,9 +37,6 @@ returns-then-place-least c = pairs-stop _ _ _ _ _ _ c.if-f-first.false c.word_at
 
 pub overflow_add-least : goal.overflow_add-least
 overflow_add-least c = omega (arith, c.word_at-place.ensures.1)
-
-pub overflow_add-i : goal.overflow_add-i
-overflow_add-i c = omega (arith, c.word_at-n.ensures.1)
 
 pub loop-i-preserved : goal.loop-i-preserved
 loop-i-preserved c = pairs-more _ _ _ _ _ _ _ c.loop-i.invariant c.loop-i-test.true
