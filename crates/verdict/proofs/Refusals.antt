@@ -48,7 +48,11 @@ stop-refused r b e = stop b e (refused r)
 pub going-refused : (g : ℕ → ℕ) (s n i : ℕ) (r : Refusal) → Going g s n i → i < n → number_of r ≡ g i → number_of r ≡ first g (n - s) s
 going-refused g s n i r w h e = going-stop g s n i (number_of r) w h e (refused r)
 
--- ---- the exit of a `?`: the caller's answer has the number of the refusal that it met
+-- ---- the exit of a `?`: the caller's answer is the refusal that it met, and has its number
+
+pub handed : {A : Type 0} (r : Result A Refusal) (e : Refusal) → IsErrAnd r (λ (y : Refusal). y ≡ e) → r ≡ Err e
+handed (Ok a) e h = absurd h
+handed (Err y) e h = rw h
 
 pub handed_on : {A : Type 0} (r : Result A Refusal) (e : Refusal) {n : ℕ} → IsErrAnd r (λ (y : Refusal). y ≡ e) → number_of e ≡ n → refusal_of r ≡ n
 handed_on (Ok a) e h k = absurd h
