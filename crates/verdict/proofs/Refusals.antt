@@ -4,7 +4,7 @@ use mathlib.Core.Path.{◌≡◌}
 use Prim.Native.Nat.{ℕ, ◌<◌, ◌-◌}
 use native.Mathlib.Omega.{arith}
 use Rattle.std.specs.Prelude.{Result, Ok, Err}
-use Rattle.std.specs.Result.{IsErrAnd}
+use Rattle.std.specs.Result.{IsErrAnd, IfOk}
 use Rattle.verdict.specs.declared.Refusal.{Refusal}
 use Rattle.verdict.specs.declared.Refusal.TheVariants.{CutFile, NoMark, BadCore, BadVariable, Overlapping, BadInstruction, BadTarget, NoSuchCore, BadLengths, BadTrace, UnfitState, LeftOver, NotAbove, OverCount, WideType, BadSpan, FewPlaces, BadRun, BadStart, HasStarts, NotProduced, OutsideWindow}
 use Rattle.verdict.specs.Verdict.{next, first}
@@ -57,3 +57,8 @@ handed (Err y) e h = rw h
 pub handed_on : {A : Type 0} (r : Result A Refusal) (e : Refusal) {n : ℕ} → IsErrAnd r (λ (y : Refusal). y ≡ e) → number_of e ≡ n → refusal_of r ≡ n
 handed_on (Ok a) e h k = absurd h
 handed_on (Err y) e h k = rw h k
+
+-- with what the caller says of the value of an answer
+pub handed_none : {A : Type 0} (r : Result A Refusal) (e : Refusal) (P : A → Type 0) {n : ℕ} → IsErrAnd r (λ (y : Refusal). y ≡ e) → number_of e ≡ n → (refusal_of r ≡ n) × IfOk r P
+handed_none (Ok a) e P h k = absurd h
+handed_none (Err y) e P h k = (rw h k, tt)

@@ -1,13 +1,12 @@
 -- The table, the semaphore, and every core passed is fit; then the line.
 use mathlib.Core.Path.{sym, ◌∙◌}
-use Prim.Native.Nat.{◌-◌}
 use native.Mathlib.Omega.{arith}
 use borrow.Author.Tests.{le-leb, lt-leb, eq-eqb, ne_eqb}
 use Rattle.verdict.proofs.Verdict.{yes, no}
 use Rattle.states.proofs.Tasks.{tasks-at}
 use Rattle.states.specs.Fit.{state_fit, state_refusal}
 use Rattle.states.proofs.Says.{passing-none, passing-more, passing-stop, passing-end, fails, passes}
-use Rattle.fitness.proofs.state_refusal.Goals as goal
+use Rattle.fitness.proofs.judge_state.Goals as goal
 
 pub returns-then-s-n : goal.returns-then-s-n
 unfolding state_refusal state_fit
