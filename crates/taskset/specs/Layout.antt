@@ -1,6 +1,8 @@
 -- What loading a file answers: the refusal number with an empty layout, or 0 with the layout.
-use Rattle.std.specs.Prelude.{ℕ, zero, suc, ◌+◌, List, [], ◌∷◌, ltb, eqb}
+use Rattle.std.specs.Prelude.{ℕ, zero, suc, ◌+◌, List, [], ◌∷◌, Result, Ok, Err, ltb, eqb}
 use Rattle.verdict.specs.Verdict.{pick}
+use Rattle.verdict.specs.Refusals.{number_of}
+use Rattle.verdict.specs.declared.Refusal.{Refusal}
 use Rattle.memory.specs.Memory.{word}
 use Rattle.records.specs.File.{cores, data_size, input_size, limit, variables, record_place}
 use Rattle.code.specs.declared.Profile.{Profile}
@@ -48,3 +50,8 @@ load_for profile f = record { refusal = judge_for profile f; layout = pick (eqb 
 
 abbrev pub load_of : List ℕ → Loaded
 load_of f = load_for Full f
+
+-- an answer of the code: a refusal with an empty layout, or the layout
+abbrev pub loaded_as : Result Layout Refusal → Loaded
+loaded_as (Ok layout) = record { refusal = 0; layout = layout }
+loaded_as (Err r) = record { refusal = number_of r; layout = no_layout }
