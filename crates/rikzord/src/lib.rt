@@ -247,7 +247,7 @@ pub fn step_registers(
 pub fn rikzord_lowest(run: &[u8], span: u32, answers: &mut [u8]) -> u8
     ensures { (result ≡ lowest_refusal run.now span (length answers.old)) × (answers.new ≡ answers_after run.now span answers.old) }
 {
-    holding::lowest(run, span, answers)
+    verdict::refusal_of(holding::lowest(run, span, answers))
 }
 
 // ---- beside the machine: whether runs end as orders of whole cycles
