@@ -1,70 +1,81 @@
 // Which records a window holds, and which readings.
 use super::one_case::case;
+use std::io;
 
-pub fn windows() {
+pub fn windows(rt: &impl Print) -> io::Result<()> {
     case(
-        b"the lowest of all",
+        rt,
+        "the lowest of all",
         b"\x00\x00\x00\x00\xE4\x02\xE8\x03\x00\x00\xD0\x02\xD0\x07\x00\x00\xDA\x02",
         5000,
         16,
-    );
+    )?;
     case(
-        b"a record exactly W before",
+        rt,
+        "a record exactly W before",
         b"\x00\x00\x00\x00\x01\x00\xE8\x03\x00\x00\x02\x00\xD0\x07\x00\x00\x03\x00",
         1000,
         16,
-    );
+    )?;
     case(
-        b"a record one millisecond earlier",
+        rt,
+        "a record one millisecond earlier",
         b"\x00\x00\x00\x00\x01\x00\xE9\x03\x00\x00\x02\x00\xD2\x07\x00\x00\x03\x00",
         1000,
         16,
-    );
+    )?;
     case(
-        b"each record alone",
+        rt,
+        "each record alone",
         b"\x00\x00\x00\x00\xE4\x02\xE8\x03\x00\x00\xD0\x02\xD0\x07\x00\x00\xDA\x02",
         1,
         16,
-    );
+    )?;
     case(
-        b"times that repeat",
+        rt,
+        "times that repeat",
         b"\x07\x00\x00\x00\x05\x00\x07\x00\x00\x00\x04\x00\x07\x00\x00\x00\x06\x00\x08\x00\x00\x00\x09\x00",
         1,
         16,
-    );
-    readings();
+    )?;
+    readings(rt)
 }
 
 // Readings below zero, at the edges, and many.
-fn readings() {
+fn readings(rt: &impl Print) -> io::Result<()> {
     case(
-        b"a repeat at the window's edge",
+        rt,
+        "a repeat at the window's edge",
         b"\x00\x00\x00\x00\x03\x00\x00\x00\x00\x00\xFE\xFF\x00\x00\x00\x00\x08\x00\x05\x00\x00\x00\x06\x00",
         5,
         16,
-    );
+    )?;
     case(
-        b"readings below zero",
+        rt,
+        "readings below zero",
         b"\x00\x00\x00\x00\x03\x00\x01\x00\x00\x00\xFB\xFF\x02\x00\x00\x00\xFC\xFF\x03\x00\x00\x00\x00\x00",
         2,
         16,
-    );
+    )?;
     case(
-        b"the highest and the lowest INT",
+        rt,
+        "the highest and the lowest INT",
         b"\x00\x00\x00\x00\xFF\x7F\x01\x00\x00\x00\x00\x80\x02\x00\x00\x00\xFF\x7F",
         1,
         16,
-    );
+    )?;
     case(
-        b"seven records",
+        rt,
+        "seven records",
         b"\x00\x00\x00\x00\x09\x00\x0A\x00\x00\x00\x08\x00\x14\x00\x00\x00\x07\x00\x1E\x00\x00\x00\x06\x00\x28\x00\x00\x00\x09\x00\x32\x00\x00\x00\x08\x00\x3C\x00\x00\x00\x09\x00",
         25,
         16,
-    );
+    )?;
     case(
-        b"eight records, no place past them",
+        rt,
+        "eight records, no place past them",
         b"\x00\x00\x00\x00\x05\x00\x64\x00\x00\x00\x04\x00\xC8\x00\x00\x00\x06\x00\x2C\x01\x00\x00\x03\x00\x90\x01\x00\x00\x07\x00\xF4\x01\x00\x00\x02\x00\x58\x02\x00\x00\x08\x00\xBC\x02\x00\x00\x09\x00",
         200,
         16,
-    );
+    )
 }

@@ -12,11 +12,12 @@ mod time_range;
 
 use held_records::windows;
 use refusal_numbers::{precedence, refusals};
+use std::io;
 use time_range::ends;
 
-fn main() {
-    refusals();
-    precedence();
-    windows();
-    ends();
+fn main(rt: HostRuntime) -> io::Result<()> {
+    refusals(&rt)?;
+    precedence(&rt)?;
+    windows(&rt)?;
+    ends(&rt)
 }
