@@ -1,46 +1,48 @@
 // A file damaged byte by byte, and cut at each place.
 use super::changes::{put, put_all};
 use super::judging::begin;
-use super::printing::{number, text};
+use std::io;
 
 // The refusal of the first n bytes with b at place p.
-fn damage(f: &mut [u8], n: usize, p: usize, b: u8) {
+fn damage(rt: &impl Print, f: &mut [u8], n: usize, p: usize, b: u8) -> io::Result<()> {
     let old = memory::byte_at(f, p);
     put(f, p, b);
-    number(begin(f, n) as usize);
+    print!(rt; "{}", begin(f, n))?;
     put(f, p, old);
+    Ok(())
 }
 
 // Five other values of the byte at p.
-fn five(f: &mut [u8], n: usize, p: usize) {
+fn five(rt: &impl Print, f: &mut [u8], n: usize, p: usize) -> io::Result<()> {
     let old = memory::byte_at(f, p);
     for b in [0, 255, old ^ 1, old ^ 8, old ^ 128] {
-        damage(f, n, p, b);
+        damage(rt, f, n, p, b)?;
     }
+    Ok(())
 }
 
-fn damages(f: &mut [u8], n: usize) {
+fn damages(rt: &impl Print, f: &mut [u8], n: usize) -> io::Result<()> {
     for p in 0..n {
-        five(f, n, p);
+        five(rt, f, n, p)?;
         if p % 10 == 9 {
-            text(b"\n");
+            println!(rt;)?;
         } else {
-            text(b" ");
+            print!(rt; " ")?;
         }
     }
-    text(b"\n");
+    println!(rt;)
 }
 
-fn cuts(f: &[u8], n: usize) {
+fn cuts(rt: &impl Print, f: &[u8], n: usize) -> io::Result<()> {
     for i in 0..n {
-        number(begin(f, i) as usize);
+        print!(rt; "{}", begin(f, i))?;
     }
-    text(b"\n");
+    println!(rt;)
 }
 
-pub fn damaged(f: &[u8], n: usize) {
+pub fn damaged(rt: &impl Print, f: &[u8], n: usize) -> io::Result<()> {
     let mut g = [0u8; 512];
     put_all(&mut g, f);
-    damages(&mut g, n);
-    cuts(&g, n);
+    damages(rt, &mut g, n)?;
+    cuts(rt, &g, n)
 }

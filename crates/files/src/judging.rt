@@ -1,9 +1,11 @@
 // The refusal of a file, or of its beginning.
 use super::printing::show;
+use std::io;
+use verdict::refusal_of;
 
 // The refusal of a whole file.
-pub fn file(label: &[u8], f: &[u8]) {
-    show(label, file_judging::judge_file(f) as usize);
+pub fn file(rt: &impl Print, label: &str, f: &[u8]) -> io::Result<()> {
+    show(rt, label, refusal_of(file_judging::judge_file(f)) as usize)
 }
 
 // The refusal of the first n bytes.
@@ -11,5 +13,5 @@ pub fn begin(f: &[u8], n: usize) -> u8 {
     if f.len() < n {
         return 99;
     }
-    file_judging::judge_file(&f[..n])
+    refusal_of(file_judging::judge_file(&f[..n]))
 }

@@ -4,6 +4,7 @@ ghost use Rattle.std.specs.Prelude.{◌≤◌};
 use super::changes::{put, put_all, put_word};
 use super::judging::begin;
 use super::printing::show;
+use std::io;
 
 fn power(k: usize) -> u8
     ensures { result ≤ 8 }
@@ -59,23 +60,23 @@ fn put_adds(f: &mut [u8]) {
     }
 }
 
-pub fn large() {
+pub fn large(rt: &impl Print) -> io::Result<()> {
     let mut f = largest();
-    show(b"largest", begin(&f, 33574) as usize);
-    show(b"largest cut", begin(&f, 33573) as usize);
-    show(b"largest and one", begin(&f, 33575) as usize);
+    show(rt, "largest", begin(&f, 33574) as usize)?;
+    show(rt, "largest cut", begin(&f, 33573) as usize)?;
+    show(rt, "largest and one", begin(&f, 33575) as usize)?;
     put(&mut f, 29, 65);
-    show(b"65 variables", begin(&f, 33574) as usize);
+    show(rt, "65 variables", begin(&f, 33574) as usize)?;
     put(&mut f, 29, 63);
-    show(b"63 of 64 variables", begin(&f, 33574) as usize);
+    show(rt, "63 of 64 variables", begin(&f, 33574) as usize)?;
     put(&mut f, 29, 64);
     put_word(&mut f, 30 + 12 * 63, 1001);
-    show(b"last pair apart", begin(&f, 33574) as usize);
+    show(rt, "last pair apart", begin(&f, 33574) as usize)?;
     put_word(&mut f, 30 + 12 * 63, 999);
-    show(b"last pair overlaps", begin(&f, 33574) as usize);
+    show(rt, "last pair overlaps", begin(&f, 33574) as usize)?;
     put_word(&mut f, 30 + 12 * 63, 1008);
     put_adds(&mut f);
-    show(b"largest of ADD", begin(&f, 33574) as usize);
+    show(rt, "largest of ADD", begin(&f, 33574) as usize)?;
     put(&mut f, 33573, 17);
-    show(b"last byte cut", begin(&f, 33574) as usize);
+    show(rt, "last byte cut", begin(&f, 33574) as usize)
 }

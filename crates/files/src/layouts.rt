@@ -1,27 +1,29 @@
 // Where everything stands in a file, printed.
-use super::printing::{number, show, text};
+use super::printing::show;
+use std::io;
+use taskset::{CoreLayout, Layout};
 
-fn core(c: taskset::CoreLayout) {
-    number(c.size);
-    text(b" ");
-    number(c.inputs);
-    text(b" ");
-    number(c.limit as usize);
-    text(b" ");
-    number(c.base);
-    text(b" ");
-    number(c.code);
-    text(b" ");
-    show(b"", c.length);
+fn core(rt: &impl Print, c: CoreLayout) -> io::Result<()> {
+    println!(rt;
+        "{} {} {} {} {}  {}",
+        c.size, c.inputs, c.limit, c.base, c.code, c.length
+    )
 }
 
-pub fn layout(f: &[u8]) {
-    let a = file_loading::load_file(f);
-    let l = a.layout;
-    show(b"cores", l.cores);
-    show(b"variables", l.variables);
-    show(b"first record", l.first);
+// Of a refused file nothing stands anywhere.
+pub fn layout(rt: &impl Print, f: &[u8]) -> io::Result<()> {
+    let none = Layout {
+        cores: 0,
+        variables: 0,
+        first: 0,
+        core: [taskset::no_core(); 4],
+    };
+    let l = file_loading::load_file(f).unwrap_or(none);
+    show(rt, "cores", l.cores)?;
+    show(rt, "variables", l.variables)?;
+    show(rt, "first record", l.first)?;
     for c in l.core {
-        core(c);
+        core(rt, c)?;
     }
+    Ok(())
 }

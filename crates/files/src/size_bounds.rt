@@ -2,6 +2,7 @@
 use super::changes::{put_all, put_word};
 use super::judging::begin;
 use super::printing::show;
+use std::io;
 
 fn one_core(size: u16, length: u16) -> u8 {
     let mut f = [0u8; 8207];
@@ -11,11 +12,11 @@ fn one_core(size: u16, length: u16) -> u8 {
     begin(&f, 14 + length as usize)
 }
 
-pub fn bounds() {
-    show(b"data 0", one_core(0, 1) as usize);
-    show(b"data 4096", one_core(4096, 1) as usize);
-    show(b"data 4097", one_core(4097, 1) as usize);
-    show(b"code 0", one_core(1, 0) as usize);
-    show(b"code 8192", one_core(1, 8192) as usize);
-    show(b"code 8193", one_core(1, 8193) as usize);
+pub fn bounds(rt: &impl Print) -> io::Result<()> {
+    show(rt, "data 0", one_core(0, 1) as usize)?;
+    show(rt, "data 4096", one_core(4096, 1) as usize)?;
+    show(rt, "data 4097", one_core(4097, 1) as usize)?;
+    show(rt, "code 0", one_core(1, 0) as usize)?;
+    show(rt, "code 8192", one_core(1, 8192) as usize)?;
+    show(rt, "code 8193", one_core(1, 8193) as usize)
 }

@@ -1,40 +1,42 @@
 // Traces of a file: where their records stand, and their cuts.
-use super::printing::{number, show, text};
+use super::printing::show;
+use std::io;
+use taskset::TraceLayout;
+use verdict::refusal_of;
 
 // The refusal of the first n bytes of a trace.
 fn begin_trace(f: &[u8], t: &[u8], n: usize) -> u8 {
     if t.len() < n {
         return 99;
     }
-    traces::judge_trace(f, &t[..n])
+    refusal_of(traces::judge_trace(f, &t[..n]))
 }
 
-fn trace_cuts(f: &[u8], t: &[u8], n: usize) {
+fn trace_cuts(rt: &impl Print, f: &[u8], t: &[u8], n: usize) -> io::Result<()> {
     for i in 0..n {
-        text(b" ");
-        number(begin_trace(f, t, i) as usize);
+        print!(rt; " {}", begin_trace(f, t, i))?;
     }
-    text(b"\n");
+    println!(rt;)
 }
 
-fn records_of(count: u16, first: usize) {
-    show(b"records", count as usize);
-    show(b"from", first);
-}
-
-pub fn trace(f: &[u8], t: &[u8]) {
-    let l = traces::load_trace(f, t);
-    show(b"trace", l.refusal as usize);
-    let count = l.count;
-    let first = l.first;
-    records_of(count[0], first[0]);
-    records_of(count[1], first[1]);
-    records_of(count[2], first[2]);
-    records_of(count[3], first[3]);
+// Of a refused trace there are no records.
+pub fn trace(rt: &impl Print, f: &[u8], t: &[u8]) -> io::Result<()> {
+    let loaded = traces::load_trace(f, t);
+    show(rt, "trace", refusal_of(loaded) as usize)?;
+    let none = TraceLayout {
+        count: [0; 4],
+        first: [0; 4],
+    };
+    let layout = loaded.unwrap_or(none);
+    for k in 0..4 {
+        show(rt, "records", layout.count[k] as usize)?;
+        show(rt, "from", layout.first[k])?;
+    }
+    Ok(())
 }
 
 // A trace, then its cuts.
-pub fn traced(f: &[u8], t: &[u8], n: usize) {
-    trace(f, t);
-    trace_cuts(f, t, n);
+pub fn traced(rt: &impl Print, f: &[u8], t: &[u8], n: usize) -> io::Result<()> {
+    trace(rt, f, t)?;
+    trace_cuts(rt, f, t, n)
 }
