@@ -8,35 +8,7 @@ ghost use Rattle.code.specs.Code.{judge_code};
 
 use code::Profile;
 use protocol::{Outcome, Registers};
-
-fn text(s: &[u8]) {
-    io::write_all(1, s);
-}
-
-fn number(n: usize) {
-    text(b" ");
-    io::print_decimal(1, n as u64);
-}
-
-fn show_byte(b: u8) {
-    text(b" ");
-    io::print_hex(1, b as u64, 2);
-}
-
-fn show_bytes(s: &[u8]) {
-    for b in s {
-        show_byte(*b);
-    }
-}
-
-fn show(r: Registers) {
-    number(r.mode as usize);
-    number(r.counter as usize);
-    number(r.offset as usize);
-    number(r.depth as usize);
-    number(r.count as usize);
-    number(r.flags as usize);
-}
+use std::io::{Result, Write, writer};
 
 // ---- one cycle
 
@@ -137,69 +109,66 @@ fn cycle(code: &[u8], d: &mut [u8], limit: u16) -> Registers
 }
 
 // One cycle of accepted code on lent data, and what it leaves.
-fn report(code: &[u8], d: &mut [u8], limit: u16)
+fn report(rt: &impl Print, code: &[u8], d: &mut [u8], limit: u16) -> Result<()>
     requires { (judge_code code.now ≡ 0) × (length code.now ≤ 8192) }
 {
-    show(cycle(code, d, limit));
-    text(b" |");
-    show_bytes(d);
-    text(b"\n");
+    let r = cycle(code, d, limit);
+    print!(rt;
+        " {} {} {} {} {} {} |",
+        r.mode, r.counter, r.offset, r.depth, r.count, r.flags
+    )?;
+    for b in d {
+        print!(rt; " {b:02x}")?;
+    }
+    println!(rt;)
 }
 
 // A program on these data.
-fn run(label: &[u8], code: &[u8], data: &[u8], limit: u16) {
-    text(label);
-    text(b":");
+fn run(rt: &impl Print, code: &[u8], data: &[u8], limit: u16) -> Result<()> {
     if 8192 < code.len() {
-        return;
+        return Ok(());
     }
-    let refusal = code_judging::judge_code_for(Profile::Full, code);
-    if refusal != 0 {
-        text(b" refused");
-        number(refusal as usize);
-        text(b"\n");
-        return;
+    if let Err(refusal) = code_judging::judge_code_for(Profile::Full, code) {
+        return println!(rt; " refused {}", refusal.number());
     }
     let n = data.len();
     if 4096 < n {
-        return;
+        return Ok(());
     }
     let mut d = [0u8; 4096];
     memory::copy(&mut d, 0, data, 0, n);
-    report(code, &mut d[..n], limit);
+    report(rt, code, &mut d[..n], limit)
 }
 
 // ---- the cases
 
 // One line: name, code, data, limit.
-fn case(line: &[u8]) {
+fn case(rt: &impl Print, line: &[u8]) -> Result<()> {
     if !cases::is_case(line) {
-        return;
+        return Ok(());
     }
     let mut code = [0u8; 256];
     let c = cases::bytes(line, 1, &mut code);
     let mut data = [0u8; 256];
     let d = cases::bytes(line, 2, &mut data);
     let n = cases::name_end(line);
-    run(
-        &line[..n],
-        &code[..c],
-        &data[..d],
-        cases::number(line, 3) as u16,
-    );
+    writer(rt).write_all(&line[..n])?;
+    print!(rt; ":")?;
+    run(rt, &code[..c], &data[..d], cases::number(line, 3) as u16)
 }
 
-fn lines(text: &[u8]) {
+fn lines(rt: &impl Print, text: &[u8]) -> Result<()> {
     let mut from: usize = 0;
     while from < text.len() {
         let end = cases::line_end(text, from);
-        case(&text[from..end]);
+        case(rt, &text[from..end])?;
         from = end + 1;
     }
+    Ok(())
 }
 
-fn main() {
+fn main(rt: HostRuntime) -> Result<()> {
     let mut space = io::large_buffer();
     let n = io::read_full(0, &mut space);
-    lines(&space[..n]);
+    lines(&rt, &space[..n])
 }
