@@ -3,15 +3,8 @@
 #![tactic(auto)]
 
 use input_files::read_file;
-use taskset::{CoreLayout, Layout};
-
-fn text(s: &[u8]) {
-    io::write_all(1, s);
-}
-
-fn number(n: usize) {
-    io::print_decimal(1, n as u64);
-}
+use std::io;
+use taskset::Layout;
 
 // ---- lines of eight bytes
 
@@ -21,64 +14,58 @@ fn used(s: &[u8]) -> usize {
 }
 
 // Byte i, with the start and the end of its line.
-fn show_byte(label: &[u8], i: usize, b: u8) {
+fn show_byte(rt: &impl Print, label: &str, i: usize, b: u8) -> io::Result<()> {
     if i % 8 == 0 {
-        text(label);
-        number(i);
-        text(b":");
+        print!(rt; "{label}{i}:")?;
     }
-    text(b" ");
-    io::print_hex(1, b as u64, 2);
+    print!(rt; " {b:02x}")?;
     if i % 8 == 7 {
-        text(b"\n");
+        println!(rt;)?;
     }
+    Ok(())
 }
 
-fn show_bytes(label: &[u8], s: &[u8]) {
+fn show_bytes(rt: &impl Print, label: &str, s: &[u8]) -> io::Result<()> {
     let end = used(s);
     for (i, b) in s.iter().enumerate() {
         if end <= i && i % 8 == 0 {
-            return;
+            return Ok(());
         }
-        show_byte(label, i, *b);
+        show_byte(rt, label, i, *b)?;
     }
     if s.len() % 8 != 0 {
-        text(b"\n");
+        println!(rt;)?;
     }
+    Ok(())
 }
 
 // ---- the memories
 
 // The n bytes at a place of the data buffer.
-fn show_part(label: &[u8], s: &[u8], place: usize, n: usize) {
+fn show_part(rt: &impl Print, label: &str, s: &[u8], place: usize, n: usize) -> io::Result<()> {
     if n <= s.len() && place <= s.len() - n {
-        show_bytes(label, &s[place..place + n]);
+        show_bytes(rt, label, &s[place..place + n])?;
     }
-}
-
-fn show_core(label: &[u8], buffer: &[u8], c: CoreLayout) {
-    show_part(label, buffer, c.base, c.size);
+    Ok(())
 }
 
 // A core that the file does not have has no data, and no lines.
-fn show_memories(layout: Layout, buffer: &[u8], shared: &[u8]) {
-    let core = layout.core;
-    show_core(b"core 0 at ", buffer, core[0]);
-    show_core(b"core 1 at ", buffer, core[1]);
-    show_core(b"core 2 at ", buffer, core[2]);
-    show_core(b"core 3 at ", buffer, core[3]);
-    show_bytes(b"shared at ", shared);
+fn show_memories(rt: &impl Print, layout: Layout, buffer: &[u8], shared: &[u8]) -> io::Result<()> {
+    let labels = ["core 0 at ", "core 1 at ", "core 2 at ", "core 3 at "];
+    for (label, c) in labels.iter().zip(&layout.core) {
+        show_part(rt, label, buffer, c.base, c.size)?;
+    }
+    show_bytes(rt, "shared at ", shared)
 }
 
 // ---- the run
 
-fn refused(n: u8) {
-    text(b"refused ");
-    number(n as usize);
-    text(b"\n");
+fn refused(rt: &impl Print, number: u8) -> io::Result<()> {
+    println!(rt; "refused {number}")
 }
 
 fn show_run(
+    rt: &impl Print,
     file: &[u8],
     trace: &[u8],
     order: &[u8],
@@ -86,62 +73,47 @@ fn show_run(
     buffer: &mut [u8],
     shared: &mut [u8],
     list: &mut [u8],
-) {
+) -> io::Result<()> {
     let begun = machine::fresh(file, buffer, shared);
     if begun.refusal != 0 {
-        refused(begun.refusal);
-        return;
+        return refused(rt, begun.refusal);
     }
     let ran = runs::run(file, trace, begun.state, buffer, shared, order, list);
     if ran.refusal != 0 {
-        refused(ran.refusal);
-        return;
+        return refused(rt, ran.refusal);
     }
-    show_memories(layout, buffer, shared);
+    show_memories(rt, layout, buffer, shared)
 }
 
 // With as much of the data buffer as the file asks for.
-fn run_in(file: &[u8], trace: &[u8], order: &[u8], layout: Layout, n: usize, buffer: &mut [u8]) {
+fn run_files(rt: &impl Print, file: &[u8], trace: &[u8], order: &[u8]) -> io::Result<()> {
+    let layout = match file_loading::load_file(file) {
+        Ok(layout) => layout,
+        Err(refusal) => return refused(rt, refusal.number()),
+    };
+    let mut buffer = [0u8; 16384];
     let mut shared = [0u8; 1024];
     let mut list = [0u8; 4096];
-    if buffer.len() < n {
-        return;
-    }
+    let size = machine::buffer_size(file);
     show_run(
+        rt,
         file,
         trace,
         order,
         layout,
-        &mut buffer[..n],
+        &mut buffer[..size],
         &mut shared,
         &mut list,
-    );
-}
-
-fn run_files(file: &[u8], trace: &[u8], order: &[u8]) {
-    let loaded = file_loading::load_file(file);
-    if loaded.refusal != 0 {
-        refused(loaded.refusal);
-        return;
-    }
-    let mut buffer = [0u8; 16384];
-    run_in(
-        file,
-        trace,
-        order,
-        loaded.layout,
-        machine::buffer_size(file),
-        &mut buffer,
-    );
+    )
 }
 
 // A missing file counts as empty.
-fn main(rt: HostRuntime) {
+fn main(rt: HostRuntime) -> io::Result<()> {
     let mut file = [0u8; 82800];
     let mut trace = [0u8; 4096];
     let mut order = [0u8; 4096];
     let f = read_file(&rt, "task.bin", &mut file);
     let t = read_file(&rt, "trace.bin", &mut trace);
     let o = read_file(&rt, "order.bin", &mut order);
-    run_files(&file[..f], &trace[..t], &order[..o]);
+    run_files(&rt, &file[..f], &trace[..t], &order[..o])
 }
