@@ -1,9 +1,8 @@
-// AND OR XOR NOT and SHL SHR ROL ROR, on values and from memory to memory.
-// Not here: the other typed commands (crates `arithmetic` and `comparisons`); what they share (crate `commands`).
-#![tactic(auto)]
+// AND OR XOR NOT, and SHL SHR ROL ROR by a BYTE count.
+// Not here: the other typed commands (crates `arithmetic` and `comparisons`); what all of them share (crate `commands`).
 
 mod logic;
 mod shifts;
 
-pub use logic::{and, and_typed, not, not_typed, or, or_typed, xor, xor_typed};
-pub use shifts::{rol, rol_typed, ror, ror_typed, shl, shl_typed, shr, shr_typed};
+pub use logic::{And, Not, Or, Xor};
+pub use shifts::{RotateLeft, RotateRight, ShiftLeft, ShiftRight};

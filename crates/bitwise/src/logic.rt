@@ -1,149 +1,121 @@
-// AND OR XOR NOT, on values, and from memory to memory by two functions each, as in `arithmetic`.
-ghost use Rattle.std.specs.Prelude.{◌≡◌, true, ◌+◌, ◌≤◌, length};
-ghost use Rattle.memory.specs.Memory.{read_le};
-ghost use Rattle.values.specs.Types.{width_of, takes};
-ghost use Rattle.values.specs.Width.{Width};
-ghost use Rattle.values.specs.Commands.{AND, OR, XOR, NOT, command};
-ghost use Rattle.commands.specs.Attempts.{attempt, attempted, OperandsGiven, Inside};
+// AND OR XOR NOT.
+#![tactic(auto, unfolding(values::specs::Commands::on_kinds, values::specs::Commands::on_bits, values::specs::Commands::AND, values::specs::Commands::OR, values::specs::Commands::XOR, values::specs::Commands::NOT))]
 
-use commands::{Operands, Performed, put};
-use values::{Value, pattern_of, read_value as read};
+ghost use Rattle.std.specs.Prelude.{refl};
+ghost use Rattle.values.specs.Commands.{AND, OR, XOR, NOT};
+ghost use Rattle.commands.proofs.Laws.{two_sources, no_second, and_listed, or_listed, xor_listed, not_listed};
 
-pub fn and(a: Value, b: Value) -> Value
-    ensures { result ≡ AND a b }
-{
-    match a {
-        Value::Bool(x) => Value::Bool(x & values::truth_in(b)),
-        Value::Signed(x) => Value::Signed(x),
-        Value::Unsigned(x) => Value::Unsigned(x & values::unsigned_in(b)),
-        Value::Real(x) => Value::Real(x),
-        Value::Lreal(x) => Value::Lreal(x),
+use commands::Command;
+use values::Value;
+
+pub struct And;
+
+impl Command for And {
+    type Second = Value;
+
+    const CODE: u8 = 24;
+
+    ghost CODE = { 24 };
+
+    ghost gives = { λ w. AND };
+
+    fn apply(_w: usize, a: Value, b: Value) -> Value {
+        match a {
+            Value::Bool(x) => Value::Bool(x & values::truth_in(b)),
+            Value::Signed(x) => Value::Signed(x),
+            Value::Unsigned(x) => Value::Unsigned(x & values::unsigned_in(b)),
+            Value::Real(x) => Value::Real(x),
+            Value::Lreal(x) => Value::Lreal(x),
+        }
     }
+
+    ghost second_is = { λ t. two_sources 24 t refl refl };
+
+    ghost can_be = { λ t p q taken whole. record {} };
+
+    ghost gives_is = { λ t p q. and_listed _ _ _ _ };
 }
 
-pub fn or(a: Value, b: Value) -> Value
-    ensures { result ≡ OR a b }
-{
-    match a {
-        Value::Bool(x) => Value::Bool(x | values::truth_in(b)),
-        Value::Signed(x) => Value::Signed(x),
-        Value::Unsigned(x) => Value::Unsigned(x | values::unsigned_in(b)),
-        Value::Real(x) => Value::Real(x),
-        Value::Lreal(x) => Value::Lreal(x),
+pub struct Or;
+
+impl Command for Or {
+    type Second = Value;
+
+    const CODE: u8 = 25;
+
+    ghost CODE = { 25 };
+
+    ghost gives = { λ w. OR };
+
+    fn apply(_w: usize, a: Value, b: Value) -> Value {
+        match a {
+            Value::Bool(x) => Value::Bool(x | values::truth_in(b)),
+            Value::Signed(x) => Value::Signed(x),
+            Value::Unsigned(x) => Value::Unsigned(x | values::unsigned_in(b)),
+            Value::Real(x) => Value::Real(x),
+            Value::Lreal(x) => Value::Lreal(x),
+        }
     }
+
+    ghost second_is = { λ t. two_sources 25 t refl refl };
+
+    ghost can_be = { λ t p q taken whole. record {} };
+
+    ghost gives_is = { λ t p q. or_listed _ _ _ _ };
 }
 
-pub fn xor(a: Value, b: Value) -> Value
-    ensures { result ≡ XOR a b }
-{
-    match a {
-        Value::Bool(x) => Value::Bool(x != values::truth_in(b)),
-        Value::Signed(x) => Value::Signed(x),
-        Value::Unsigned(x) => Value::Unsigned(x ^ values::unsigned_in(b)),
-        Value::Real(x) => Value::Real(x),
-        Value::Lreal(x) => Value::Lreal(x),
+pub struct Xor;
+
+impl Command for Xor {
+    type Second = Value;
+
+    const CODE: u8 = 26;
+
+    ghost CODE = { 26 };
+
+    ghost gives = { λ w. XOR };
+
+    fn apply(_w: usize, a: Value, b: Value) -> Value {
+        match a {
+            Value::Bool(x) => Value::Bool(x != values::truth_in(b)),
+            Value::Signed(x) => Value::Signed(x),
+            Value::Unsigned(x) => Value::Unsigned(x ^ values::unsigned_in(b)),
+            Value::Real(x) => Value::Real(x),
+            Value::Lreal(x) => Value::Lreal(x),
+        }
     }
+
+    ghost second_is = { λ t. two_sources 26 t refl refl };
+
+    ghost can_be = { λ t p q taken whole. record {} };
+
+    ghost gives_is = { λ t p q. xor_listed _ _ _ _ };
 }
 
-pub fn not(w: usize, a: Value) -> Value
-    requires { Width w }
-    ensures { result ≡ NOT w a }
-{
-    match a {
-        Value::Bool(x) => Value::Bool(!x),
-        Value::Signed(x) => Value::Signed(x),
-        Value::Unsigned(x) => Value::Unsigned(values::flip(w, x)),
-        Value::Real(x) => Value::Real(x),
-        Value::Lreal(x) => Value::Lreal(x),
+pub struct Not;
+
+impl Command for Not {
+    type Second = ();
+
+    const CODE: u8 = 27;
+
+    ghost CODE = { 27 };
+
+    ghost gives = { λ w a b. NOT w a };
+
+    fn apply(w: usize, a: Value, _b: ()) -> Value {
+        match a {
+            Value::Bool(x) => Value::Bool(!x),
+            Value::Signed(x) => Value::Signed(x),
+            Value::Unsigned(x) => Value::Unsigned(values::flip(w, x)),
+            Value::Real(x) => Value::Real(x),
+            Value::Lreal(x) => Value::Lreal(x),
+        }
     }
-}
 
-fn and_of(d: &[u8], t: u8, a: usize, b: usize) -> u64
-    requires { (takes 24 t ≡ true) × (a + width_of t ≤ length d.now) × (b + width_of t ≤ length d.now) }
-    ensures { result ≡ command 24 t (read_le d.now a (width_of t)) (read_le d.now b (width_of t)) }
-{
-    match t {
-        0 => pattern_of(1, and(read(d, 0, a), read(d, 0, b))),
-        2 => pattern_of(1, and(read(d, 2, a), read(d, 2, b))),
-        4 => pattern_of(2, and(read(d, 4, a), read(d, 4, b))),
-        6 => pattern_of(4, and(read(d, 6, a), read(d, 6, b))),
-        _ => pattern_of(8, and(read(d, 8, a), read(d, 8, b))),
-    }
-}
+    ghost second_is = { λ t. no_second 27 t refl refl };
 
-pub fn and_typed(d: &mut [u8], t: u8, o: Operands) -> Performed
-    requires { (o.kind ≡ t) × OperandsGiven 24 o × Inside 24 o d.old }
-    ensures { attempt result d.new ≡ attempted 24 o d.old }
-{
-    put(
-        d,
-        values::width_of(t),
-        o.to,
-        and_of(d, t, o.first, o.second),
-    )
-}
+    ghost can_be = { λ t p q taken whole. record {} };
 
-fn or_of(d: &[u8], t: u8, a: usize, b: usize) -> u64
-    requires { (takes 25 t ≡ true) × (a + width_of t ≤ length d.now) × (b + width_of t ≤ length d.now) }
-    ensures { result ≡ command 25 t (read_le d.now a (width_of t)) (read_le d.now b (width_of t)) }
-{
-    match t {
-        0 => pattern_of(1, or(read(d, 0, a), read(d, 0, b))),
-        2 => pattern_of(1, or(read(d, 2, a), read(d, 2, b))),
-        4 => pattern_of(2, or(read(d, 4, a), read(d, 4, b))),
-        6 => pattern_of(4, or(read(d, 6, a), read(d, 6, b))),
-        _ => pattern_of(8, or(read(d, 8, a), read(d, 8, b))),
-    }
-}
-
-pub fn or_typed(d: &mut [u8], t: u8, o: Operands) -> Performed
-    requires { (o.kind ≡ t) × OperandsGiven 25 o × Inside 25 o d.old }
-    ensures { attempt result d.new ≡ attempted 25 o d.old }
-{
-    put(d, values::width_of(t), o.to, or_of(d, t, o.first, o.second))
-}
-
-fn xor_of(d: &[u8], t: u8, a: usize, b: usize) -> u64
-    requires { (takes 26 t ≡ true) × (a + width_of t ≤ length d.now) × (b + width_of t ≤ length d.now) }
-    ensures { result ≡ command 26 t (read_le d.now a (width_of t)) (read_le d.now b (width_of t)) }
-{
-    match t {
-        0 => pattern_of(1, xor(read(d, 0, a), read(d, 0, b))),
-        2 => pattern_of(1, xor(read(d, 2, a), read(d, 2, b))),
-        4 => pattern_of(2, xor(read(d, 4, a), read(d, 4, b))),
-        6 => pattern_of(4, xor(read(d, 6, a), read(d, 6, b))),
-        _ => pattern_of(8, xor(read(d, 8, a), read(d, 8, b))),
-    }
-}
-
-pub fn xor_typed(d: &mut [u8], t: u8, o: Operands) -> Performed
-    requires { (o.kind ≡ t) × OperandsGiven 26 o × Inside 26 o d.old }
-    ensures { attempt result d.new ≡ attempted 26 o d.old }
-{
-    put(
-        d,
-        values::width_of(t),
-        o.to,
-        xor_of(d, t, o.first, o.second),
-    )
-}
-
-fn not_of(d: &[u8], t: u8, a: usize) -> u64
-    requires { (takes 27 t ≡ true) × (a + width_of t ≤ length d.now) }
-    ensures { result ≡ command 27 t (read_le d.now a (width_of t)) 0 }
-{
-    match t {
-        0 => pattern_of(1, not(1, read(d, 0, a))),
-        2 => pattern_of(1, not(1, read(d, 2, a))),
-        4 => pattern_of(2, not(2, read(d, 4, a))),
-        6 => pattern_of(4, not(4, read(d, 6, a))),
-        _ => pattern_of(8, not(8, read(d, 8, a))),
-    }
-}
-
-pub fn not_typed(d: &mut [u8], t: u8, o: Operands) -> Performed
-    requires { (o.kind ≡ t) × OperandsGiven 27 o × Inside 27 o d.old }
-    ensures { attempt result d.new ≡ attempted 27 o d.old }
-{
-    put(d, values::width_of(t), o.to, not_of(d, t, o.first))
+    ghost gives_is = { λ t p q. not_listed _ _ _ _ };
 }

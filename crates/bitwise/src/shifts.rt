@@ -1,162 +1,121 @@
-// SHL SHR ROL ROR, by a BYTE count, on values, and from memory to memory by two functions each, as in `arithmetic`.
-ghost use Rattle.std.specs.Prelude.{◌≡◌, true, ◌+◌, ◌≤◌, ◌<◌, length};
-ghost use Rattle.memory.specs.Memory.{read_le};
-ghost use Rattle.values.specs.Types.{width_of, takes};
-ghost use Rattle.values.specs.Width.{Width};
-ghost use Rattle.values.specs.Commands.{SHL, SHR, ROL, ROR, command};
-ghost use Rattle.commands.specs.Attempts.{attempt, attempted, OperandsGiven, Inside};
+// SHL SHR ROL ROR, by a BYTE count.
+#![tactic(auto, unfolding(values::specs::Commands::on_bits, values::specs::Commands::SHL, values::specs::Commands::SHR, values::specs::Commands::ROL, values::specs::Commands::ROR))]
 
-use commands::{Operands, Performed, put};
-use values::{Value, pattern_of, read_value as read};
+ghost use Rattle.std.specs.Prelude.{refl};
+ghost use Rattle.values.specs.Commands.{SHL, SHR, ROL, ROR};
+ghost use Rattle.commands.proofs.Laws.{a_count, shl_listed, shr_listed, rol_listed, ror_listed};
 
-pub fn shl(w: usize, a: Value, count: u8) -> Value
-    requires { Width w }
-    ensures { result ≡ SHL w a count }
-{
-    match a {
-        Value::Bool(x) => Value::Bool(x),
-        Value::Signed(x) => Value::Signed(x),
-        Value::Unsigned(x) => Value::Unsigned(values::shift_left(w, x, count)),
-        Value::Real(x) => Value::Real(x),
-        Value::Lreal(x) => Value::Lreal(x),
+use commands::Command;
+use values::Value;
+
+pub struct ShiftLeft;
+
+impl Command for ShiftLeft {
+    type Second = u8;
+
+    const CODE: u8 = 28;
+
+    ghost CODE = { 28 };
+
+    ghost gives = { SHL };
+
+    fn apply(w: usize, a: Value, count: u8) -> Value {
+        match a {
+            Value::Bool(x) => Value::Bool(x),
+            Value::Signed(x) => Value::Signed(x),
+            Value::Unsigned(x) => Value::Unsigned(values::shift_left(w, x, count)),
+            Value::Real(x) => Value::Real(x),
+            Value::Lreal(x) => Value::Lreal(x),
+        }
     }
+
+    ghost second_is = { λ t. a_count 28 t refl };
+
+    ghost can_be = { λ t p q taken whole. record {} };
+
+    ghost gives_is = { λ t p q. shl_listed _ _ _ _ };
 }
 
-pub fn shr(w: usize, a: Value, count: u8) -> Value
-    requires { Width w }
-    ensures { result ≡ SHR w a count }
-{
-    match a {
-        Value::Bool(x) => Value::Bool(x),
-        Value::Signed(x) => Value::Signed(x),
-        Value::Unsigned(x) => Value::Unsigned(values::shift_right(w, x, count)),
-        Value::Real(x) => Value::Real(x),
-        Value::Lreal(x) => Value::Lreal(x),
+pub struct ShiftRight;
+
+impl Command for ShiftRight {
+    type Second = u8;
+
+    const CODE: u8 = 29;
+
+    ghost CODE = { 29 };
+
+    ghost gives = { SHR };
+
+    fn apply(w: usize, a: Value, count: u8) -> Value {
+        match a {
+            Value::Bool(x) => Value::Bool(x),
+            Value::Signed(x) => Value::Signed(x),
+            Value::Unsigned(x) => Value::Unsigned(values::shift_right(w, x, count)),
+            Value::Real(x) => Value::Real(x),
+            Value::Lreal(x) => Value::Lreal(x),
+        }
     }
+
+    ghost second_is = { λ t. a_count 29 t refl };
+
+    ghost can_be = { λ t p q taken whole. record {} };
+
+    ghost gives_is = { λ t p q. shr_listed _ _ _ _ };
 }
 
-pub fn rol(w: usize, a: Value, count: u8) -> Value
-    requires { Width w }
-    ensures { result ≡ ROL w a count }
-{
-    match a {
-        Value::Bool(x) => Value::Bool(x),
-        Value::Signed(x) => Value::Signed(x),
-        Value::Unsigned(x) => Value::Unsigned(values::rotate_left(w, x, count)),
-        Value::Real(x) => Value::Real(x),
-        Value::Lreal(x) => Value::Lreal(x),
+pub struct RotateLeft;
+
+impl Command for RotateLeft {
+    type Second = u8;
+
+    const CODE: u8 = 30;
+
+    ghost CODE = { 30 };
+
+    ghost gives = { ROL };
+
+    fn apply(w: usize, a: Value, count: u8) -> Value {
+        match a {
+            Value::Bool(x) => Value::Bool(x),
+            Value::Signed(x) => Value::Signed(x),
+            Value::Unsigned(x) => Value::Unsigned(values::rotate_left(w, x, count)),
+            Value::Real(x) => Value::Real(x),
+            Value::Lreal(x) => Value::Lreal(x),
+        }
     }
+
+    ghost second_is = { λ t. a_count 30 t refl };
+
+    ghost can_be = { λ t p q taken whole. record {} };
+
+    ghost gives_is = { λ t p q. rol_listed _ _ _ _ };
 }
 
-pub fn ror(w: usize, a: Value, count: u8) -> Value
-    requires { Width w }
-    ensures { result ≡ ROR w a count }
-{
-    match a {
-        Value::Bool(x) => Value::Bool(x),
-        Value::Signed(x) => Value::Signed(x),
-        Value::Unsigned(x) => Value::Unsigned(values::rotate_right(w, x, count)),
-        Value::Real(x) => Value::Real(x),
-        Value::Lreal(x) => Value::Lreal(x),
+pub struct RotateRight;
+
+impl Command for RotateRight {
+    type Second = u8;
+
+    const CODE: u8 = 31;
+
+    ghost CODE = { 31 };
+
+    ghost gives = { ROR };
+
+    fn apply(w: usize, a: Value, count: u8) -> Value {
+        match a {
+            Value::Bool(x) => Value::Bool(x),
+            Value::Signed(x) => Value::Signed(x),
+            Value::Unsigned(x) => Value::Unsigned(values::rotate_right(w, x, count)),
+            Value::Real(x) => Value::Real(x),
+            Value::Lreal(x) => Value::Lreal(x),
+        }
     }
-}
 
-fn shl_of(d: &[u8], t: u8, a: usize, b: usize) -> u64
-    requires { (takes 28 t ≡ true) × (a + width_of t ≤ length d.now) × (b < length d.now) }
-    ensures { result ≡ command 28 t (read_le d.now a (width_of t)) (read_le d.now b 1) }
-{
-    let n = d[b];
-    match t {
-        2 => pattern_of(1, shl(1, read(d, 2, a), n)),
-        4 => pattern_of(2, shl(2, read(d, 4, a), n)),
-        6 => pattern_of(4, shl(4, read(d, 6, a), n)),
-        _ => pattern_of(8, shl(8, read(d, 8, a), n)),
-    }
-}
+    ghost second_is = { λ t. a_count 31 t refl };
 
-pub fn shl_typed(d: &mut [u8], t: u8, o: Operands) -> Performed
-    requires { (o.kind ≡ t) × OperandsGiven 28 o × Inside 28 o d.old }
-    ensures { attempt result d.new ≡ attempted 28 o d.old }
-{
-    put(
-        d,
-        values::width_of(t),
-        o.to,
-        shl_of(d, t, o.first, o.second),
-    )
-}
+    ghost can_be = { λ t p q taken whole. record {} };
 
-fn shr_of(d: &[u8], t: u8, a: usize, b: usize) -> u64
-    requires { (takes 29 t ≡ true) × (a + width_of t ≤ length d.now) × (b < length d.now) }
-    ensures { result ≡ command 29 t (read_le d.now a (width_of t)) (read_le d.now b 1) }
-{
-    let n = d[b];
-    match t {
-        2 => pattern_of(1, shr(1, read(d, 2, a), n)),
-        4 => pattern_of(2, shr(2, read(d, 4, a), n)),
-        6 => pattern_of(4, shr(4, read(d, 6, a), n)),
-        _ => pattern_of(8, shr(8, read(d, 8, a), n)),
-    }
-}
-
-pub fn shr_typed(d: &mut [u8], t: u8, o: Operands) -> Performed
-    requires { (o.kind ≡ t) × OperandsGiven 29 o × Inside 29 o d.old }
-    ensures { attempt result d.new ≡ attempted 29 o d.old }
-{
-    put(
-        d,
-        values::width_of(t),
-        o.to,
-        shr_of(d, t, o.first, o.second),
-    )
-}
-
-fn rol_of(d: &[u8], t: u8, a: usize, b: usize) -> u64
-    requires { (takes 30 t ≡ true) × (a + width_of t ≤ length d.now) × (b < length d.now) }
-    ensures { result ≡ command 30 t (read_le d.now a (width_of t)) (read_le d.now b 1) }
-{
-    let n = d[b];
-    match t {
-        2 => pattern_of(1, rol(1, read(d, 2, a), n)),
-        4 => pattern_of(2, rol(2, read(d, 4, a), n)),
-        6 => pattern_of(4, rol(4, read(d, 6, a), n)),
-        _ => pattern_of(8, rol(8, read(d, 8, a), n)),
-    }
-}
-
-pub fn rol_typed(d: &mut [u8], t: u8, o: Operands) -> Performed
-    requires { (o.kind ≡ t) × OperandsGiven 30 o × Inside 30 o d.old }
-    ensures { attempt result d.new ≡ attempted 30 o d.old }
-{
-    put(
-        d,
-        values::width_of(t),
-        o.to,
-        rol_of(d, t, o.first, o.second),
-    )
-}
-
-fn ror_of(d: &[u8], t: u8, a: usize, b: usize) -> u64
-    requires { (takes 31 t ≡ true) × (a + width_of t ≤ length d.now) × (b < length d.now) }
-    ensures { result ≡ command 31 t (read_le d.now a (width_of t)) (read_le d.now b 1) }
-{
-    let n = d[b];
-    match t {
-        2 => pattern_of(1, ror(1, read(d, 2, a), n)),
-        4 => pattern_of(2, ror(2, read(d, 4, a), n)),
-        6 => pattern_of(4, ror(4, read(d, 6, a), n)),
-        _ => pattern_of(8, ror(8, read(d, 8, a), n)),
-    }
-}
-
-pub fn ror_typed(d: &mut [u8], t: u8, o: Operands) -> Performed
-    requires { (o.kind ≡ t) × OperandsGiven 31 o × Inside 31 o d.old }
-    ensures { attempt result d.new ≡ attempted 31 o d.old }
-{
-    put(
-        d,
-        values::width_of(t),
-        o.to,
-        ror_of(d, t, o.first, o.second),
-    )
+    ghost gives_is = { λ t p q. ror_listed _ _ _ _ };
 }

@@ -5,11 +5,11 @@
 ghost use Rattle.std.specs.Prelude.{◌≡◌};
 ghost use Rattle.commands.specs.Attempts.{attempt, attempted, OperandsGiven, ThreeOperands};
 
-use arithmetic::{add_typed, div_typed, modulo_typed, mul_typed, sub_typed};
+use arithmetic::{Addition, Division, Multiplication, Remainder, Subtraction};
 use beyond::typed_beyond;
-use bitwise::{and_typed, or_typed, rol_typed, ror_typed, shl_typed, shr_typed, xor_typed};
-use commands::{Operands, Performed};
-use comparisons::{eq_typed, ge_typed, gt_typed, le_typed, lt_typed, ne_typed};
+use bitwise::{And, Or, RotateLeft, RotateRight, ShiftLeft, ShiftRight, Xor};
+use commands::{Operands, Performed, typed};
+use comparisons::{Equal, Greater, GreaterOrEqual, Less, LessOrEqual, NotEqual};
 
 // A typed command with three operands, by its code byte. What executes an instruction is compiled into a loop only where it has one caller, so the loop over one core's
 // instructions and the one over cores in turn have each their own; this one is the shorter text.
@@ -22,23 +22,23 @@ pub fn typed_by_command(d: &mut [u8], op: u8, o: Operands) -> Performed
     }
     let t = o.kind;
     match op {
-        16 => add_typed(d, t, o),
-        17 => sub_typed(d, t, o),
-        18 => mul_typed(d, t, o),
-        19 => div_typed(d, t, o),
-        20 => modulo_typed(d, t, o),
-        24 => and_typed(d, t, o),
-        25 => or_typed(d, t, o),
-        26 => xor_typed(d, t, o),
-        28 => shl_typed(d, t, o),
-        29 => shr_typed(d, t, o),
-        30 => rol_typed(d, t, o),
-        31 => ror_typed(d, t, o),
-        32 => gt_typed(d, t, o),
-        33 => ge_typed(d, t, o),
-        34 => eq_typed(d, t, o),
-        35 => le_typed(d, t, o),
-        36 => lt_typed(d, t, o),
-        _ => ne_typed(d, t, o),
+        16 => typed::<Addition>(d, t, o),
+        17 => typed::<Subtraction>(d, t, o),
+        18 => typed::<Multiplication>(d, t, o),
+        19 => typed::<Division>(d, t, o),
+        20 => typed::<Remainder>(d, t, o),
+        24 => typed::<And>(d, t, o),
+        25 => typed::<Or>(d, t, o),
+        26 => typed::<Xor>(d, t, o),
+        28 => typed::<ShiftLeft>(d, t, o),
+        29 => typed::<ShiftRight>(d, t, o),
+        30 => typed::<RotateLeft>(d, t, o),
+        31 => typed::<RotateRight>(d, t, o),
+        32 => typed::<Greater>(d, t, o),
+        33 => typed::<GreaterOrEqual>(d, t, o),
+        34 => typed::<Equal>(d, t, o),
+        35 => typed::<LessOrEqual>(d, t, o),
+        36 => typed::<Less>(d, t, o),
+        _ => typed::<NotEqual>(d, t, o),
     }
 }

@@ -1,5 +1,4 @@
--- Laws of a command's answer, over its code byte and operands. In order: what is given; what the test of the addresses gives; a store by its width; the ways that a command ends;
--- the type that a `match` found. Assumes nothing.
+-- Laws of a command's answer, over its code byte and operands. In order: what is given; what the test of the addresses gives; a store by its width; the ways that a command ends. Assumes nothing.
 use Prim.Native.Nat.{ℕ, ◌+◌, ◌^◌, ◌≤◌, ◌<◌}
 use mathlib.Core.Bool.{Bool, true, false}
 use mathlib.Core.List.{List}
@@ -86,9 +85,3 @@ module _ (code : ℕ) (o : Operands) (s : List ℕ) (n m k : ℕ) (r : Bool) (e 
         h ∙ ap (λ (x : ℕ). attempt Done (splice s o.to (bytes_le n x))) i
         ∙ ap (λ (x : ℕ). attempt Done (splice s o.to (bytes_le x (command code o.kind (read_le s o.first (width_of o.kind)) (read_le s o.second (second_width code o.kind)))))) wide
         ∙ sym (pick-false _ _ _ (sym tested ∙ f) ∙ pick-false _ _ _ z)
-
--- ---- the type k that a `match` found
-
-pub command-at : (code t k : ℕ) (s : List ℕ) (a b r : ℕ) → t ≡ k → r ≡ command code k (read_le s a (width_of k)) (read_le s b (width_of k))
-    → r ≡ command code t (read_le s a (width_of t)) (read_le s b (width_of t))
-command-at code t k s a b r e h = h ∙ ap (λ (n : ℕ). command code n (read_le s a (width_of n)) (read_le s b (width_of n))) (sym e)

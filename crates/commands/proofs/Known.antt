@@ -1,5 +1,4 @@
--- Laws of a command whose operands are tried, and whose type a `match` found. In order: the test of eight bytes; what is asked and where the operands lie, by the type found;
--- the ways that the command ends. Assumes nothing.
+-- Laws of a command whose operands are tried, and whose type is known. In order: the test of eight bytes; where the operands lie, by the type; the ways that the command ends. Assumes nothing.
 use Prim.Native.Nat.{ℕ, ◌+◌, ◌-◌, ◌≤◌, ◌<◌}
 use mathlib.Core.Bool.{Bool, true, false}
 use mathlib.Core.List.{List}
@@ -9,12 +8,9 @@ use lib.ListN.{length}
 use borrow.Author.Tests.{lt-ltb, le-ltb}
 use Rattle.verdict.specs.Verdict.{either}
 use Rattle.memory.specs.Memory.{splice, bytes_le, read_le}
-use Rattle.values.specs.Types.{width_of, takes}
-use Rattle.values.specs.Width.{Width}
+use Rattle.values.specs.Types.{width_of}
 use Rattle.values.specs.Commands.{result_width, second_width, command, zero_divisor, beyond, any_beyond}
-use Rattle.values.proofs.Types.{width-ok}
-use Rattle.values.proofs.Commands.{taken-type}
-use Rattle.commands.specs.Attempts.{attempt, attempted, OperandsGiven, Inside}
+use Rattle.commands.specs.Attempts.{attempt, attempted, Inside}
 use Rattle.commands.specs.declared.Operands.{Operands}
 use Rattle.commands.specs.declared.Performed.{Performed}
 use Rattle.commands.specs.declared.Performed.TheVariants.{Done, ByZero}
@@ -62,20 +58,7 @@ module _ (size to a b : ℕ) (r : Bool) where
       → r ≡ either (beyond size to u) (any_beyond size a v b w)
   of-widths n m k u v w e f g h = rw (← f, ← g, ← h) e
 
--- ---- what is asked, and where the operands lie
-
-pub not_beyond : (r x : Bool) → r ≡ x → r ≡ false → x ≡ false
-not_beyond r x e f = sym e ∙ f
-
-module _ {code t : ℕ} {o : Operands} (key : o.kind ≡ t) (g : OperandsGiven code o) where
-  pub known-taken : takes code t ≡ true
-  known-taken = sym (ap (takes code) key) ∙ g.taken
-
-  pub known-type : t < 12
-  known-type = taken-type code t known-taken
-
-  pub known-width : {w : ℕ} → w ≡ width_of t → Width w
-  known-width e = subst Width (sym e) (width-ok t known-type)
+-- ---- where the operands lie
 
 module _ (code t : ℕ) (o : Operands) (s : List ℕ) (key : o.kind ≡ t) (i : Inside code o s) where
   operands-in : (o.to + result_width code o.kind ≤ length s) × (o.first + width_of o.kind ≤ length s) × (o.second + second_width code o.kind ≤ length s)
@@ -89,14 +72,6 @@ module _ (code t : ℕ) (o : Operands) (s : List ℕ) (key : o.kind ≡ t) (i : 
 
   pub known-second : (n : ℕ) → n ≡ second_width code t → o.second + n ≤ length s
   known-second n e = subst (λ (x : ℕ). o.second + x ≤ length s) (ap (second_width code) key ∙ sym e) operands-in.2
-
-  -- the same, as the test of the divisor asks it
-  pub known-divisor : (n : ℕ) → n ≡ second_width code t → (0 < n → o.second + n ≤ length s)
-  known-divisor n e h = known-second n e
-
-  -- the count of a shift
-  pub known-count : 1 ≡ second_width code t → o.second < length s
-  known-count e = let l : o.second + 1 ≤ length s = known-second 1 e in omega arith
 
   -- ---- the ways that the command ends
 

@@ -1,3 +1,4 @@
-pub mod Arms
 pub mod Attempts
 pub mod Known
+pub mod Laws
+pub mod Results

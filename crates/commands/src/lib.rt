@@ -2,8 +2,12 @@
 // Not here: the commands themselves (crates `arithmetic`, `comparisons` and `bitwise`); the jump to one of them (crate `dispatch`).
 #![tactic(auto)]
 
+mod command;
+mod source;
 mod storing;
 
+pub use command::{Command, typed};
+pub use source::Source;
 pub use storing::{put, store_pattern};
 
 // The operands of a typed command: its type, the place of the result, and those of the sources. NOT has one source, which stands for both.

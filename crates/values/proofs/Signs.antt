@@ -84,9 +84,6 @@ bits-cong w h z l {r} e = subst (λ (k : ℕ). Cong (2 ^ (8 * w)) z k) (sym (e �
 pub read-both : (f : ℤ → ℤ → ℤ) (x y : ℤ) → mag x < 2 ^ 63 → mag y < 2 ^ 63 → f (to_z w64 (of_z w64 x)) (to_z w64 (of_z w64 y)) ≡ f x y
 read-both f x y hx hy = ap (λ (z : ℤ). f z (to_z w64 (of_z w64 y))) (read64 x hx) ∙ ap (f x) (read64 y hy)
 
-pub read-both_b : (f : ℤ → ℤ → Bool) (x y : ℤ) → mag x < 2 ^ 63 → mag y < 2 ^ 63 → f (to_z w64 (of_z w64 x)) (to_z w64 (of_z w64 y)) ≡ f x y
-read-both_b f x y hx hy = ap (λ (z : ℤ). f z (to_z w64 (of_z w64 y))) (read64 x hx) ∙ ap (f x) (read64 y hy)
-
 -- ---- division
 pub bits_pos : (y : ℤ) → mag y < 2 ^ 63 → (y ≡ pos 0 → ⊥) → 0 < of_z w64 y
 bits_pos (pos zero) h d = absurd (d refl)
