@@ -1,10 +1,8 @@
 // Vectors counted under the code byte of their command: how many were compared, and how many differed.
-use super::names::{code_of, print_name};
+use super::names::{code_of, name_of};
 use super::outcomes::agrees;
 use super::vector_line::{Line, fresh, longer};
-
-// The descriptor of standard output.
-pub const OUTPUT: i32 = 1;
+use std::io;
 
 // Counts a whole line under its command's code byte.
 fn count(l: Line, compared: &mut [u64; 64], differed: &mut [u64; 64]) {
@@ -13,9 +11,9 @@ fn count(l: Line, compared: &mut [u64; 64], differed: &mut [u64; 64]) {
     }
     let code = code_of(l.op);
     let k = (code % 64) as usize;
-    compared[k] = std::num::wrapping_add_u64(compared[k], 1);
+    compared[k] = compared[k].wrapping_add(1);
     if !agrees(l, code) {
-        differed[k] = std::num::wrapping_add_u64(differed[k], 1);
+        differed[k] = differed[k].wrapping_add(1);
     }
 }
 
@@ -38,19 +36,16 @@ pub fn count_lines(
     line
 }
 
-fn print_count(code: u64, compared: u64, differed: u64) {
-    print_name(code);
-    io::write_all(OUTPUT, b": ");
-    io::print_decimal(OUTPUT, compared);
-    io::write_all(OUTPUT, b" compared, ");
-    io::print_decimal(OUTPUT, differed);
-    io::write_all(OUTPUT, b" differed\n");
-}
-
-pub fn print_counts(compared: &[u64; 64], differed: &[u64; 64]) {
+pub fn print_counts(rt: &impl Print, compared: &[u64; 64], differed: &[u64; 64]) -> io::Result<()> {
     for k in 0..64 {
         if 0 < compared[k] {
-            print_count(k as u64, compared[k], differed[k]);
+            println!(rt;
+                "{}: {} compared, {} differed",
+                name_of(k),
+                compared[k],
+                differed[k]
+            )?;
         }
     }
+    Ok(())
 }

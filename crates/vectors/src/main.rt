@@ -11,8 +11,9 @@ mod vector_line;
 
 ghost use Rattle.std.specs.Prelude.{◌<◌, ◌≤◌, length};
 
-use counts::{OUTPUT, count_lines, print_counts};
+use counts::{count_lines, print_counts};
 use std::fs::File;
+use std::io;
 use std::io::Read;
 use vector_line::fresh;
 
@@ -30,7 +31,7 @@ fn read_some(file: &mut File, buffer: &mut [u8]) -> usize
 }
 
 // Reads an open file whole and prints its counts. A proved loop has to end, and nothing says that a file does: so many reads at most.
-fn count_file(file: &mut File) {
+fn count_file(rt: &impl Print, file: &mut File) -> io::Result<()> {
     let mut compared = [0u64; 64];
     let mut differed = [0u64; 64];
     let mut line = fresh();
@@ -42,26 +43,31 @@ fn count_file(file: &mut File) {
         }
         line = count_lines(&buffer[..n], line, &mut compared, &mut differed);
     }
-    print_counts(&compared, &differed);
+    print_counts(rt, &compared, &differed)
 }
 
 // The counts of a file; one that can't be opened is told on standard error.
-fn examine(rt: &HostRuntime, path: &str) {
-    io::write_all(OUTPUT, path.as_bytes());
-    io::write_all(OUTPUT, b"\n");
+fn examine(rt: &HostRuntime, path: &str) -> io::Result<()> {
+    println!(rt; "{path}")?;
     match File::open(rt, path) {
-        Ok(mut file) => count_file(&mut file),
+        Ok(mut file) => count_file(rt, &mut file),
         Err(error) => {
             let _told = eprintln!(rt; "{path}: {error}");
+            Ok(())
         }
     }
 }
 
-fn main(rt: HostRuntime) {
-    examine(&rt, "float-vectors.txt");
-    examine(&rt, "float-specials.txt");
-    examine(&rt, "comparisons.txt");
-    examine(&rt, "whole-numbers.txt");
-    examine(&rt, "conversions.txt");
-    examine(&rt, "packed.txt");
+fn main(rt: HostRuntime) -> io::Result<()> {
+    for path in [
+        "float-vectors.txt",
+        "float-specials.txt",
+        "comparisons.txt",
+        "whole-numbers.txt",
+        "conversions.txt",
+        "packed.txt",
+    ] {
+        examine(&rt, path)?;
+    }
+    Ok(())
 }

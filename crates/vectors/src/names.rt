@@ -1,6 +1,4 @@
-// Names of commands and types: read as the number that their letters spell, and printed.
-use super::counts::OUTPUT;
-
+// Names of commands and types: read as the number that their letters spell, and told.
 // The code byte of a command by its name, 0 for none.
 pub fn code_of(op: u64) -> u8 {
     match op {
@@ -49,30 +47,31 @@ pub fn type_of(kind: u64) -> u8 {
     }
 }
 
-pub fn print_name(code: u64) {
+// The name of a command by its code byte.
+pub fn name_of(code: usize) -> &'static str {
     match code {
-        16 => io::write_all(OUTPUT, b"add"),
-        17 => io::write_all(OUTPUT, b"sub"),
-        18 => io::write_all(OUTPUT, b"mul"),
-        19 => io::write_all(OUTPUT, b"div"),
-        20 => io::write_all(OUTPUT, b"mod"),
-        24 => io::write_all(OUTPUT, b"and"),
-        25 => io::write_all(OUTPUT, b"or"),
-        26 => io::write_all(OUTPUT, b"xor"),
-        27 => io::write_all(OUTPUT, b"not"),
-        28 => io::write_all(OUTPUT, b"shl"),
-        29 => io::write_all(OUTPUT, b"shr"),
-        30 => io::write_all(OUTPUT, b"rol"),
-        31 => io::write_all(OUTPUT, b"ror"),
-        32 => io::write_all(OUTPUT, b"gt"),
-        33 => io::write_all(OUTPUT, b"ge"),
-        34 => io::write_all(OUTPUT, b"eq"),
-        35 => io::write_all(OUTPUT, b"le"),
-        36 => io::write_all(OUTPUT, b"lt"),
-        37 => io::write_all(OUTPUT, b"ne"),
-        43 => io::write_all(OUTPUT, b"convert"),
-        44 => io::write_all(OUTPUT, b"pack"),
-        45 => io::write_all(OUTPUT, b"unpack"),
-        _ => io::write_all(OUTPUT, b"unknown"),
-    };
+        16 => "add",
+        17 => "sub",
+        18 => "mul",
+        19 => "div",
+        20 => "mod",
+        24 => "and",
+        25 => "or",
+        26 => "xor",
+        27 => "not",
+        28 => "shl",
+        29 => "shr",
+        30 => "rol",
+        31 => "ror",
+        32 => "gt",
+        33 => "ge",
+        34 => "eq",
+        35 => "le",
+        36 => "lt",
+        37 => "ne",
+        43 => "convert",
+        44 => "pack",
+        45 => "unpack",
+        _ => "unknown",
+    }
 }
