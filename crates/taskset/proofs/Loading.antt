@@ -13,9 +13,8 @@ use Rattle.verdict.proofs.Verdict.{pick_true}
 use Rattle.verdict.proofs.Refusals.{refused}
 use Rattle.code.specs.declared.Profile.{Profile}
 use Rattle.code.specs.declared.Profile.TheVariants.{Full}
-use Rattle.taskset.specs.declared.Loaded.{Loaded}
 use Rattle.taskset.specs.Judge.{judge_for, judge}
-use Rattle.taskset.specs.Layout.{no_core, core_layout, layout_of, load_for, load_of, loaded_as}
+use Rattle.taskset.specs.Layout.{no_core, core_layout, layout_of, Loaded, load_for, load_of, loaded_as}
 use Rattle.taskset.proofs.Narrowed.{any-is-full}
 
 -- core k of a layout

@@ -10,7 +10,6 @@ use Rattle.code.specs.declared.Profile.TheVariants.{Full}
 use Rattle.taskset.specs.Judge.{code_place, judge_for}
 use Rattle.taskset.specs.declared.CoreLayout.{CoreLayout}
 use Rattle.taskset.specs.declared.Layout.{Layout}
-use Rattle.taskset.specs.declared.Loaded.{Loaded}
 
 -- the data of core k stand after those of the cores before it
 unfoldable pub base_place : List ℕ → ℕ → ℕ
@@ -44,6 +43,10 @@ layout_of f = record {
 
 abbrev pub no_layout : Layout
 no_layout = record { cores = 0; variables = 0; first = 0; core = no_core ∷ no_core ∷ no_core ∷ no_core ∷ [] }
+
+pub record Loaded : Type 0 where
+  pub refusal : ℕ
+  pub layout : Layout
 
 unfoldable pub load_for : Profile → List ℕ → Loaded
 load_for profile f = record { refusal = judge_for profile f; layout = pick (eqb (judge_for profile f) 0) (layout_of f) no_layout }

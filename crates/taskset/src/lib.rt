@@ -32,12 +32,6 @@ pub struct Layout {
     pub core: [CoreLayout; 4],
 }
 
-#[derive(Clone, Copy)]
-pub struct Loaded {
-    pub refusal: u8,
-    pub layout: Layout,
-}
-
 // All zeros.
 pub fn no_core() -> CoreLayout
     ensures { result ≡ no_core }
