@@ -17,32 +17,27 @@ mod untyped_instructions;
 
 use both_profiles::{run_under, wide_under};
 use code::Profile;
-use conversion_rows::{conversions_from_0, conversions_from_4, conversions_from_8};
+use conversion_rows::conversion_rows;
 use data_sizes::{sizes_about_1024, sizes_about_4096};
 use number_order::{types_and_3, types_and_6, types_and_7};
-use packed_rows::packed_row;
-use typed_rows::{arithmetic, comparisons, logic, shifts};
+use packed_rows::packed_rows;
+use std::io;
+use typed_rows::typed_rows;
 use untyped_instructions::{moves, others};
 
-fn main() {
-    sizes_about_1024();
-    sizes_about_4096();
-    arithmetic();
-    logic();
-    shifts();
-    comparisons();
-    conversions_from_0();
-    conversions_from_4();
-    conversions_from_8();
-    packed_row(44);
-    packed_row(45);
-    moves();
-    others();
-    types_and_6();
-    types_and_7();
-    types_and_3();
-    run_under(b"a run under the full profile", Profile::Full);
-    run_under(b"a run under the small profile", Profile::Small);
-    wide_under(b"a wide type under the full profile", Profile::Full);
-    wide_under(b"a wide type under the small profile", Profile::Small);
+fn main(rt: HostRuntime) -> io::Result<()> {
+    sizes_about_1024(&rt)?;
+    sizes_about_4096(&rt)?;
+    typed_rows(&rt)?;
+    conversion_rows(&rt)?;
+    packed_rows(&rt)?;
+    moves(&rt)?;
+    others(&rt)?;
+    types_and_6(&rt)?;
+    types_and_7(&rt)?;
+    types_and_3(&rt)?;
+    run_under(&rt, "a run under the full profile", Profile::Full)?;
+    run_under(&rt, "a run under the small profile", Profile::Small)?;
+    wide_under(&rt, "a wide type under the full profile", Profile::Full)?;
+    wide_under(&rt, "a wide type under the small profile", Profile::Small)
 }

@@ -1,56 +1,66 @@
 // The order of the numbers: a type that the small profile does not have, beside what numbers 3, 6 and 7 refuse.
 use super::one_core_file::both;
+use std::io;
 
-pub fn types_and_6() {
+pub fn types_and_6(rt: &impl Print) -> io::Result<()> {
     both(
-        b"a type, then an unknown code",
+        rt,
+        "a type, then an unknown code",
         64,
         b"\x10\x07\x00\x00\x08\x00\x10\x00\x63",
-    );
+    )?;
     both(
-        b"an unknown code, then a type",
+        rt,
+        "an unknown code, then a type",
         64,
         b"\x63\x10\x07\x00\x00\x08\x00\x10\x00\x00",
-    );
+    )?;
     both(
-        b"a type that its command does not take",
+        rt,
+        "a type that its command does not take",
         64,
         b"\x14\x09\x00\x00\x08\x00\x10\x00\x00",
-    );
+    )?;
     both(
-        b"a type in an instruction that is cut",
+        rt,
+        "a type in an instruction that is cut",
         64,
         b"\x10\x07\x00\x00\x08",
-    );
+    )
 }
 
-pub fn types_and_7() {
+pub fn types_and_7(rt: &impl Print) -> io::Result<()> {
     both(
-        b"a type, and a target that starts no instruction",
+        rt,
+        "a type, and a target that starts no instruction",
         64,
         b"\x10\x07\x00\x00\x08\x00\x10\x00\x01\x01\x00",
-    );
+    )?;
     both(
-        b"a type, and a last instruction that is no end",
+        rt,
+        "a type, and a last instruction that is no end",
         64,
         b"\x10\x07\x00\x00\x08\x00\x10\x00",
-    );
+    )?;
     both(
-        b"no such type, and the same target",
+        rt,
+        "no such type, and the same target",
         64,
         b"\x10\x05\x00\x00\x08\x00\x10\x00\x01\x01\x00",
-    );
+    )
 }
 
-pub fn types_and_3() {
+pub fn types_and_3(rt: &impl Print) -> io::Result<()> {
     both(
-        b"data of 1,025 bytes, and a type",
+        rt,
+        "data of 1,025 bytes, and a type",
         1025,
         b"\x10\x07\x00\x00\x08\x00\x10\x00\x00",
-    );
+    )?;
     both(
-        b"a type behind RETURN",
+        rt,
+        "a type behind RETURN",
         64,
         b"\x00\x10\x07\x00\x00\x08\x00\x10\x00\x00",
-    );
+    )
 }

@@ -1,13 +1,13 @@
 // Files of one core: made of a data size and a code, and judged under a profile.
-use super::printing::{label, number, text};
 use code::Profile;
+use std::io;
 
 // Where the code of such a file begins.
 const CODE: usize = 14;
 
 fn put(f: &mut [u8], p: usize, b: u8) {
-    if p < f.len() {
-        f[p] = b;
+    if let Some(byte) = f.get_mut(p) {
+        *byte = b;
     }
 }
 
@@ -39,14 +39,12 @@ pub fn judged(profile: Profile, size: u16, code: &[u8]) -> u8 {
     let mut f = [0u8; 64];
     begun(&mut f, size, n as u16);
     memory::copy(&mut f, CODE, code, 0, n);
-    let a = 0;
-    let e = CODE + n;
-    machine::check_file_for(profile, &f[a..e])
+    verdict::refusal_of(machine::check_file_for(profile, &f[..CODE + n]))
 }
 
-pub fn both(name: &[u8], size: u16, code: &[u8]) {
-    label(name);
-    number(judged(Profile::Full, size, code));
-    number(judged(Profile::Small, size, code));
-    text(b"\n");
+// Under the full and under the small profile.
+pub fn both(rt: &impl Print, name: &str, size: u16, code: &[u8]) -> io::Result<()> {
+    let full = judged(Profile::Full, size, code);
+    let small = judged(Profile::Small, size, code);
+    println!(rt; "{name}: {full} {small}")
 }

@@ -1,15 +1,12 @@
-// What is printed: texts, numbers, and the name of a case.
+// A row of types: its name, and a number for each type from 0 to 11.
+use std::io;
 
-pub fn text(s: &[u8]) {
-    io::write_all(1, s);
-}
-
-pub fn number(n: u8) {
-    text(b" ");
-    io::print_decimal(1, n as u64);
-}
-
-pub fn label(s: &[u8]) {
-    text(s);
-    text(b":");
+pub fn row<F: Fn(u8) -> u8>(rt: &impl Print, name: &str, code: u8, judged: F) -> io::Result<()>
+    requires { F.IsAlwaysCallable judged }
+{
+    print!(rt; "{name} {code}:")?;
+    for t in 0..12 {
+        print!(rt; " {}", judged(t))?;
+    }
+    println!(rt;)
 }
