@@ -11,12 +11,12 @@ use lib.Dec.{ltb, eqb}
 use lib.ListN.{length, get_or, set, length-set, replicate, get_or-eq_default}
 use lib.Seq.{get_or-set_same, get_or-set_other}
 use Rattle.verdict.specs.Verdict.{pick, either, next}
-use Rattle.verdict.proofs.Verdict.{absurd-bool, skip, stop, halt, no, next-zero, either_true, either-false}
+use Rattle.verdict.proofs.Verdict.{absurd-bool, stop, either_true, either-false}
 use Rattle.memory.specs.Memory.{byte}
 use Rattle.code.specs.Flow.{kind_at, goes_to, target_at, after}
 use Rattle.code.specs.declared.Profile.{Profile}
 use Rattle.code.specs.Profiles.{types_at, carries}
-use Rattle.code.specs.Code.{instruction_refusal, laid, start_from, is_start, all_from, target_ok, last_from, accepted_length, judge_code_for}
+use Rattle.code.specs.Code.{instruction_refusal, laid, start_from, is_start, all_from, target_ok, last_from, accepted_length}
 use Rattle.code.specs.Judging.{Asked, TargetAsked, Pass, AllMet}
 use Rattle.code.proofs.Laws.{whole, accepted, carried_none, length_taken}
 use Rattle.code.proofs.Passes.{laid_one, start-one, all_one, last_one, laid_end, start-end, all_end, last_end, start-here, start-beyond}
@@ -311,35 +311,7 @@ pub targets-right : {y : Profile} {size : ℕ} (c : List ℕ) (r l : ℕ) (o : B
     → all_from (target_ok c) (length c) c 0 ≡ true
 targets-right c r l o m x p z f a e = p.met z f (a.low e)
 
--- the instructions come before the targets outside the map
-module _ {z : Profile} {size : ℕ} (c : List ℕ) (r l : ℕ) (o : Bool) (m : List ℕ) (p : Pass z c size r l o m) (x y : ℕ) (e : x ≡ pick o 7 0) (d : y ≡ next r x) where
-  pub first-refused : (y ≡ 0 → ⊥) → y ≡ judge_code_for z c
-  unfolding judge_code_for pick next
-  first-refused nz = go r refl o refl
-    where
-      go : (n : ℕ) → r ≡ n → (b : Bool) → o ≡ b → y ≡ judge_code_for z c
-      go zero i true f = d ∙ rw (i, e, f) (skip (sym p.right ∙ i) (halt 6 _ (no _ _ (targets-outside c r l o m p i f))))
-      go zero i false f = absurd (nz (d ∙ rw (i, e, f)))
-      go (suc n) i b f = d ∙ rw i (halt n _ (sym p.right ∙ i))
-
-  pub first-none : y ≡ 0 → (r ≡ 0) × (o ≡ false)
-  unfolding pick next
-  first-none q = go o refl (next-zero r x (sym d ∙ q))
-    where
-      go : (b : Bool) → o ≡ b → (r ≡ 0) × (x ≡ 0) → (r ≡ 0) × (o ≡ false)
-      go true f z = absurd (let a : x ≡ 7 = e ∙ rw f in let w = z.1 in let y : ⊥ = omega arith in y)
-      go false f z = (z.0, f)
-
 -- ---- the largest byte of a map
-
-pub most-more : (m : List ℕ) (i a b : ℕ) → ((t : ℕ) → t < i → get_or m t 0 ≤ a) → a ≤ b → get_or m i 0 ≤ b → (t : ℕ) → t < i + 1 → get_or m t 0 ≤ b
-most-more m i a b f h g t l = go (ltb t i) refl
-  where
-    go : (x : Bool) → ltb t i ≡ x → get_or m t 0 ≤ b
-    go true e = omega (arith, f t (ltb-true t i e))
-    go false e =
-        let q : i ≡ t = omega (arith, ltb-false t i e) in
-        subst (λ (x : ℕ). get_or m x 0 ≤ b) q g
 
 pub most-end : (m : List ℕ) (i a : ℕ) → length m ≤ i → ((t : ℕ) → t < i → get_or m t 0 ≤ a) → (((t : ℕ) → get_or m t 0 < 2) → a < 2) → AllMet m (ltb a 2)
 most-end m i a h f g = record { low = λ e t. low e t (ltb t i) refl; high = λ k. lt-ltb a 2 (g k) }

@@ -3,22 +3,22 @@
 // Not here: the definitions and their laws, and what one instruction is judged by (crate `code`).
 #![tactic(auto)]
 
-ghost use Rattle.std.specs.Prelude.{◌≡◌, ◌+◌, ◌<◌, ◌≤◌, length};
-ghost use Rattle.verdict.specs.Verdict.{pick, next};
-ghost use Rattle.verdict.specs.Numbers.{bad_target};
+ghost use Rattle.std.specs.Prelude.{◌≡◌, ◌+◌, ◌<◌, ◌≤◌, length, false};
+ghost use Rattle.std.specs.Result.{MatchResult};
+ghost use Rattle.verdict.specs.Refusals.{number_of, refusal_of};
 ghost use Rattle.memory.specs.Memory.{byte};
 ghost use Rattle.code.specs.Commands.{length_of};
 ghost use Rattle.code.specs.Code.{judge_code, judge_code_for};
 ghost use Rattle.code.specs.Judging.{Marked, Asked, TargetAsked, Cleared, Pass, AllMet};
 
 use code::{Profile, accepted_length, is_carried, word};
+use verdict::Refusal;
 
-// What one pass over the instructions finds: the refusal, the last code byte, and whether a T lies outside the map.
+// What one pass over the instructions finds where none is refused: the last code byte, and whether a T lies outside the map.
 #[derive(Clone, Copy)]
-pub struct Laid {
-    pub refusal: u8,
-    pub last: u8,
-    pub outside: bool,
+struct Laid {
+    last: u8,
+    outside: bool,
 }
 
 // The most bytes of a code that has a short map, which is cleared sooner.
@@ -68,9 +68,10 @@ fn ask_target(code: &[u8], p: usize, marks: &mut [u8]) -> bool
 
 // The pass, and its map: 1 where an instruction starts, 2 where a T asks for one that was not met. The map is lent, since a structure that holds it would
 // be copied.
-fn lay(profile: Profile, code: &[u8], marks: &mut [u8]) -> Laid
+fn lay(profile: Profile, code: &[u8], marks: &mut [u8]) -> Result<Laid, Refusal>
     requires { (length code.now ≤ 8192) × (length code.now ≤ length marks.old) × Cleared marks.old }
-    ensures { Pass profile code.now (length marks.old) result.refusal result.last result.outside marks.new }
+    ensures { MatchResult result (λ m. Pass profile code.now (length marks.old) 0 m.last m.outside marks.new)
+        (λ r. Pass profile code.now (length marks.old) (number_of r) 0 false marks.new) }
 {
     let mut last: u8 = 0;
     let mut outside = false;
@@ -78,32 +79,20 @@ fn lay(profile: Profile, code: &[u8], marks: &mut [u8]) -> Laid
     while p < code.len() {
         let n = accepted_length(code, p);
         if n == 0 {
-            return Laid {
-                refusal: verdict::BAD_INSTRUCTION,
-                last,
-                outside,
-            };
+            return Err(Refusal::BadInstruction);
         }
         if ask_target(code, p, marks) {
             outside = true;
         }
         // Behind the target: the compiler joins the two matches on the code byte that come before, and no test stands between them.
         if !is_carried(profile, code, p) {
-            return Laid {
-                refusal: verdict::WIDE_TYPE,
-                last,
-                outside,
-            };
+            return Err(Refusal::WideType);
         }
         marks[p] = 1;
         last = code[p];
         p = p + n;
     }
-    Laid {
-        refusal: 0,
-        last,
-        outside,
-    }
+    Ok(Laid { last, outside })
 }
 
 // Whether no start is still asked for. The largest byte says it: a loop with no way out before its end is one that the processor's vector instructions
@@ -112,59 +101,34 @@ fn all_met(marks: &[u8]) -> bool
     ensures { AllMet marks.now result }
 {
     let mut most: u8 = 0;
-    let mut i = 0;
-    while i < marks.len() {
-        if most < marks[i] {
-            most = marks[i];
-        }
-        i += 1;
+    for mark in marks {
+        most = most.max(*mark);
     }
     most < 2
 }
 
-// The first refusal of two: b only where a is none.
-fn first_refusal(a: u8, b: u8) -> u8
-    ensures { result ≡ next a b }
-{
-    if a != 0 {
-        return a;
-    }
-    b
-}
-
-// The refusal of a T outside the map.
-fn outside_refusal(outside: bool) -> u8
-    ensures { result ≡ pick outside bad_target 0 }
-{
-    if outside {
-        return verdict::BAD_TARGET;
-    }
-    0
-}
-
-// The refusal of a core's code, all instructions before any target, by a lent map.
-fn judge_by_map(profile: Profile, code: &[u8], marks: &mut [u8]) -> u8
+// A core's code, all instructions before any target, by a lent map.
+fn judge_by_map(profile: Profile, code: &[u8], marks: &mut [u8]) -> Result<(), Refusal>
     requires { (length code.now ≤ 8192) × (length code.now ≤ length marks.old) × Cleared marks.old }
-    ensures { result ≡ judge_code_for profile code.now }
+    ensures { refusal_of result ≡ judge_code_for profile code.now }
 {
-    let m = lay(profile, code, marks);
-    let r = first_refusal(m.refusal, outside_refusal(m.outside));
-    if r != 0 {
-        return r;
+    let m = lay(profile, code, marks)?;
+    if m.outside {
+        return Err(Refusal::BadTarget);
     }
     if !all_met(marks) {
-        return verdict::BAD_TARGET;
+        return Err(Refusal::BadTarget);
     }
     if 2 <= m.last {
-        return verdict::BAD_TARGET;
+        return Err(Refusal::BadTarget);
     }
-    0
+    Ok(())
 }
 
-// The refusal of a core's code.
-pub fn judge_code_for(profile: Profile, code: &[u8]) -> u8
+// A core's code.
+pub fn judge_code_for(profile: Profile, code: &[u8]) -> Result<(), Refusal>
     requires { length code.now ≤ 8192 }
-    ensures { result ≡ judge_code_for profile code.now }
+    ensures { refusal_of result ≡ judge_code_for profile code.now }
 {
     if code.len() <= SHORT {
         let mut marks = cleared_short();
@@ -180,6 +144,6 @@ pub fn starts(code: &[u8]) -> [u8; 8192]
     ensures { (length result ≡ 8192) × Marked code.now result }
 {
     let mut marks = cleared();
-    lay(Profile::Full, code, &mut marks);
+    let _ = lay(Profile::Full, code, &mut marks);
     marks
 }

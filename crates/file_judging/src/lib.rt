@@ -5,11 +5,13 @@
 mod refusals;
 
 ghost use Rattle.std.specs.Prelude.{◌≡◌, ◌≤◌, length};
+ghost use Rattle.verdict.specs.Refusals.{refusal_of};
 ghost use Rattle.taskset.specs.Judge.{has_mark, is_old, is_new, judge_for, judge};
 
 use code::Profile;
-use refusals::{codes_refusal, head_refusal, variable_section_refusal};
+use refusals::{judge_codes, judge_head, judge_variable_section};
 use taskset::{NEW_MARK, OLD_MARK};
+use verdict::Refusal;
 
 // Whether a file begins with this mark.
 fn has_mark(f: &[u8], mark: &[u8; 4]) -> bool
@@ -44,26 +46,20 @@ pub fn is_new(f: &[u8]) -> bool
     has_mark(f, &mark)
 }
 
-// The refusal number of a task set file under a profile, 0 where it is accepted.
-pub fn judge_file_for(profile: Profile, f: &[u8]) -> u8
-    ensures { result ≡ judge_for profile f.now }
+// A task set file under a profile.
+pub fn judge_file_for(profile: Profile, f: &[u8]) -> Result<(), Refusal>
+    ensures { refusal_of result ≡ judge_for profile f.now }
 {
-    let h = head_refusal(profile, f);
-    if h != 0 {
-        return h;
-    }
-    let v = variable_section_refusal(f);
-    if v != 0 {
-        return v;
-    }
+    judge_head(profile, f)?;
+    judge_variable_section(f)?;
     let n = memory::byte_at(f, 4) as usize;
     let m = memory::byte_at(f, 5 + 6 * n);
-    codes_refusal(profile, f, n, records::record_place(f, m))
+    judge_codes(profile, f, n, records::record_place(f, m))
 }
 
 // Under the full profile.
-pub fn judge_file(f: &[u8]) -> u8
-    ensures { result ≡ judge f.now }
+pub fn judge_file(f: &[u8]) -> Result<(), Refusal>
+    ensures { refusal_of result ≡ judge f.now }
 {
     judge_file_for(Profile::Full, f)
 }

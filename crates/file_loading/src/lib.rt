@@ -5,22 +5,21 @@
 ghost use Rattle.std.specs.Prelude.{◌≡◌, ◌<◌, ◌≤◌};
 ghost use Rattle.memory.specs.Memory.{total};
 ghost use Rattle.taskset.specs.Judge.{code_place, judge};
-ghost use Rattle.taskset.specs.Layout.{base_place, core_layout, layout_of, no_layout, load_for, load_of};
+ghost use Rattle.taskset.specs.Layout.{base_place, core_layout, layout_of, load_for, load_of, loaded_as};
 ghost use Rattle.taskset.specs.Task.{sizes_of};
 
 use code::Profile;
 use file_judging::judge_file_for;
-use taskset::{CoreLayout, Layout, Loaded, no_core};
+use taskset::{CoreLayout, Layout, no_core};
+use verdict::Refusal;
 
 fn base_place(f: &[u8], k: usize) -> usize
     requires { k < 4 }
     ensures { result ≡ base_place f.now k }
 {
     let mut b = 0;
-    let mut i = 0;
-    while i < k {
+    for i in 0..k {
         b = b + memory::word_at(f, 5 + 6 * i);
-        i = i + 1;
     }
     b
 }
@@ -33,10 +32,8 @@ pub fn code_place(f: &[u8], k: usize) -> usize
     let n = memory::byte_at(f, 4) as usize;
     let m = memory::byte_at(f, 5 + 6 * n);
     let mut p = records::record_place(f, m);
-    let mut i = 0;
-    while i < k {
+    for _ in 0..k {
         p = p + 2 + memory::word_at(f, p);
-        i = i + 1;
     }
     p
 }
@@ -77,41 +74,17 @@ fn layout_of(f: &[u8]) -> Layout
     }
 }
 
-fn no_layout() -> Layout
-    ensures { result ≡ no_layout }
+// Where everything stands in a file that a profile accepts.
+pub fn load_file_for(profile: Profile, f: &[u8]) -> Result<Layout, Refusal>
+    ensures { loaded_as result ≡ load_for profile f.now }
 {
-    let c = no_core();
-    let core = [c, c, c, c];
-    Layout {
-        cores: 0,
-        variables: 0,
-        first: 0,
-        core,
-    }
-}
-
-// The refusal number and an empty layout, or 0 and the layout.
-pub fn load_file_for(profile: Profile, f: &[u8]) -> Loaded
-    ensures { result ≡ load_for profile f.now }
-{
-    let r = judge_file_for(profile, f);
-    if r == 0 {
-        let l = layout_of(f);
-        return Loaded {
-            refusal: 0,
-            layout: l,
-        };
-    }
-    let e = no_layout();
-    Loaded {
-        refusal: r,
-        layout: e,
-    }
+    judge_file_for(profile, f)?;
+    Ok(layout_of(f))
 }
 
 // Under the full profile.
-pub fn load_file(f: &[u8]) -> Loaded
-    ensures { result ≡ load_of f.now }
+pub fn load_file(f: &[u8]) -> Result<Layout, Refusal>
+    ensures { loaded_as result ≡ load_of f.now }
 {
     load_file_for(Profile::Full, f)
 }

@@ -4,18 +4,21 @@
 #![tactic(auto)]
 
 ghost use Rattle.std.specs.Prelude.{◌≡◌, ◌<◌};
+ghost use Rattle.std.specs.Result.{IfOk};
+ghost use Rattle.verdict.specs.Refusals.{refusal_of};
 ghost use Rattle.records.specs.File.{cores};
 ghost use Rattle.taskset.specs.Judge.{judge};
 ghost use Rattle.taskset.specs.Layout.{layout_of};
 ghost use Rattle.states.specs.Set.{AcceptedSet};
 ghost use Rattle.states.specs.Tasks.{core_task, tasks_of};
 ghost use Rattle.states.specs.Fit.{exchange_fit, cycles_fit, holder_fit, exchanges_fit, fit_at, may_wait, line_fit, state_refusal};
-ghost use Rattle.states.specs.Preparing.{prepared};
+ghost use Rattle.states.specs.Preparing.{held_refusal};
 
 use execution_fitness::{execution_fit, freed_fit};
 use protocol::Registers;
-use states::{CoreTask, Held, Prepared, core_tasks, no_task};
+use states::{CoreTask, Held, core_tasks};
 use taskset::Layout;
+use verdict::Refusal;
 
 const FLAGS: u8 = 128; // above the lawful flag bits: bit 7 alone is none
 
@@ -122,8 +125,7 @@ fn line_fit(file: &[u8], trace: &[u8], tasks: [CoreTask; 4], n: usize, s: Held) 
     if LINE < waiting {
         return false;
     }
-    let mut i: usize = 0;
-    while i < waiting {
+    for i in 0..waiting {
         let k = m.line[i];
         if semaphore::in_line(m, i + 1, k) {
             return false;
@@ -135,49 +137,45 @@ fn line_fit(file: &[u8], trace: &[u8], tasks: [CoreTask; 4], n: usize, s: Held) 
         if !may_wait(tasks[core].count, s.cores[core]) {
             return false;
         }
-        i += 1;
     }
     true
 }
 
-// The refusal of a state of an accepted file with n cores, whose tasks on a sound trace are given; 0 where it is fit.
-fn state_refusal(file: &[u8], trace: &[u8], tasks: [CoreTask; 4], n: usize, s: Held) -> u8
+// A state of an accepted file with n cores, whose tasks on a sound trace are given.
+fn judge_state(
+    file: &[u8],
+    trace: &[u8],
+    tasks: [CoreTask; 4],
+    n: usize,
+    s: Held,
+) -> Result<(), Refusal>
     requires { AcceptedSet file.now trace.now × (tasks ≡ tasks_of file.now trace.now) × (n ≡ cores file.now) }
-    ensures { result ≡ state_refusal file.now trace.now s }
+    ensures { refusal_of result ≡ state_refusal file.now trace.now s }
 {
     if s.count as usize != n {
-        return verdict::UNFIT_STATE;
+        return Err(Refusal::UnfitState);
     }
     if n < s.semaphore.holder as usize {
-        return verdict::UNFIT_STATE;
+        return Err(Refusal::UnfitState);
     }
-    let mut k: usize = 0;
-    while k < n {
+    for k in 0..n {
         if !core_fit(file, trace, tasks[k], s, k) {
-            return verdict::UNFIT_STATE;
+            return Err(Refusal::UnfitState);
         }
-        k += 1;
     }
     if !line_fit(file, trace, tasks, n, s) {
-        return verdict::UNFIT_STATE;
+        return Err(Refusal::UnfitState);
     }
-    0
+    Ok(())
 }
 
-// Trace and state of an accepted file.
-pub fn prepare(file: &[u8], trace: &[u8], layout: Layout, s: Held) -> Prepared
+// The tasks of the cores, where trace and state of an accepted file are sound.
+pub fn prepare(file: &[u8], trace: &[u8], layout: Layout, s: Held) -> Result<[CoreTask; 4], Refusal>
     requires { (judge file.now ≡ 0) × (layout ≡ layout_of file.now) }
-    ensures { result ≡ prepared file.now trace.now s }
+    ensures { (refusal_of result ≡ held_refusal file.now trace.now s) × IfOk result (λ tasks. tasks ≡ tasks_of file.now trace.now) }
 {
-    let traces = traces::load_trace(file, trace);
-    if traces.refusal != 0 {
-        let none = no_task();
-        return Prepared {
-            refusal: traces.refusal,
-            tasks: [none, none, none, none],
-        };
-    }
+    let traces = traces::load_trace(file, trace)?;
     let tasks = core_tasks(file, trace, layout, traces);
-    let refusal = state_refusal(file, trace, tasks, layout.cores, s);
-    Prepared { refusal, tasks }
+    judge_state(file, trace, tasks, layout.cores, s)?;
+    Ok(tasks)
 }

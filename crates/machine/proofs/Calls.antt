@@ -4,38 +4,39 @@ use mathlib.Core.Path.{◌≡◌, refl, sym, ap, ap₂, ◌∙◌}
 use mathlib.Core.Logic.{◌≢◌}
 use mathlib.Core.Bool.{Bool, true, false}
 use mathlib.Core.List.{List, [], ◌∷◌}
-use Prim.Native.Nat.{ℕ, zero, suc, ◌+◌, ◌-◌, ◌≤◌, ◌<◌}
+use Prim.Native.Nat.{ℕ, zero, suc, ◌+◌, ◌≤◌, ◌<◌}
 use native.Mathlib.Omega.{arith}
 use native.Mathlib.Numerals.{add-one}
 use borrow.Author.Tests.{lt-ltb, le-ltb, eq-eqb, ne_eqb, ltb-true, eqb-true, le-leb}
 use lib.Dec.{ltb, leb}
 use lib.ListN.{length, get_or, drop}
 use lib.Seq.{drop-cons, drop-length}
+use Rattle.std.specs.Prelude.{Result, Ok, Err}
+use Rattle.std.specs.Result.{IfOk}
 use Rattle.verdict.specs.Verdict.{both, next, unless}
-use Rattle.verdict.proofs.Verdict.{skip, stop, yes, no, pick_true, pick-false, next-none, next-zero, unless-zero, both_true, both-not, absurd-bool}
+use Rattle.verdict.specs.Refusals.{refusal_of}
+use Rattle.verdict.specs.declared.Refusal.{Refusal}
+use Rattle.verdict.proofs.Verdict.{skip, yes, no, pick_true, pick-false, next-none, next-zero, unless-zero, both_true, both-not, absurd-bool}
 use Rattle.memory.specs.Memory.{total}
 use Rattle.records.specs.File.{cores}
 use Rattle.records.proofs.Laws.{both-alone}
 use Rattle.taskset.specs.declared.Layout.{Layout}
-use Rattle.taskset.specs.declared.Loaded.{Loaded}
 use Rattle.code.specs.declared.Profile.{Profile}
 use Rattle.code.specs.declared.Profile.TheVariants.{Full}
 use Rattle.taskset.specs.Judge.{judge_for, judge}
-use Rattle.taskset.specs.Layout.{layout_of, load_for, load_of}
+use Rattle.taskset.specs.Layout.{layout_of, load_of, loaded_as}
 use Rattle.taskset.specs.Trace.{trace_refusal}
-use Rattle.taskset.specs.Task.{listed, sizes_of}
+use Rattle.taskset.specs.Task.{sizes_of}
 use Rattle.taskset.specs.Starts.{start_shared, start_buffer}
 use Rattle.taskset.proofs.Accepted.{length-buffer, length-shared}
-use Rattle.taskset.proofs.Loading.{file-judged-for, file-judged, file-accepted-for, file-laid-for}
+use Rattle.taskset.proofs.Loading.{file-judged, file-accepted, file-laid}
+use Rattle.taskset.proofs.Narrowed.{any-is-full}
 use Rattle.states.specs.declared.Held.{Held}
-use Rattle.states.specs.declared.Prepared.{Prepared}
 use Rattle.states.specs.Fit.{state_refusal}
-use Rattle.states.specs.Tasks.{tasks_of}
-use Rattle.states.specs.Preparing.{held_refusal, prepared}
+use Rattle.states.specs.Preparing.{held_refusal}
 use Rattle.runner.specs.declared.RunAnswer.{RunAnswer}
 use Rattle.runner.specs.Runs.{all_below, Left, left_as, ran_call}
-use Rattle.machine.specs.declared.judging.Judgement.{Judgement}
-use Rattle.machine.specs.Judging.{loaded_lent, LentTo, without_tasks, judged_number, JudgedAs, first_run}
+use Rattle.machine.specs.Judging.{lent_refusal, LaidOut, LentTo, judged_number, first_run}
 use Rattle.machine.specs.Calls.{lent_fits, set_refusal, call_refusal, answer_of, table_of, fresh_refusal_for, fresh_refusal, fresh_call_for, fresh_call, run_refusal, run_call, fresh_left, next_refusal}
 
 -- ---- trace and state
@@ -45,15 +46,6 @@ module _ (f t : List ℕ) (h : Held) where
   pub held_none : held_refusal f t h ≡ 0 → (trace_refusal f t ≡ 0) × (state_refusal f t h ≡ 0)
   unfolding held_refusal
   held_none e = next-zero _ _ e
-
-  module _ (x : Prepared) (e : x ≡ prepared f t h) where
-    pub held-judged : x.refusal ≡ held_refusal f t h
-    unfolding prepared
-    held-judged = ap (λ (y : Prepared). y.refusal) e
-
-    pub held-tasks : x.refusal ≡ 0 → x.tasks ≡ tasks_of f t
-    unfolding prepared
-    held-tasks z = ap (λ (y : Prepared). y.tasks) e ∙ pick_true _ _ _ (eq-eqb _ _ (held_none (sym held-judged ∙ z)).0)
 
 -- ---- the order
 
@@ -108,55 +100,48 @@ next_last zero = refl
 next_last (suc a) = refl
 
 module _ (o : Profile) (f : List ℕ) (buffer shared : ℕ) (room : Bool) where
-  abbrev lent-number : ℕ
-  lent-number = next (judge_for o f) (unless (both (lent_fits f buffer shared) room) 21)
+  -- forward: of an accepted file
+  module _ (z : judge_for o f ≡ 0) where
+    pub lent-held : lent_fits f buffer shared ≡ true → room ≡ true → 0 ≡ lent_refusal o f buffer shared room
+    unfolding lent_refusal
+    lent-held a b = sym (next-none _ _ z (yes _ 21 (rw (a, b) refl)))
 
-  -- forward: what the code answers of the file alone, x, and of lent memory
-  module _ (x : Loaded) (e : x ≡ load_for o f) where
-    lent_is : (r : ℕ) → r ≡ lent-number → record { refusal = r; layout = x.layout } ≡ loaded_lent o f buffer shared room
-    unfolding loaded_lent
-    lent_is r q = ap₂ (λ (n : ℕ) (y : Loaded). record { refusal = n; layout = y.layout }) q e
+    lent-short : both (lent_fits f buffer shared) room ≡ false → 21 ≡ lent_refusal o f buffer shared room
+    unfolding lent_refusal
+    lent-short a = skip z (sym (no _ 21 a))
 
-    pub lent-refused : x.refusal ≢ 0 → x ≡ loaded_lent o f buffer shared room
-    lent-refused n = lent_is x.refusal (stop _ (file-judged-for o f x e) n)
+    pub lent-unfit : lent_fits f buffer shared ≡ false → 21 ≡ lent_refusal o f buffer shared room
+    lent-unfit a = lent-short (rw a refl)
 
-    module _ (z : x.refusal ≡ 0) where
-      none : judge_for o f ≡ 0
-      none = sym (file-judged-for o f x e) ∙ z
-
-      pub lent-held : lent_fits f buffer shared ≡ true → room ≡ true → x ≡ loaded_lent o f buffer shared room
-      lent-held a b = lent_is x.refusal (z ∙ sym (next-none _ _ none (yes _ 21 (rw (a, b) refl))))
-
-      lent-short : both (lent_fits f buffer shared) room ≡ false → record { refusal = 21; layout = x.layout } ≡ loaded_lent o f buffer shared room
-      lent-short a = lent_is 21 (skip none (sym (no _ 21 a)))
-
-      pub lent-unfit : lent_fits f buffer shared ≡ false → record { refusal = 21; layout = x.layout } ≡ loaded_lent o f buffer shared room
-      lent-unfit a = lent-short (rw a refl)
-
-      pub lent-full : room ≡ false → record { refusal = 21; layout = x.layout } ≡ loaded_lent o f buffer shared room
-      lent-full a = lent-short (both-not (lent_fits f buffer shared) room (λ p q. absurd-bool (sym a ∙ q)))
+    pub lent-full : room ≡ false → 21 ≡ lent_refusal o f buffer shared room
+    lent-full a = lent-short (both-not (lent_fits f buffer shared) room (λ p q. absurd-bool (sym a ∙ q)))
 
   -- backward
-  module _ (x : Loaded) (e : x ≡ loaded_lent o f buffer shared room) where
-    pub lent-judged : x.refusal ≡ lent-number
-    unfolding loaded_lent
-    lent-judged = ap (λ (y : Loaded). y.refusal) e
+  module _ (z : 0 ≡ lent_refusal o f buffer shared room) where
+    lent-accepted : judge f ≡ 0
+    unfolding lent_refusal
+    lent-accepted = any-is-full o f (next-zero _ _ (sym z)).0
 
-    module _ (z : x.refusal ≡ 0) where
-      accepted : judge_for o f ≡ 0
-      accepted = (next-zero _ _ (sym lent-judged ∙ z)).0
+    lent_fits_lem : lent_fits f buffer shared ≡ true
+    unfolding lent_refusal
+    lent_fits_lem = (both_true _ _ (unless-zero _ 20 (next-zero _ _ (sym z)).1)).0
 
-      pub lent_fits_lem : lent_fits f buffer shared ≡ true
-      lent_fits_lem = (both_true _ _ (unless-zero _ 20 (next-zero _ _ (sym lent-judged ∙ z)).1)).0
+  pub lent_laid : (r : Result Layout Refusal) → (refusal_of r ≡ lent_refusal o f buffer shared room) × IfOk r (λ l. l ≡ layout_of f) → LaidOut f r
+  lent_laid (Ok l) e = (lent-accepted e.0, e.1)
+  lent_laid (Err r) e = tt
 
-      pub lent_laid : (judge f ≡ 0) × (x.layout ≡ layout_of f)
-      unfolding loaded_lent load_for
-      lent_laid = (file-accepted-for o f (load_for o f) refl accepted, ap (λ (y : Loaded). y.layout) e ∙ file-laid-for o f (load_for o f) refl accepted)
+pub lent-to : (o : Profile) (f d sh : List ℕ) (room : Bool) (l : Layout) → (0 ≡ lent_refusal o f (length d) (length sh) room) × (l ≡ layout_of f) → LentTo f l d sh
+lent-to o f d sh room l e =
+    record { accepted = lent-accepted o f (length d) (length sh) room e.0; laid = e.1; fits = lent_fits_lem o f (length d) (length sh) room e.0 }
 
-pub lent-to : (o : Profile) (f d sh : List ℕ) (room : Bool) (x : Loaded) → x ≡ loaded_lent o f (length d) (length sh) room → x.refusal ≡ 0 → LentTo f x.layout d sh
-lent-to o f d sh room x e z =
-    let laid = lent_laid o f (length d) (length sh) room x e z in
-    record { accepted = laid.0; laid = laid.1; fits = lent_fits_lem o f (length d) (length sh) room x e z }
+-- a file that is loaded, and no memory lent
+pub loaded-laid : (f : List ℕ) (r : Result Layout Refusal) → loaded_as r ≡ load_of f → LaidOut f r
+loaded-laid f (Ok l) e = (file-accepted f _ e refl, file-laid f _ e refl)
+loaded-laid f (Err r) e = tt
+
+loaded-number : (f : List ℕ) (r : Result Layout Refusal) → loaded_as r ≡ load_of f → refusal_of r ≡ judge f
+loaded-number f (Ok l) e = file-judged f _ e
+loaded-number f (Err r) e = file-judged f _ e
 
 -- ---- the call, after loading
 
@@ -164,19 +149,7 @@ module _ (f t : List ℕ) (loaded : ℕ) (h : Held) (order : List ℕ) where
   abbrev number : ℕ
   number = judged_number f t loaded h order
 
-  -- what is refused has neither layout nor tasks to say
-  pub judge-refused : {l : Layout} (x : Judgement) {r : ℕ} → x ≡ without_tasks r l → r ≡ number → r ≢ 0 → JudgedAs f t loaded h order x
-  judge-refused x w q n = let e = ap (λ (y : Judgement). y.refusal) w in record { number = e ∙ q; laid = λ z. absurd (n (sym e ∙ z)); tasked = λ z. absurd (n (sym e ∙ z)) }
-
-  pub judge-file : {r : ℕ} → r ≡ loaded → r ≢ 0 → r ≡ number
-  unfolding judged_number
-  judge-file e n = stop _ e n
-
   module _ (z : loaded ≡ 0) where
-    pub judge-held : {r : ℕ} → r ≡ held_refusal f t h → r ≢ 0 → r ≡ number
-    unfolding judged_number
-    judge-held e n = skip z (stop _ e n)
-
     module _ (y : held_refusal f t h ≡ 0) where
       pub judge-unnamed : all_below (cores f) order ≡ false → 20 ≡ number
       unfolding judged_number
@@ -188,18 +161,18 @@ module _ (f t : List ℕ) (loaded : ℕ) (h : Held) (order : List ℕ) where
 
 -- the number of each call
 module _ (f t : List ℕ) (h : Held) where
-  pub set-number : (x : Loaded) → x ≡ load_of f → judged_number f t x.refusal h [] ≡ set_refusal f t h
+  pub set-number : (r : Result Layout Refusal) → loaded_as r ≡ load_of f → judged_number f t (refusal_of r) h [] ≡ set_refusal f t h
   unfolding judged_number set_refusal unless
-  set-number x e = ap₂ next (file-judged f x e) (next_last (held_refusal f t h))
+  set-number r e = ap₂ next (loaded-number f r e) (next_last (held_refusal f t h))
 
-  pub next-number : (given : ℕ) (x : Loaded) → x ≡ load_of f → judged_number f t x.refusal h (given ∷ []) ≡ next_refusal f t h given
+  pub next-number : (given : ℕ) (r : Result Layout Refusal) → loaded_as r ≡ load_of f → judged_number f t (refusal_of r) h (given ∷ []) ≡ next_refusal f t h given
   unfolding judged_number next_refusal
-  next-number given x e = ap₂ (λ (r : ℕ) (b : Bool). next r (next (held_refusal f t h) (unless b 20))) (file-judged f x e) (both-alone (ltb given (cores f)))
+  next-number given r e = ap₂ (λ (n : ℕ) (b : Bool). next n (next (held_refusal f t h) (unless b 20))) (loaded-number f r e) (both-alone (ltb given (cores f)))
 
-  pub run-number : (d sh order list : List ℕ) (x : Loaded) → x ≡ loaded_lent Full f (length d) (length sh) (leb (length order) (length list))
-      → judged_number f t x.refusal h order ≡ run_refusal f t h d sh order list
-  unfolding judged_number run_refusal call_refusal
-  run-number d sh order list x e = ap (λ (r : ℕ). next r (next (held_refusal f t h) (unless (all_below (cores f) order) 20))) (lent-judged Full f (length d) (length sh) (leb (length order) (length list)) x e) ∙ next-next _ _ _
+  pub run-number : (d sh order list : List ℕ) (n : ℕ) → n ≡ lent_refusal Full f (length d) (length sh) (leb (length order) (length list))
+      → judged_number f t n h order ≡ run_refusal f t h d sh order list
+  unfolding judged_number run_refusal call_refusal lent_refusal
+  run-number d sh order list n e = ap (λ (r : ℕ). next r (next (held_refusal f t h) (unless (all_below (cores f) order) 20))) e ∙ next-next _ _ _
 
 -- ---- a call that is not refused
 
@@ -256,8 +229,9 @@ lent-sizes f buffer shared e = let b = both_true _ _ e in (eqb-true _ _ b.0, eqb
 
 -- the fresh state, under a profile
 module _ (o : Profile) (f : List ℕ) (d sh : List ℕ) where
-  pub fresh-number : (x : Loaded) → x ≡ loaded_lent o f (length d) (length sh) true → x.refusal ≡ fresh_refusal_for o f (length d) (length sh)
-  fresh-number x e = lent-judged o f (length d) (length sh) true x e ∙ ap (λ (b : Bool). next (judge_for o f) (unless b 21)) (both-alone (lent_fits f (length d) (length sh)))
+  pub fresh-number : (n : ℕ) → n ≡ lent_refusal o f (length d) (length sh) true → n ≡ fresh_refusal_for o f (length d) (length sh)
+  unfolding lent_refusal
+  fresh-number n e = e ∙ ap (λ (b : Bool). next (judge_for o f) (unless b 21)) (both-alone (lent_fits f (length d) (length sh)))
 
   pub fresh-none-for : judge_for o f ≡ 0 → lent_fits f (length d) (length sh) ≡ true → fresh_refusal_for o f (length d) (length sh) ≡ 0
   fresh-none-for z e = next-none _ _ z (yes _ 21 e)

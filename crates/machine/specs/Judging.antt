@@ -1,30 +1,29 @@
 -- What the judging of a call answers, and what the inner functions of this crate are given. In order: file and lent memory; the call; a run from the fresh state.
 -- Not here: the refusal number of each public call (`Calls`).
-use Rattle.std.specs.Prelude.{◌≡◌, Bool, true, List, [], ◌∷◌, ℕ, length}
+use Rattle.std.specs.Prelude.{◌≡◌, Bool, true, List, ℕ, length, Result}
+use Rattle.std.specs.Result.{IfOk}
 use Rattle.verdict.specs.Numbers.{no_such_core, bad_lengths}
 use Rattle.verdict.specs.Verdict.{both, next, unless}
+use Rattle.verdict.specs.Refusals.{refusal_of}
+use Rattle.verdict.specs.declared.Refusal.{Refusal}
 use Rattle.protocol.specs.Fresh.{fresh_flags}
 use Rattle.records.specs.File.{cores}
 use Rattle.code.specs.declared.Profile.{Profile}
 use Rattle.taskset.specs.declared.Layout.{Layout}
-use Rattle.taskset.specs.declared.Loaded.{Loaded}
 use Rattle.taskset.specs.Judge.{judge_for, judge}
-use Rattle.taskset.specs.Layout.{layout_of, load_for}
+use Rattle.taskset.specs.Layout.{layout_of}
 use Rattle.taskset.specs.Starts.{start_shared, start_buffer}
 use Rattle.states.specs.declared.Held.{Held}
 use Rattle.states.specs.Preparing.{held_refusal}
-use Rattle.states.specs.Tasks.{no_task, tasks_of}
+use Rattle.states.specs.Tasks.{tasks_of}
 use Rattle.runner.specs.Runs.{all_below, Left}
 use Rattle.machine.specs.declared.judging.Judgement.{Judgement}
 use Rattle.machine.specs.Calls.{lent_fits, table_of, run_call}
 
 -- ---- file and lent memory
 
-unfoldable pub loaded_lent : Profile → List ℕ → ℕ → ℕ → Bool → Loaded
-loaded_lent profile f buffer shared room = record {
-  refusal = next (judge_for profile f) (unless (both (lent_fits f buffer shared) room) bad_lengths);
-  layout = (load_for profile f).layout;
-}
+unfoldable pub lent_refusal : Profile → List ℕ → ℕ → ℕ → Bool → ℕ
+lent_refusal profile f buffer shared room = next (judge_for profile f) (unless (both (lent_fits f buffer shared) room) bad_lengths)
 
 -- an accepted file with its layout, and memories of its sizes
 pub record LentTo (f : List ℕ) (layout : Layout) (d sh : List ℕ) : Type 0 where
@@ -33,22 +32,17 @@ pub record LentTo (f : List ℕ) (layout : Layout) (d sh : List ℕ) : Type 0 wh
   pub fits : lent_fits f (length d) (length sh) ≡ true
 
 -- the layout is that of an accepted file where nothing is refused
-abbrev pub LaidOut : List ℕ → Loaded → Type 0
-LaidOut f x = x.refusal ≡ 0 → (judge f ≡ 0) × (x.layout ≡ layout_of f)
+abbrev pub LaidOut : List ℕ → Result Layout Refusal → Type 0
+LaidOut f x = IfOk x (λ layout. (judge f ≡ 0) × (layout ≡ layout_of f))
 
 -- ---- the call, after what loading refused
-
--- what is refused has no tasks
-abbrev pub without_tasks : ℕ → Layout → Judgement
-without_tasks number l = record { refusal = number; layout = l; tasks = no_task ∷ no_task ∷ no_task ∷ no_task ∷ [] }
 
 unfoldable pub judged_number : List ℕ → List ℕ → ℕ → Held → List ℕ → ℕ
 judged_number f t loaded h order = next loaded (next (held_refusal f t h) (unless (all_below (cores f) order) no_such_core))
 
-pub record JudgedAs (f t : List ℕ) (loaded : ℕ) (h : Held) (order : List ℕ) (x : Judgement) : Type 0 where
-  pub number : x.refusal ≡ judged_number f t loaded h order
-  pub laid : x.refusal ≡ 0 → x.layout ≡ layout_of f
-  pub tasked : x.refusal ≡ 0 → x.tasks ≡ tasks_of f t
+abbrev pub JudgedAs : List ℕ → List ℕ → ℕ → Held → List ℕ → Result Judgement Refusal → Type 0
+JudgedAs f t loaded h order x =
+    (refusal_of x ≡ judged_number f t loaded h order) × IfOk x (λ j. (j.layout ≡ layout_of f) × (j.tasks ≡ tasks_of f t))
 
 -- ---- a run from the fresh state of an accepted file, in memories of its sizes
 

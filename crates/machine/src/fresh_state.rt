@@ -71,11 +71,10 @@ pub fn fresh_judged(file: &[u8], layout: Layout, buffer: &mut [u8], shared: &mut
 pub fn fresh_for(profile: Profile, file: &[u8], buffer: &mut [u8], shared: &mut [u8]) -> RunAnswer
     ensures { left_as result buffer.new shared.new [] ≡ fresh_call_for profile file.now buffer.old shared.old }
 {
-    let loaded = load_lent(profile, file, buffer.len(), shared.len(), true);
-    if loaded.refusal != 0 {
-        return answer(loaded.refusal, idle_table(0, 0));
+    match load_lent(profile, file, buffer.len(), shared.len(), true) {
+        Ok(layout) => fresh_judged(file, layout, buffer, shared),
+        Err(refusal) => answer(refusal.number(), idle_table(0, 0)),
     }
-    fresh_judged(file, loaded.layout, buffer, shared)
 }
 
 // Under the full profile.

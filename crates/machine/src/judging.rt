@@ -1,15 +1,18 @@
 // The judging of a call, each thing once: the file, lent memory (21), trace and state (22, 23), the cores that it names (20).
 ghost use Rattle.std.specs.Prelude.{◌≡◌};
+ghost use Rattle.std.specs.Result.{IfOk};
+ghost use Rattle.verdict.specs.Refusals.{refusal_of};
 ghost use Rattle.taskset.specs.Judge.{judge};
 ghost use Rattle.taskset.specs.Layout.{layout_of};
 ghost use Rattle.runner.specs.Runs.{all_below};
-ghost use Rattle.machine.specs.Judging.{loaded_lent, LaidOut, without_tasks, JudgedAs};
+ghost use Rattle.machine.specs.Judging.{lent_refusal, LaidOut, JudgedAs};
 ghost use Rattle.machine.specs.Calls.{lent_fits};
 
 use super::SHARED;
 use code::Profile;
 use states::{CoreTask, Held};
-use taskset::{Layout, Loaded};
+use taskset::Layout;
+use verdict::Refusal;
 
 // ---- file and lent memory
 
@@ -25,31 +28,29 @@ fn lent_fits(file: &[u8], layout: Layout, buffer: usize, shared: usize) -> bool
 }
 
 // The file, under a profile, then lent memory of these sizes and whether the order list has room.
-pub fn load_lent(profile: Profile, file: &[u8], buffer: usize, shared: usize, room: bool) -> Loaded
-    ensures { result ≡ loaded_lent profile file.now buffer shared room }
+pub fn load_lent(
+    profile: Profile,
+    file: &[u8],
+    buffer: usize,
+    shared: usize,
+    room: bool,
+) -> Result<Layout, Refusal>
+    ensures { (refusal_of result ≡ lent_refusal profile file.now buffer shared room) × IfOk result (λ layout. layout ≡ layout_of file.now) }
 {
-    let loaded = file_loading::load_file_for(profile, file);
-    if loaded.refusal != 0 {
-        return loaded;
-    }
-    let layout = loaded.layout;
+    let layout = file_loading::load_file_for(profile, file)?;
     if room {
         if lent_fits(file, layout, buffer, shared) {
-            return loaded;
+            return Ok(layout);
         }
     }
-    Loaded {
-        refusal: verdict::BAD_LENGTHS,
-        layout,
-    }
+    Err(Refusal::BadLengths)
 }
 
 // ---- the call, after what loading refused
 
-// The refusal number; where there is none, what the call goes on with.
+// What a call goes on with that is not refused.
 #[derive(Clone, Copy)]
 pub struct Judgement {
-    pub refusal: u8,
     pub layout: Layout,
     pub tasks: [CoreTask; 4],
 }
@@ -59,12 +60,8 @@ fn all_below(order: &[u8], n: usize) -> bool
     ensures { result ≡ all_below n order.now }
 {
     let mut most: u8 = 0;
-    let mut i = 0;
-    while i < order.len() {
-        if most < order[i] {
-            most = order[i];
-        }
-        i += 1;
+    for core in order {
+        most = most.max(*core);
     }
     if order.len() == 0 {
         return true;
@@ -72,42 +69,21 @@ fn all_below(order: &[u8], n: usize) -> bool
     (most as usize) < n
 }
 
-// A refused call has no tasks.
-fn without_tasks(number: u8, layout: Layout) -> Judgement
-    ensures { result ≡ without_tasks number layout }
-{
-    let none = states::no_task();
-    let tasks = [none, none, none, none];
-    Judgement {
-        refusal: number,
-        layout,
-        tasks,
-    }
-}
-
 // What loading refused, or trace and state, then the cores that an order names.
-pub fn judge_call(file: &[u8], trace: &[u8], loaded: Loaded, s: Held, order: &[u8]) -> Judgement
+pub fn judge_call(
+    file: &[u8],
+    trace: &[u8],
+    loaded: Result<Layout, Refusal>,
+    s: Held,
+    order: &[u8],
+) -> Result<Judgement, Refusal>
     requires { LaidOut file.now loaded }
-    ensures { JudgedAs file.now trace.now loaded.refusal s order.now result }
+    ensures { JudgedAs file.now trace.now (refusal_of loaded) s order.now result }
 {
-    let layout = loaded.layout;
-    let number = loaded.refusal;
-    if number != 0 {
-        return without_tasks(number, layout);
+    let layout = loaded?;
+    let tasks = fitness::prepare(file, trace, layout, s)?;
+    if !all_below(order, layout.cores) {
+        return Err(Refusal::NoSuchCore);
     }
-    let prepared = fitness::prepare(file, trace, layout, s);
-    let held = prepared.refusal;
-    let named = all_below(order, layout.cores);
-    if held != 0 {
-        return without_tasks(held, layout);
-    }
-    if !named {
-        return without_tasks(verdict::NO_SUCH_CORE, layout);
-    }
-    let tasks = prepared.tasks;
-    Judgement {
-        refusal: 0,
-        layout,
-        tasks,
-    }
+    Ok(Judgement { layout, tasks })
 }

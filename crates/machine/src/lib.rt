@@ -1,4 +1,4 @@
-// The machine that users call, by value. No call requires anything: each gives the refusal number of document 01 that fits, in the order
+// The machine that users call, by value. No call requires anything: each gives the refusal of document 01 that fits, in the order
 // file, 21, 22, 23, 20, and then changes no lent byte. `load_lent` and `judge_call` have this order for all of them.
 // Not here: the judging of a call (src/judging.rt); the fresh state (src/fresh_state.rt); a run and a step (crate `runs`).
 #![tactic(auto)]
@@ -7,6 +7,7 @@ mod fresh_state;
 mod judging;
 
 ghost use Rattle.std.specs.Prelude.{◌≡◌, ◌≤◌};
+ghost use Rattle.verdict.specs.Refusals.{refusal_of};
 ghost use Rattle.taskset.specs.Judge.{judge_for, judge};
 ghost use Rattle.machine.specs.Calls.{buffer_size, set_refusal, answer_of, next_call, next_says, next_said};
 
@@ -16,34 +17,35 @@ pub use judging::{Judgement, judge_call, load_lent};
 use runner::RunAnswer;
 use states::Held;
 use table::Moving;
+use verdict::Refusal;
 
 // Bytes of shared memory.
 pub const SHARED: usize = 1024;
 
 // ---- checks
 
-// The refusal number of a task set file alone, under the profile that the caller names.
-pub fn check_file_for(profile: Profile, file: &[u8]) -> u8
-    ensures { result ≡ judge_for profile file.now }
+// A task set file alone, under the profile that the caller names.
+pub fn check_file_for(profile: Profile, file: &[u8]) -> Result<(), Refusal>
+    ensures { refusal_of result ≡ judge_for profile file.now }
 {
     file_judging::judge_file_for(profile, file)
 }
 
 // Under the full profile.
-pub fn check_file(file: &[u8]) -> u8
-    ensures { result ≡ judge file.now }
+pub fn check_file(file: &[u8]) -> Result<(), Refusal>
+    ensures { refusal_of result ≡ judge file.now }
 {
     check_file_for(Profile::Full, file)
 }
 
-// The refusal number of a state, with its file and trace.
-pub fn check_state(file: &[u8], trace: &[u8], s: Held) -> u8
-    ensures { result ≡ set_refusal file.now trace.now s }
+// A state, with its file and trace.
+pub fn check_state(file: &[u8], trace: &[u8], s: Held) -> Result<(), Refusal>
+    ensures { refusal_of result ≡ set_refusal file.now trace.now s }
 {
     let named = [0u8; 0];
     let loaded = file_loading::load_file(file);
-    let judged = judge_call(file, trace, loaded, s, &named);
-    judged.refusal
+    judge_call(file, trace, loaded, s, &named)?;
+    Ok(())
 }
 
 // ---- lent memory
@@ -52,11 +54,10 @@ pub fn check_state(file: &[u8], trace: &[u8], s: Held) -> u8
 pub fn buffer_size(file: &[u8]) -> usize
     ensures { (result ≡ buffer_size file.now) × (result ≤ 16384) }
 {
-    let loaded = file_loading::load_file(file);
-    if loaded.refusal != 0 {
-        return 0;
+    match file_loading::load_file(file) {
+        Ok(layout) => file_loading::sum_of_sizes(file, layout),
+        Err(_) => 0,
     }
-    file_loading::sum_of_sizes(file, loaded.layout)
 }
 
 // ---- the core table
@@ -74,12 +75,17 @@ pub fn next_core(file: &[u8], trace: &[u8], s: Held, given: u8) -> Next
 {
     let named = [given];
     let loaded = file_loading::load_file(file);
-    let judged = judge_call(file, trace, loaded, s, &named);
-    if judged.refusal != 0 {
-        return Next::Refused(judged.refusal);
+    match judge_call(file, trace, loaded, s, &named) {
+        Ok(judged) => Next::Found(table::next_moving(
+            file,
+            trace,
+            judged.tasks,
+            judged.layout.cores,
+            s,
+            given,
+        )),
+        Err(refusal) => Next::Refused(refusal.number()),
     }
-    let tasks = judged.tasks;
-    Next::Found(table::next_moving(file, trace, tasks, judged.layout.cores, s, given))
 }
 
 // ---- the answer

@@ -3,6 +3,7 @@
 
 ghost use Rattle.std.specs.Prelude.{◌≡◌, true, ◌+◌, ◌*◌, ◌-◌, ◌<◌, ◌≤◌, eqb, length};
 ghost use Rattle.verdict.specs.Verdict.{first};
+ghost use Rattle.verdict.specs.Refusals.{refusal_of};
 ghost use Rattle.protocol.specs.Variables.{local, reads_it, writes_it};
 ghost use Rattle.code.specs.Profiles.{most_data};
 ghost use Rattle.records.specs.File.{variables, record_place, variable_in};
@@ -10,6 +11,7 @@ ghost use Rattle.records.specs.Records.{core_ok, core_refusal, bit, has_one_writ
 ghost use Rattle.records.specs.Order.{RisingShared, RisingIn, RisingAll};
 
 use code::Profile;
+use verdict::Refusal;
 
 // Bytes of a core's record: data size, input size, limit (16 bits each).
 pub const CORE_RECORD: usize = 6;
@@ -102,32 +104,28 @@ fn core_ok(profile: Profile, f: &[u8], k: usize) -> bool
     1 <= memory::word_at(f, p + 4)
 }
 
-fn core_refusal(profile: Profile, f: &[u8], k: usize) -> u8
+fn judge_core(profile: Profile, f: &[u8], k: usize) -> Result<(), Refusal>
     requires { k < 4 }
-    ensures { result ≡ core_refusal profile f.now k }
+    ensures { refusal_of result ≡ core_refusal profile f.now k }
 {
     if f.len() < 5 + CORE_RECORD * k + CORE_RECORD {
-        return verdict::CUT_FILE;
+        return Err(Refusal::CutFile);
     }
     if core_ok(profile, f, k) {
-        return 0;
+        Ok(())
+    } else {
+        Err(Refusal::BadCore)
     }
-    verdict::BAD_CORE
 }
 
-pub fn cores_refusal(profile: Profile, f: &[u8], n: usize) -> u8
+pub fn judge_cores(profile: Profile, f: &[u8], n: usize) -> Result<(), Refusal>
     requires { n ≤ 4 }
-    ensures { result ≡ first (core_refusal profile f.now) (n - 0) 0 }
+    ensures { refusal_of result ≡ first (core_refusal profile f.now) (n - 0) 0 }
 {
-    let mut k = 0;
-    while k < n {
-        let r = core_refusal(profile, f, k);
-        if r != 0 {
-            return r;
-        }
-        k = k + 1;
+    for k in 0..n {
+        judge_core(profile, f, k)?;
     }
-    0
+    Ok(())
 }
 
 // ---- one variable
@@ -204,31 +202,27 @@ fn variable_ok(f: &[u8], p: usize) -> bool
     parts_ok(f, p)
 }
 
-fn variable_refusal(f: &[u8], i: u8) -> u8
-    ensures { result ≡ variable_refusal f.now i }
+fn judge_variable(f: &[u8], i: u8) -> Result<(), Refusal>
+    ensures { refusal_of result ≡ variable_refusal f.now i }
 {
     let p = record_place(f, i);
     if f.len() < p + 12 {
-        return verdict::CUT_FILE;
+        return Err(Refusal::CutFile);
     }
     if variable_ok(f, p) {
-        return 0;
+        Ok(())
+    } else {
+        Err(Refusal::BadVariable)
     }
-    verdict::BAD_VARIABLE
 }
 
-pub fn variables_refusal(f: &[u8], m: u8) -> u8
-    ensures { result ≡ first (variable_refusal f.now) (m - 0) 0 }
+pub fn judge_variables(f: &[u8], m: u8) -> Result<(), Refusal>
+    ensures { refusal_of result ≡ first (variable_refusal f.now) (m - 0) 0 }
 {
-    let mut i = 0;
-    while i < m {
-        let r = variable_refusal(f, i);
-        if r != 0 {
-            return r;
-        }
-        i = i + 1;
+    for i in 0..m {
+        judge_variable(f, i)?;
     }
-    0
+    Ok(())
 }
 
 // ---- two variables
@@ -304,19 +298,17 @@ fn overlapping(f: &[u8], p: usize, q: usize) -> bool
 }
 
 // Variable i against each of the m after it.
-fn overlap_refusal(f: &[u8], i: u8, m: u8) -> u8
+fn judge_overlap(f: &[u8], i: u8, m: u8) -> Result<(), Refusal>
     requires { (i < m) × (m ≡ variables f.now) × (record_place f.now m ≤ length f.now) }
-    ensures { result ≡ overlap_refusal f.now i }
+    ensures { refusal_of result ≡ overlap_refusal f.now i }
 {
     let p = record_place(f, i);
-    let mut j = i + 1;
-    while j < m {
+    for j in i + 1..m {
         if overlapping(f, p, record_place(f, j)) {
-            return verdict::OVERLAPPING;
+            return Err(Refusal::Overlapping);
         }
-        j = j + 1;
     }
-    0
+    Ok(())
 }
 
 // Whether each of the m variables stands behind all before it in shared memory.
@@ -325,15 +317,13 @@ fn rising_shared(f: &[u8], m: u8) -> bool
     ensures { result ≡ true → RisingShared f.now m }
 {
     let mut end: usize = 0;
-    let mut i = 0;
-    while i < m {
+    for i in 0..m {
         let p = record_place(f, i);
         let place = shared_place(f, p) as usize;
         if place < end {
             return false;
         }
         end = place + width(f, p) as usize;
-        i = i + 1;
     }
     true
 }
@@ -344,8 +334,7 @@ fn rising_in(f: &[u8], m: u8, k: usize) -> bool
     ensures { result ≡ true → RisingIn f.now k m }
 {
     let mut end: usize = 0;
-    let mut i = 0;
-    while i < m {
+    for i in 0..m {
         let p = record_place(f, i);
         if is_named(f, p, k) {
             let local = local_place(f, p, k) as usize;
@@ -354,7 +343,6 @@ fn rising_in(f: &[u8], m: u8, k: usize) -> bool
             }
             end = local + width(f, p) as usize;
         }
-        i = i + 1;
     }
     true
 }
@@ -380,20 +368,15 @@ fn rising(f: &[u8], m: u8) -> bool
 }
 
 // Each of the m variables against each.
-pub fn overlaps_refusal(f: &[u8], m: u8) -> u8
+pub fn judge_overlaps(f: &[u8], m: u8) -> Result<(), Refusal>
     requires { (m ≡ variables f.now) × (record_place f.now m ≤ length f.now) }
-    ensures { result ≡ first (overlap_refusal f.now) (m - 0) 0 }
+    ensures { refusal_of result ≡ first (overlap_refusal f.now) (m - 0) 0 }
 {
     if rising(f, m) {
-        return 0;
+        return Ok(());
     }
-    let mut i = 0;
-    while i < m {
-        let r = overlap_refusal(f, i, m);
-        if r != 0 {
-            return r;
-        }
-        i = i + 1;
+    for i in 0..m {
+        judge_overlap(f, i, m)?;
     }
-    0
+    Ok(())
 }

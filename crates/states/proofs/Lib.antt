@@ -7,4 +7,3 @@ pub mod Executes
 pub mod Says
 pub mod Fresh
 pub mod Exactly
-pub mod Preparing

@@ -106,12 +106,3 @@ pub fn core_tasks(file: &[u8], trace: &[u8], layout: Layout, traces: TraceLayout
     let t3 = task_at(file, trace, layout, traces, 3);
     [t0, t1, t2, t3]
 }
-
-// ---- trace and state of an accepted file
-
-// What judging a trace and then a state finds: the refusal, and the cores' tasks where the trace is sound.
-#[derive(Clone, Copy)]
-pub struct Prepared {
-    pub refusal: u8,
-    pub tasks: [CoreTask; 4],
-}

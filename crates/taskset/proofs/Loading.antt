@@ -4,13 +4,17 @@ use mathlib.Core.List.{List}
 use Prim.Native.Nat.{ℕ, zero, suc, ◌<◌}
 use native.Mathlib.Omega.{arith}
 use lib.ListN.{get_or}
-use borrow.Author.Tests.{eq-eqb}
+use borrow.Author.Tests.{eq-eqb, ne_eqb}
+use Rattle.std.specs.Prelude.{Ok, Err}
+use Rattle.verdict.specs.Verdict.{pick}
+use Rattle.verdict.specs.Refusals.{number_of}
+use Rattle.verdict.specs.declared.Refusal.{Refusal}
 use Rattle.verdict.proofs.Verdict.{pick_true}
+use Rattle.verdict.proofs.Refusals.{refused}
 use Rattle.code.specs.declared.Profile.{Profile}
 use Rattle.code.specs.declared.Profile.TheVariants.{Full}
-use Rattle.taskset.specs.declared.Loaded.{Loaded}
 use Rattle.taskset.specs.Judge.{judge_for, judge}
-use Rattle.taskset.specs.Layout.{no_core, core_layout, layout_of, load_for, load_of}
+use Rattle.taskset.specs.Layout.{no_core, core_layout, layout_of, Loaded, load_for, load_of, loaded_as}
 use Rattle.taskset.proofs.Narrowed.{any-is-full}
 
 -- core k of a layout
@@ -20,6 +24,11 @@ core-of f (suc zero) h = refl
 core-of f (suc (suc zero)) h = refl
 core-of f (suc (suc (suc zero))) h = refl
 core-of f (suc (suc (suc (suc k)))) h = absurd (omega arith)
+
+-- the answer where the file is refused
+pub file-refused : (o : Profile) (f : List ℕ) (r : Refusal) → number_of r ≡ judge_for o f → loaded_as (Err r) ≡ load_for o f
+unfolding load_for pick
+file-refused o f r e = rw (sym e, ne_eqb _ _ (refused r))
 
 module _ (o : Profile) (f : List ℕ) (x : Loaded) (e : x ≡ load_for o f) where
   pub file-judged-for : x.refusal ≡ judge_for o f

@@ -8,12 +8,17 @@ use native.Mathlib.Omega.{arith}
 use borrow.Author.Tests.{eqb-true, eq-eqb, ne_eqb, lt-ltb}
 use lib.Dec.{eqb}
 use lib.ListN.{length}
-use Rattle.verdict.specs.Verdict.{unless}
+use Rattle.std.specs.Prelude.{Err}
+use Rattle.verdict.specs.Verdict.{pick, unless}
+use Rattle.verdict.specs.Refusals.{number_of}
+use Rattle.verdict.specs.declared.Refusal.{Refusal}
 use Rattle.verdict.proofs.Truth.{either-stop}
 use Rattle.verdict.proofs.Verdict.{yes, no, unless-zero, pick_true, pick-false}
+use Rattle.verdict.proofs.Refusals.{refused}
 use Rattle.memory.specs.Memory.{word}
 use Rattle.records.specs.File.{cores}
-use Rattle.taskset.specs.Trace.{blank, record_size, record_count, trace_place, sample_place, trace_refusal, count_of}
+use Rattle.taskset.specs.Trace.{blank, record_size, record_count, trace_place, sample_place, trace_refusal, count_of, trace_layout, LoadedTrace, load_trace_of, loaded_trace}
+use Rattle.taskset.specs.declared.TraceLayout.{TraceLayout}
 
 trace-up : (f t : List ℕ) (k d : ℕ) → trace_place f t k ≤ trace_place f t (k + d)
 unfolding trace_place
@@ -77,3 +82,20 @@ record-inside f t k i b z h l =
     omega arith
 
 -- ---- as loaded
+
+-- the answer where the trace is refused
+pub trace-refused : (f t : List ℕ) (r : Refusal) → number_of r ≡ trace_refusal f t → loaded_trace (Err r) ≡ load_trace_of f t
+unfolding load_trace_of pick
+trace-refused f t r e = rw (sym e, ne_eqb _ _ (refused r))
+
+module _ (f t : List ℕ) (x : LoadedTrace) (e : x ≡ load_trace_of f t) where
+  pub trace-judged : x.refusal ≡ trace_refusal f t
+  unfolding load_trace_of
+  trace-judged = ap (λ (y : LoadedTrace). y.refusal) e
+
+  pub trace-sound : x.refusal ≡ 0 → trace_refusal f t ≡ 0
+  trace-sound z = sym trace-judged ∙ z
+
+  pub trace-laid : x.refusal ≡ 0 → x.layout ≡ trace_layout f t
+  unfolding load_trace_of
+  trace-laid z = ap (λ (y : LoadedTrace). y.layout) e ∙ pick_true _ _ _ (eq-eqb _ _ (trace-sound z))

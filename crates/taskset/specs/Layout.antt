@@ -1,6 +1,8 @@
 -- What loading a file answers: the refusal number with an empty layout, or 0 with the layout.
-use Rattle.std.specs.Prelude.{ℕ, zero, suc, ◌+◌, List, [], ◌∷◌, ltb, eqb}
+use Rattle.std.specs.Prelude.{ℕ, zero, suc, ◌+◌, List, [], ◌∷◌, Result, Ok, Err, ltb, eqb}
 use Rattle.verdict.specs.Verdict.{pick}
+use Rattle.verdict.specs.Refusals.{number_of}
+use Rattle.verdict.specs.declared.Refusal.{Refusal}
 use Rattle.memory.specs.Memory.{word}
 use Rattle.records.specs.File.{cores, data_size, input_size, limit, variables, record_place}
 use Rattle.code.specs.declared.Profile.{Profile}
@@ -8,7 +10,6 @@ use Rattle.code.specs.declared.Profile.TheVariants.{Full}
 use Rattle.taskset.specs.Judge.{code_place, judge_for}
 use Rattle.taskset.specs.declared.CoreLayout.{CoreLayout}
 use Rattle.taskset.specs.declared.Layout.{Layout}
-use Rattle.taskset.specs.declared.Loaded.{Loaded}
 
 -- the data of core k stand after those of the cores before it
 unfoldable pub base_place : List ℕ → ℕ → ℕ
@@ -43,8 +44,17 @@ layout_of f = record {
 abbrev pub no_layout : Layout
 no_layout = record { cores = 0; variables = 0; first = 0; core = no_core ∷ no_core ∷ no_core ∷ no_core ∷ [] }
 
+pub record Loaded : Type 0 where
+  pub refusal : ℕ
+  pub layout : Layout
+
 unfoldable pub load_for : Profile → List ℕ → Loaded
 load_for profile f = record { refusal = judge_for profile f; layout = pick (eqb (judge_for profile f) 0) (layout_of f) no_layout }
 
 abbrev pub load_of : List ℕ → Loaded
 load_of f = load_for Full f
+
+-- an answer of the code: a refusal with an empty layout, or the layout
+abbrev pub loaded_as : Result Layout Refusal → Loaded
+loaded_as (Ok layout) = record { refusal = 0; layout = layout }
+loaded_as (Err r) = record { refusal = number_of r; layout = no_layout }

@@ -1,9 +1,11 @@
 -- Document 01: "The trace holds for each core a 16-bit count, then records of 4 time bytes and the input bytes." Core 0 comes first.
 -- Document 02, 2.6: "A trace of zero length shall mean one record for every core, with time 0 and all input bytes 0."
 -- In order: places; records; the refusal; what loading a trace answers. Not here: what a record holds (specs/Task).
-use Rattle.std.specs.Prelude.{ℕ, zero, suc, ◌+◌, ◌*◌, Bool, List, [], ◌∷◌, ltb, eqb, length}
+use Rattle.std.specs.Prelude.{ℕ, zero, suc, ◌+◌, ◌*◌, Bool, List, [], ◌∷◌, Result, Ok, Err, ltb, eqb, length}
 use Rattle.verdict.specs.Numbers.{bad_trace}
 use Rattle.verdict.specs.Verdict.{pick, either, unless}
+use Rattle.verdict.specs.Refusals.{number_of}
+use Rattle.verdict.specs.declared.Refusal.{Refusal}
 use Rattle.memory.specs.Memory.{word}
 use Rattle.records.specs.File.{cores, input_size}
 use Rattle.taskset.specs.declared.TraceLayout.{TraceLayout}
@@ -47,15 +49,23 @@ count_of f t k = pick (ltb k (cores f)) (record_count f t k) 0
 unfoldable pub first_of : List ℕ → List ℕ → ℕ → ℕ
 first_of f t k = pick (ltb k (cores f)) (sample_place f t k 0) 0
 
-abbrev pub no_trace : ℕ → TraceLayout
-no_trace r = record { refusal = r; count = 0 ∷ 0 ∷ 0 ∷ 0 ∷ []; first = 0 ∷ 0 ∷ 0 ∷ 0 ∷ [] }
+abbrev pub no_trace : TraceLayout
+no_trace = record { count = 0 ∷ 0 ∷ 0 ∷ 0 ∷ []; first = 0 ∷ 0 ∷ 0 ∷ 0 ∷ [] }
 
 abbrev pub trace_layout : List ℕ → List ℕ → TraceLayout
 trace_layout f t = record {
-  refusal = 0;
   count = count_of f t 0 ∷ count_of f t 1 ∷ count_of f t 2 ∷ count_of f t 3 ∷ [];
   first = first_of f t 0 ∷ first_of f t 1 ∷ first_of f t 2 ∷ first_of f t 3 ∷ [];
 }
 
-unfoldable pub load_trace_of : List ℕ → List ℕ → TraceLayout
-load_trace_of f t = pick (eqb (trace_refusal f t) 0) (trace_layout f t) (no_trace (trace_refusal f t))
+pub record LoadedTrace : Type 0 where
+  pub refusal : ℕ
+  pub layout : TraceLayout
+
+unfoldable pub load_trace_of : List ℕ → List ℕ → LoadedTrace
+load_trace_of f t = record { refusal = trace_refusal f t; layout = pick (eqb (trace_refusal f t) 0) (trace_layout f t) no_trace }
+
+-- an answer of the code: a refusal with zeros, or the layout
+abbrev pub loaded_trace : Result TraceLayout Refusal → LoadedTrace
+loaded_trace (Ok layout) = record { refusal = 0; layout = layout }
+loaded_trace (Err r) = record { refusal = number_of r; layout = no_trace }

@@ -32,12 +32,6 @@ pub struct Layout {
     pub core: [CoreLayout; 4],
 }
 
-#[derive(Clone, Copy)]
-pub struct Loaded {
-    pub refusal: u8,
-    pub layout: Layout,
-}
-
 // All zeros.
 pub fn no_core() -> CoreLayout
     ensures { result ≡ no_core }
@@ -57,7 +51,6 @@ pub fn no_core() -> CoreLayout
 // Where a trace has its records: record i of core k stands at first[k] + i * (4 + inputs of core k).
 #[derive(Clone, Copy)]
 pub struct TraceLayout {
-    pub refusal: u8,
     pub count: [u16; 4],
     pub first: [usize; 4],
 }

@@ -3,9 +3,11 @@
 #![tactic(auto)]
 
 ghost use Rattle.std.specs.Prelude.{◌≡◌, ◌*◌, ◌<◌, ◌≤◌};
-ghost use Rattle.taskset.specs.Trace.{blank, trace_place, trace_refusal, count_of, first_of, load_trace_of};
+ghost use Rattle.taskset.specs.Trace.{blank, trace_place, trace_refusal, count_of, first_of, load_trace_of, loaded_trace};
+ghost use Rattle.verdict.specs.Refusals.{refusal_of};
 
 use taskset::TraceLayout;
+use verdict::Refusal;
 
 // Where core k's count stands, k up to the number of cores.
 fn trace_place(f: &[u8], t: &[u8], k: usize) -> usize
@@ -13,11 +15,9 @@ fn trace_place(f: &[u8], t: &[u8], k: usize) -> usize
     ensures { (result ≡ trace_place f.now t.now k) × (result ≤ 5000000000 * k) }
 {
     let mut p: usize = 0;
-    let mut i = 0;
-    while i < k {
+    for i in 0..k {
         let n = memory::word_at(t, p);
         p = p + 2 + n * (4 + memory::word_at(f, 5 + 6 * i + 2));
-        i = i + 1;
     }
     p
 }
@@ -29,17 +29,17 @@ fn is_blank(t: &[u8]) -> bool
     t.len() == 0
 }
 
-// The refusal number of the trace t of the task set file f, 0 where it is sound. A trace of no bytes is: it means one record for every core.
-pub fn judge_trace(f: &[u8], t: &[u8]) -> u8
-    ensures { result ≡ trace_refusal f.now t.now }
+// The trace t of the task set file f. A trace of no bytes is sound: it means one record for every core.
+pub fn judge_trace(f: &[u8], t: &[u8]) -> Result<(), Refusal>
+    ensures { refusal_of result ≡ trace_refusal f.now t.now }
 {
     if is_blank(t) {
-        return 0;
+        return Ok(());
     }
     if trace_place(f, t, memory::byte_at(f, 4) as usize) == t.len() {
-        return 0;
+        return Ok(());
     }
-    verdict::BAD_TRACE
+    Err(Refusal::BadTrace)
 }
 
 fn count_of(f: &[u8], t: &[u8], k: usize) -> u16
@@ -65,35 +65,22 @@ fn first_of(f: &[u8], t: &[u8], k: usize) -> usize
     trace_place(f, t, k) + 2
 }
 
-// The refusal number and zeros, or 0 and where the records of each core stand.
-pub fn load_trace(f: &[u8], t: &[u8]) -> TraceLayout
-    ensures { result ≡ load_trace_of f.now t.now }
+// Where the records of each core stand in a sound trace.
+pub fn load_trace(f: &[u8], t: &[u8]) -> Result<TraceLayout, Refusal>
+    ensures { loaded_trace result ≡ load_trace_of f.now t.now }
 {
-    let r = judge_trace(f, t);
-    if r == 0 {
-        let count = [
-            count_of(f, t, 0),
-            count_of(f, t, 1),
-            count_of(f, t, 2),
-            count_of(f, t, 3),
-        ];
-        let first = [
-            first_of(f, t, 0),
-            first_of(f, t, 1),
-            first_of(f, t, 2),
-            first_of(f, t, 3),
-        ];
-        return TraceLayout {
-            refusal: 0,
-            count,
-            first,
-        };
-    }
-    let count: [u16; 4] = [0; 4];
-    let first: [usize; 4] = [0; 4];
-    TraceLayout {
-        refusal: r,
-        count,
-        first,
-    }
+    judge_trace(f, t)?;
+    let count = [
+        count_of(f, t, 0),
+        count_of(f, t, 1),
+        count_of(f, t, 2),
+        count_of(f, t, 3),
+    ];
+    let first = [
+        first_of(f, t, 0),
+        first_of(f, t, 1),
+        first_of(f, t, 2),
+        first_of(f, t, 3),
+    ];
+    Ok(TraceLayout { count, first })
 }

@@ -1,11 +1,14 @@
--- Laws of `specs/Refusals`: a refusal has a number above 0, so a chain of items stops at it and goes on behind an answer that has none. Assumes nothing.
+-- Laws of `specs/Refusals`: a refusal has a number above 0, so a chain of items stops at it and goes on behind an answer that has none; what `?` hands on.
+-- Assumes nothing.
 use mathlib.Core.Path.{◌≡◌}
 use Prim.Native.Nat.{ℕ, ◌<◌, ◌-◌}
 use native.Mathlib.Omega.{arith}
+use Rattle.std.specs.Prelude.{Result, Ok, Err}
+use Rattle.std.specs.Result.{IsErrAnd, IfOk}
 use Rattle.verdict.specs.declared.Refusal.{Refusal}
 use Rattle.verdict.specs.declared.Refusal.TheVariants.{CutFile, NoMark, BadCore, BadVariable, Overlapping, BadInstruction, BadTarget, NoSuchCore, BadLengths, BadTrace, UnfitState, LeftOver, NotAbove, OverCount, WideType, BadSpan, FewPlaces, BadRun, BadStart, HasStarts, NotProduced, OutsideWindow}
 use Rattle.verdict.specs.Verdict.{next, first}
-use Rattle.verdict.specs.Refusals.{number_of}
+use Rattle.verdict.specs.Refusals.{number_of, refusal_of}
 use Rattle.verdict.proofs.Verdict.{stop, Going, going-stop}
 
 pub number-above-zero : (r : Refusal) → 0 < number_of r
@@ -44,3 +47,18 @@ stop-refused r b e = stop b e (refused r)
 
 pub going-refused : (g : ℕ → ℕ) (s n i : ℕ) (r : Refusal) → Going g s n i → i < n → number_of r ≡ g i → number_of r ≡ first g (n - s) s
 going-refused g s n i r w h e = going-stop g s n i (number_of r) w h e (refused r)
+
+-- ---- the exit of a `?`: the caller's answer is the refusal that it met, and has its number
+
+pub handed : {A : Type 0} (r : Result A Refusal) (e : Refusal) → IsErrAnd r (λ (y : Refusal). y ≡ e) → r ≡ Err e
+handed (Ok a) e h = absurd h
+handed (Err y) e h = rw h
+
+pub handed_on : {A : Type 0} (r : Result A Refusal) (e : Refusal) {n : ℕ} → IsErrAnd r (λ (y : Refusal). y ≡ e) → number_of e ≡ n → refusal_of r ≡ n
+handed_on (Ok a) e h k = absurd h
+handed_on (Err y) e h k = rw h k
+
+-- with what the caller says of the value of an answer
+pub handed_none : {A : Type 0} (r : Result A Refusal) (e : Refusal) (P : A → Type 0) {n : ℕ} → IsErrAnd r (λ (y : Refusal). y ≡ e) → number_of e ≡ n → (refusal_of r ≡ n) × IfOk r P
+handed_none (Ok a) e P h k = absurd h
+handed_none (Err y) e P h k = (rw h k, tt)

@@ -1,5 +1,4 @@
 -- `Walking`: whether the place is met from here on is what was asked.
-use Prim.Native.Nat.{◌-◌}
 use mathlib.Core.Path.{sym, ◌∙◌}
 use native.Mathlib.Omega.{arith}
 use Rattle.code.proofs.Passes.{walking-none, walking-more, walking-stuck, walking-past, walking-end, start-beyond}

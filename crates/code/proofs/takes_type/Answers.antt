@@ -1,6 +1,5 @@
 -- The ranges in the order of the definition; each way out rewrites the tests that led to it.
 use mathlib.Core.Path.{sym, ◌∙◌}
-use mathlib.Core.Bool.{false}
 use borrow.Author.Tests.{lt-leb, le-leb, eq-eqb, ne_eqb}
 use Rattle.verdict.specs.Verdict.{pick}
 use Rattle.values.specs.Types.{takes}

@@ -1,5 +1,4 @@
 -- `Laying`: what is left to judge is what was asked, and the marks are the starts that were passed and the targets that were not.
-use Prim.Native.Nat.{◌-◌}
 use mathlib.Core.Path.{sym, ap, ◌∙◌}
 use mathlib.Core.Bool.{Bool}
 use native.Mathlib.Omega.{arith}

@@ -1,27 +1,29 @@
 -- Head, variables, codes.
 use Prim.Native.Nat.{ℕ, ◌+◌, ◌*◌}
-use mathlib.Core.Path.{sym, ap, ◌∙◌}
+use mathlib.Core.Path.{◌≡◌, sym, ap, ◌∙◌}
 use native.Mathlib.Omega.{arith}
 use lib.ListN.{get_or}
-use Rattle.verdict.proofs.Verdict.{skip, stop}
+use Rattle.verdict.proofs.Verdict.{skip}
+use Rattle.verdict.proofs.Refusals.{handed_on, stop-refused}
 use Rattle.records.specs.File.{record_place}
-use Rattle.taskset.specs.Judge.{code_place, judge_for}
+use Rattle.taskset.specs.Judge.{head_refusal, code_place, judge_for}
 use Rattle.taskset.proofs.Laws.{head-long, head-cores}
 use Rattle.file_judging.proofs.judge_file_for.Goals as goal
 
-pub returns-then-h-ne0 : goal.returns-then-h-ne0
+pub returns-in_err-judge_head : goal.returns-in_err-judge_head
 unfolding judge_for
-returns-then-h-ne0 c = stop _ c.head_refusal-h.ensures c.if-h-ne0.true
+returns-in_err-judge_head c = handed_on _ _ c.from_residual.ensures.1 (stop-refused _ _ c.in_err-judge_head.ensures)
 
-pub returns-then-v-ne0 : goal.returns-then-v-ne0
+pub returns-in_err-judge_variable_section : goal.returns-in_err-judge_variable_section
 unfolding judge_for
-returns-then-v-ne0 c = skip (sym c.head_refusal-h.ensures ∙ c.if-h-ne0.false) (stop _ c.variable_section_refusal-v.ensures c.if-v-ne0.true)
+returns-in_err-judge_variable_section c = handed_on _ _ c.from_residual-in_err-judge_variable_section.ensures.1 (skip (sym c.in_ok-judge_head.ensures) (stop-refused _ _ c.in_err-judge_variable_section.ensures))
 
-pub codes_refusal-requires : goal.codes_refusal-requires
+pub judge_codes-requires : goal.judge_codes-requires
 unfolding code_place
-codes_refusal-requires c = let f = c.args.f.now in
-    let n = head-cores c.args.profile f (sym c.head_refusal-h.ensures ∙ c.if-h-ne0.false) in (
-      head-long c.args.profile f (sym c.head_refusal-h.ensures ∙ c.if-h-ne0.false),
+judge_codes-requires c = let f = c.args.f.now in
+    let z : head_refusal c.args.profile f ≡ 0 = omega arith in
+    let n = head-cores c.args.profile f z in (
+      head-long c.args.profile f z,
       omega (arith, c.byte_at-n.ensures, n),
       c.byte_at-n.ensures,
       c.record_place.ensures.0
@@ -31,5 +33,5 @@ codes_refusal-requires c = let f = c.args.f.now in
 
 pub returns : goal.returns
 unfolding judge_for
-returns c = skip (sym c.head_refusal-h.ensures ∙ c.if-h-ne0.false)
-    (skip (sym c.variable_section_refusal-v.ensures ∙ c.if-v-ne0.false) c.codes_refusal.ensures)
+returns c = skip (sym c.in_ok-judge_head.ensures)
+    (skip (sym c.in_ok-judge_variable_section.ensures) c.judge_codes.ensures)

@@ -1,11 +1,8 @@
 -- The sizes before core i are added up.
-use Prim.Native.Nat.{◌*◌, ◌-◌, ◌≤◌}
+use Prim.Native.Nat.{◌*◌, ◌≤◌}
 use mathlib.Core.Path.{◌≡◌}
 use Rattle.taskset.specs.Layout.{base_place}
 use Rattle.file_loading.proofs.base_place.Given as goal
 
 abbrev pub invariant-loop-i : goal.invariant-loop-i
-invariant-loop-i l = (l.i ≤ l.k) × (l.b ≡ base_place l.f l.i) × (l.b ≤ 65536 * l.i)
-
-abbrev pub decreases-loop-i : goal.decreases-loop-i
-decreases-loop-i l = l.k - l.i
+invariant-loop-i l = (l.b ≡ base_place l.f l.i) × (l.b ≤ 65536 * l.i)

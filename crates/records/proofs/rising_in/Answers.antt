@@ -1,5 +1,4 @@
 -- The variables passed that name the core rise, and `end` is the end of the last.
-use Prim.Native.Nat.{◌-◌}
 use native.Mathlib.Omega.{arith}
 use Rattle.verdict.proofs.Verdict.{absurd-bool}
 use Rattle.records.proofs.Order.{risen-none, risen-end}

@@ -1,5 +1,4 @@
 -- The variables passed rise, and `end` is the end of the last.
-use Prim.Native.Nat.{◌-◌}
 use native.Mathlib.Omega.{arith}
 use Rattle.records.proofs.Order.{risen-none, risen-end, shared-more}
 use Rattle.records.proofs.rising_shared.Goals as goal

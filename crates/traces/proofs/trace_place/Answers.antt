@@ -1,5 +1,4 @@
 -- From core to core: a count and the records.
-use Prim.Native.Nat.{◌-◌}
 use mathlib.Core.Path.{◌≡◌, refl, ap, ◌∙◌}
 use native.Mathlib.Omega.{arith}
 use Rattle.taskset.specs.Trace.{trace_place}
@@ -8,7 +7,7 @@ use Rattle.traces.proofs.trace_place.Goals as goal
 
 pub loop-i-init : goal.loop-i-init
 unfolding trace_place
-loop-i-init c = (omega arith, refl, omega arith)
+loop-i-init c = (refl, omega arith)
 
 pub overflow_add-p-in-loop-i : goal.overflow_add-p-in-loop-i
 overflow_add-p-in-loop-i c = omega (arith, c.word_at.ensures.1)
@@ -20,8 +19,8 @@ pub overflow_add-p-in-loop-i-2 : goal.overflow_add-p-in-loop-i-2
 overflow_add-p-in-loop-i-2 c = omega (arith, records-small _ _ c.word_at-n.ensures.1 c.word_at.ensures.1)
 
 pub loop-i-preserved : goal.loop-i-preserved
-loop-i-preserved c = (omega arith, trace-next _ _ _ _ _ _ c.loop-i.invariant.1 c.word_at-n.ensures.0 c.word_at.ensures.0, omega (arith, records-small _ _ c.word_at-n.ensures.1 c.word_at.ensures.1, c.loop-i.invariant.2))
+loop-i-preserved c = (trace-next _ _ _ _ _ _ c.loop-i.invariant.0 c.word_at-n.ensures.0 c.word_at.ensures.0, omega (arith, records-small _ _ c.word_at-n.ensures.1 c.word_at.ensures.1, c.loop-i.invariant.1))
 
 pub returns : goal.returns
 returns c = let e : c.loop-i.i ≡ c.args.k = omega arith in
-    (c.loop-i.invariant.1 ∙ ap (trace_place c.args.f.now c.args.t.now) e, omega (arith, c.loop-i.invariant.2))
+    (c.loop-i.invariant.0 ∙ ap (trace_place c.args.f.now c.args.t.now) e, omega (arith, c.loop-i.invariant.1))

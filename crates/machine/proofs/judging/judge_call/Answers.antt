@@ -1,32 +1,32 @@
 -- `machine::judge_call` meets its contract: each answer is the first of the tests that refuses. Assumes nothing.
-use mathlib.Core.Path.{refl, sym, ◌∙◌}
-use native.Mathlib.Omega.{arith}
-use Rattle.machine.proofs.Calls.{held-judged, held-tasks, below-laid, judge-refused, judge-file, judge-held, judge-unnamed, judge-none}
+use mathlib.Core.Path.{sym, ap, ◌∙◌}
+use Rattle.std.proofs.lemmas.Result.{IfOk-at_ok}
+use Rattle.verdict.specs.Refusals.{refusal_of}
+use Rattle.verdict.proofs.Verdict.{skip}
+use Rattle.verdict.proofs.Refusals.{handed_none, stop-refused}
+use Rattle.machine.specs.Judging.{judged_number}
+use Rattle.machine.proofs.Calls.{below-laid, judge-unnamed, judge-none}
 use Rattle.machine.proofs.judging.judge_call.Goals as goal
 
-pub returns-then-number-ne0 : goal.returns-then-number-ne0
-returns-then-number-ne0 c = judge-refused _ _ _ _ _ _ c.without_tasks.ensures (judge-file _ _ _ _ _ refl c.if-number-ne0.true) c.if-number-ne0.true
+pub returns-in_err-layout : goal.returns-in_err-layout
+unfolding judged_number
+returns-in_err-layout c = handed_none _ _ _ c.from_residual.ensures.1 (stop-refused _ _ (ap refusal_of (sym c.in_err-layout.was)))
 
-pub prepare-prepared-requires : goal.prepare-prepared-requires
-prepare-prepared-requires c = c.requires c.if-number-ne0.false
+pub prepare-requires : goal.prepare-requires
+prepare-requires c = IfOk-at_ok _ c.in_ok-layout.was c.requires
 
-pub returns-then-held-ne0 : goal.returns-then-held-ne0
-returns-then-held-ne0 c = judge-refused _ _ _ _ _ _ c.without_tasks-then-held-ne0.ensures
-    (judge-held _ _ _ _ _ c.if-number-ne0.false (held-judged _ _ _ _ c.prepare-prepared.ensures) c.if-held-ne0.true) c.if-held-ne0.true
+pub returns-in_err-tasks : goal.returns-in_err-tasks
+unfolding judged_number
+returns-in_err-tasks c = handed_none _ _ _ c.from_residual-in_err-tasks.ensures.1 (skip (ap refusal_of c.in_ok-layout.was) (stop-refused _ _ c.in_err-tasks.ensures.0))
 
-pub returns-then-not-named : goal.returns-then-not-named
-returns-then-not-named c = let a = c.args in
-    let named = below-laid a.file.now a.order.now _ (c.requires c.if-number-ne0.false).1 _ c.all_below-named.ensures in
-    let held = sym (held-judged _ _ _ _ c.prepare-prepared.ensures) ∙ c.if-held-ne0.false in
-    judge-refused _ _ _ _ _ _ c.without_tasks-then-not-named.ensures (judge-unnamed _ _ _ _ _ c.if-number-ne0.false held (named ∙ c.if-not-named.true)) (λ e. absurd (omega arith))
+pub returns-then-not-all_below : goal.returns-then-not-all_below
+returns-then-not-all_below c = let a = c.args in
+    let laid = IfOk-at_ok _ c.in_ok-layout.was c.requires in
+    let named = below-laid a.file.now a.order.now _ laid.1 _ c.all_below.ensures in
+    (judge-unnamed _ _ _ _ _ (ap refusal_of c.in_ok-layout.was) (sym c.in_ok-tasks.ensures.0) (named ∙ c.if-not-all_below.true), tt)
 
 pub returns : goal.returns
 returns c = let a = c.args in
-    let laid = (c.requires c.if-number-ne0.false).1 in
-    let named = below-laid a.file.now a.order.now _ laid _ c.all_below-named.ensures in
-    let held = sym (held-judged _ _ _ _ c.prepare-prepared.ensures) ∙ c.if-held-ne0.false in
-    record {
-      number = sym (judge-none _ _ _ _ _ c.if-number-ne0.false held (named ∙ c.if-not-named.false));
-      laid = λ z. laid;
-      tasked = λ z. held-tasks _ _ _ _ c.prepare-prepared.ensures c.if-held-ne0.false;
-    }
+    let laid = IfOk-at_ok _ c.in_ok-layout.was c.requires in
+    let named = below-laid a.file.now a.order.now _ laid.1 _ c.all_below.ensures in
+    (sym (judge-none _ _ _ _ _ (ap refusal_of c.in_ok-layout.was) (sym c.in_ok-tasks.ensures.0) (named ∙ c.if-not-all_below.false)), (laid.1, c.in_ok-tasks.ensures.1))

@@ -1,0 +1,8 @@
+-- The table, the semaphore, and every core passed is fit; then the line.
+use Rattle.records.specs.File.{cores}
+use Rattle.states.specs.Fit.{fit_at}
+use Rattle.states.proofs.Says.{Passing}
+use Rattle.fitness.proofs.judge_state.Given as goal
+
+abbrev pub invariant-loop-k : goal.invariant-loop-k
+invariant-loop-k l = Passing (fit_at l.file l.trace l.s) (cores l.file) l.k
