@@ -20,10 +20,7 @@ fn passes(file: &[u8], place: usize, r: usize, w: usize) -> bool
     requires { (place + 12 ≤ length file.now) × (r < 4) × (w < 4) }
     ensures { result ≡ both (reads_it r (variable_in file.now place)) (writes_it w (variable_in file.now place)) }
 {
-    if records::reads(file, place, r) {
-        return records::writes(file, place, w);
-    }
-    false
+    records::reads(file, place, r) && records::writes(file, place, w)
 }
 
 // Whether core r reads a variable that core w writes.
@@ -33,12 +30,10 @@ fn reads_from(file: &[u8], r: usize, w: usize) -> bool
 {
     let at = 5 + records::CORE_RECORD * (memory::byte_at(file, 4) as usize);
     let n = memory::byte_at(file, at) as usize;
-    let mut i: usize = 0;
-    while i < n {
+    for i in 0..n {
         if passes(file, at + 1 + records::VARIABLE_RECORD * i, r, w) {
             return true;
         }
-        i += 1;
     }
     false
 }
@@ -48,10 +43,7 @@ fn line_between(file: &[u8], j: usize, k: usize) -> bool
     requires { (judge file.now ≡ 0) × (j < 4) × (k < 4) }
     ensures { result ≡ line_between (variables_of file.now) j k }
 {
-    if reads_from(file, j, k) {
-        return true;
-    }
-    reads_from(file, k, j)
+    reads_from(file, j, k) || reads_from(file, k, j)
 }
 
 // ---- cores that read each other
@@ -61,10 +53,7 @@ fn each_other(file: &[u8], j: usize, k: usize) -> bool
     requires { (judge file.now ≡ 0) × (j < 4) × (k < 4) }
     ensures { result ≡ both (reads_from (variables_of file.now) j k) (reads_from (variables_of file.now) k j) }
 {
-    if reads_from(file, j, k) {
-        return reads_from(file, k, j);
-    }
-    false
+    reads_from(file, j, k) && reads_from(file, k, j)
 }
 
 // Whether any two do.
@@ -72,6 +61,7 @@ fn any_each_other(file: &[u8]) -> bool
     requires { judge file.now ≡ 0 }
     ensures { result ≡ not (is_one_way (reads_from (variables_of file.now))) }
 {
+    // A return for each pair: a chain of `||` joins its tests, and the proof no longer tells which of them held.
     if each_other(file, 0, 1) {
         return true;
     }
@@ -95,27 +85,20 @@ fn any_each_other(file: &[u8]) -> bool
 fn three(a: bool, b: bool, c: bool) -> bool
     ensures { result ≡ both a (both b c) }
 {
-    if a {
-        if b {
-            return c;
-        }
-    }
-    false
+    a && b && c
 }
 
 fn four(a: bool, b: bool, c: bool, d: bool) -> bool
     ensures { result ≡ both a (both b (both c d)) }
 {
-    if a {
-        return three(b, c, d);
-    }
-    false
+    a && three(b, c, d)
 }
 
 // Whether lines close a ring: one of four rings of three cores, or of three rings of four.
 fn closed(l01: bool, l02: bool, l03: bool, l12: bool, l13: bool, l23: bool) -> bool
     ensures { result ≡ closed l01 l02 l03 l12 l13 l23 }
 {
+    // A return for each ring, for the same reason.
     if three(l01, l12, l02) {
         return true;
     }

@@ -89,7 +89,8 @@ pub fn from_packed(w: usize, p: u64) -> Option<Value>
     }
 }
 
-// Code 44: the addresses are tried first, then the digits.
+// Codes 44 and 45 differ in the function that they call: one function over a parameter would say that function's contract in its own, and be longer than both.
+// 44: the addresses are tried first, then the digits.
 pub fn pack_at(d: &mut [u8], t: u8, destination: usize, source: usize) -> Result<(), Fault>
     requires { (t < 12) × (destination < 98304) × (source < 98304) }
     ensures { ended result d.new ≡ packing t d.old destination source }
@@ -102,7 +103,7 @@ pub fn pack_at(d: &mut [u8], t: u8, destination: usize, source: usize) -> Result
     conversions::settle(d, t, destination, to_packed(w, n))
 }
 
-// Code 45.
+// 45
 pub fn unpack_at(d: &mut [u8], t: u8, destination: usize, source: usize) -> Result<(), Fault>
     requires { (t < 12) × (destination < 98304) × (source < 98304) }
     ensures { ended result d.new ≡ unpacking t d.old destination source }

@@ -7,6 +7,3 @@ use Rattle.cycles.proofs.reads_from.Given as goal
 
 abbrev pub invariant-loop-i : goal.invariant-loop-i
 invariant-loop-i l = (l.at ≡ count_place l.file) × (l.n ≡ variables l.file) × NoneBefore l.file l.r l.w l.i
-
-abbrev pub decreases-loop-i : goal.decreases-loop-i
-decreases-loop-i l = l.n - l.i
