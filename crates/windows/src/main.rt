@@ -2,129 +2,152 @@
 // cores: core 0 has three bytes of data, "abc", and RETURN; core 1 has five, "defgh", and the code 06 61 61 01 7A 00 hex, in which "aa" and "z" can be read.
 #![tactic(auto)]
 
+use std::io::{Result, Write, writer};
 use window::Shown;
 
-fn text(s: &[u8]) {
-    io::write_all(1, s);
-}
+// The task set, and its data buffer.
+const FILE: &[u8] =
+    b"MCS1\x02\x03\x00\x00\x00\x01\x00\x05\x00\x00\x00\x01\x00\x00\x01\x00\x00\x06\x00\x06aa\x01z\x00";
+
+const BUFFER: &[u8] = b"abcdefgh";
 
 fn case<'a>(
-    label: &[u8],
+    rt: &impl Print,
+    label: &str,
     shown: Shown,
     core: u8,
     start: usize,
     count: usize,
     file: &'a [u8],
     buffer: &'a [u8],
-) {
-    text(label);
-    text(b": ");
+) -> Result<()> {
     let number = window::check_window(shown, core, start, count, file, buffer);
-    io::print_decimal(1, number as u64);
-    text(b" [");
-    text(window::window(shown, core, start, count, file, buffer));
-    text(b"]\n");
+    print!(rt; "{label}: {number} [")?;
+    writer(rt).write_all(window::window(shown, core, start, count, file, buffer))?;
+    println!(rt; "]")
 }
 
-fn of_data(label: &[u8], core: u8, start: usize, count: usize) {
-    case(
-        label,
-        Shown::Data,
-        core,
-        start,
-        count,
-        b"MCS1\x02\x03\x00\x00\x00\x01\x00\x05\x00\x00\x00\x01\x00\x00\x01\x00\x00\x06\x00\x06aa\x01z\x00",
-        b"abcdefgh",
-    );
-}
-
-fn of_code(label: &[u8], core: u8, start: usize, count: usize) {
-    case(
-        label,
-        Shown::Code,
-        core,
-        start,
-        count,
-        b"MCS1\x02\x03\x00\x00\x00\x01\x00\x05\x00\x00\x00\x01\x00\x00\x01\x00\x00\x06\x00\x06aa\x01z\x00",
-        b"abcdefgh",
-    );
+// A stretch of a core's data or code.
+fn part(
+    rt: &impl Print,
+    label: &str,
+    shown: Shown,
+    core: u8,
+    start: usize,
+    count: usize,
+) -> Result<()> {
+    case(rt, label, shown, core, start, count, FILE, BUFFER)
 }
 
 // Another file or data buffer.
-fn of_lent<'a>(label: &[u8], shown: Shown, core: u8, file: &'a [u8], buffer: &'a [u8]) {
-    case(label, shown, core, 0, 0, file, buffer);
+fn of_lent<'a>(
+    rt: &impl Print,
+    label: &str,
+    shown: Shown,
+    core: u8,
+    file: &'a [u8],
+    buffer: &'a [u8],
+) -> Result<()> {
+    case(rt, label, shown, core, 0, 0, file, buffer)
 }
 
-fn windows() {
-    of_data(b"data of core 0", 0, 0, 3);
-    of_data(b"data of core 1", 1, 0, 5);
-    of_data(b"its second and third byte", 1, 1, 2);
-    of_code(b"an operand of core 1", 1, 1, 2);
-    of_code(b"a constant of core 1", 1, 4, 1);
-    of_data(b"no byte", 0, 1, 0);
-    of_data(b"no byte at the end of the data", 0, 3, 0);
-    of_data(b"no byte at the end of the buffer", 1, 5, 0);
-    of_code(b"no byte at the end of the code", 1, 6, 0);
+fn windows(rt: &impl Print) -> Result<()> {
+    part(rt, "data of core 0", Shown::Data, 0, 0, 3)?;
+    part(rt, "data of core 1", Shown::Data, 1, 0, 5)?;
+    part(rt, "its second and third byte", Shown::Data, 1, 1, 2)?;
+    part(rt, "an operand of core 1", Shown::Code, 1, 1, 2)?;
+    part(rt, "a constant of core 1", Shown::Code, 1, 4, 1)?;
+    part(rt, "no byte", Shown::Data, 0, 1, 0)?;
+    part(rt, "no byte at the end of the data", Shown::Data, 0, 3, 0)?;
+    part(rt, "no byte at the end of the buffer", Shown::Data, 1, 5, 0)?;
+    part(rt, "no byte at the end of the code", Shown::Code, 1, 6, 0)
 }
 
-fn outside() {
-    of_data(b"one byte too many", 0, 0, 4);
-    of_data(b"a byte of the next core", 0, 3, 1);
-    of_data(b"no byte, but past the end", 0, 4, 0);
-    of_code(b"a byte after the code", 1, 6, 1);
-    of_code(b"no byte, but past the code", 1, 7, 0);
-    of_data(
-        b"a start and a length that wrap",
+fn outside(rt: &impl Print) -> Result<()> {
+    part(rt, "one byte too many", Shown::Data, 0, 0, 4)?;
+    part(rt, "a byte of the next core", Shown::Data, 0, 3, 1)?;
+    part(rt, "no byte, but past the end", Shown::Data, 0, 4, 0)?;
+    part(rt, "a byte after the code", Shown::Code, 1, 6, 1)?;
+    part(rt, "no byte, but past the code", Shown::Code, 1, 7, 0)?;
+    part(
+        rt,
+        "a start and a length that wrap",
+        Shown::Data,
         1,
         18446744073709551615,
         2,
-    );
-    of_data(b"a length that wraps", 1, 1, 18446744073709551615);
-    of_data(b"core 2 of two", 2, 0, 0);
-    of_code(b"core 255", 255, 0, 0);
+    )?;
+    part(
+        rt,
+        "a length that wraps",
+        Shown::Data,
+        1,
+        1,
+        18446744073709551615,
+    )?;
+    part(rt, "core 2 of two", Shown::Data, 2, 0, 0)?;
+    part(rt, "core 255", Shown::Code, 255, 0, 0)
 }
 
-fn lent() {
-    let file =
-        b"MCS1\x02\x03\x00\x00\x00\x01\x00\x05\x00\x00\x00\x01\x00\x00\x01\x00\x00\x06\x00\x06aa\x01z\x00";
+fn lent(rt: &impl Print) -> Result<()> {
+    let file = FILE;
     let cut =
         b"MCS1\x02\x03\x00\x00\x00\x01\x00\x05\x00\x00\x00\x01\x00\x00\x01\x00\x00\x06\x00\x06aa\x01z";
     let long =
         b"MCS1\x02\x03\x00\x00\x00\x01\x00\x05\x00\x00\x00\x01\x00\x00\x01\x00\x00\x06\x00\x06aa\x01z\x00\x00";
-    of_lent(b"a buffer of seven bytes", Shown::Data, 0, file, b"abcdefg");
     of_lent(
-        b"a buffer of nine bytes, for a code",
+        rt,
+        "a buffer of seven bytes",
+        Shown::Data,
+        0,
+        file,
+        b"abcdefg",
+    )?;
+    of_lent(
+        rt,
+        "a buffer of nine bytes, for a code",
         Shown::Code,
         0,
         file,
         b"abcdefghi",
-    );
+    )?;
     of_lent(
-        b"a buffer of seven bytes, and no such core",
+        rt,
+        "a buffer of seven bytes, and no such core",
         Shown::Data,
         2,
         file,
         b"abcdefg",
-    );
+    )?;
     of_lent(
-        b"a file that was cut, and no buffer",
+        rt,
+        "a file that was cut, and no buffer",
         Shown::Data,
         0,
         cut,
         b"",
-    );
+    )?;
     of_lent(
-        b"a file with a byte left over, and no such core",
+        rt,
+        "a file with a byte left over, and no such core",
         Shown::Code,
         4,
         long,
         b"abcdefgh",
-    );
+    )
 }
 
 // The same two cores in a file of the new form (document 02, 2.12), where start values follow the code.
-fn of_new(label: &[u8], shown: Shown, core: u8, start: usize, count: usize) {
+fn of_new(
+    rt: &impl Print,
+    label: &str,
+    shown: Shown,
+    core: u8,
+    start: usize,
+    count: usize,
+) -> Result<()> {
     case(
+        rt,
         label,
         shown,
         core,
@@ -132,38 +155,41 @@ fn of_new(label: &[u8], shown: Shown, core: u8, start: usize, count: usize) {
         count,
         b"MCS2\x02\x03\x00\x00\x00\x01\x00\x05\x00\x00\x00\x01\x00\x00\x01\x00\x00\x06\x00\x06aa\x01z\x00\x01\x00\x02\x00c\x02\x00\x00\x00d\x04\x00h",
         b"abcdefgh",
-    );
+    )
 }
 
-fn new_form() {
-    of_new(b"new form: data of core 1", Shown::Data, 1, 0, 5);
-    of_new(b"new form: an operand of core 1", Shown::Code, 1, 1, 2);
+fn new_form(rt: &impl Print) -> Result<()> {
+    of_new(rt, b"new form: data of core 1", Shown::Data, 1, 0, 5)?;
+    of_new(rt, b"new form: an operand of core 1", Shown::Code, 1, 1, 2)?;
     of_new(
+        rt,
         b"new form: no byte at the end of the code",
         Shown::Code,
         1,
         6,
         0,
-    );
+    )?;
     of_new(
+        rt,
         b"new form: a start value after the code",
         Shown::Code,
         1,
         6,
         1,
-    );
+    )?;
     of_lent(
-        b"new form: start places that fall",
+        rt,
+        "new form: start places that fall",
         Shown::Code,
         4,
         b"MCS2\x02\x03\x00\x00\x00\x01\x00\x05\x00\x00\x00\x01\x00\x00\x01\x00\x00\x06\x00\x06aa\x01z\x00\x00\x00\x02\x00\x04\x00h\x00\x00d",
         b"",
-    );
+    )
 }
 
-fn main() {
-    windows();
-    outside();
-    lent();
-    new_form();
+fn main(rt: HostRuntime) -> Result<()> {
+    windows(&rt)?;
+    outside(&rt)?;
+    lent(&rt)?;
+    new_form(&rt)
 }
