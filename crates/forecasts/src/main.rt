@@ -14,12 +14,13 @@ use accepted_files::accepted;
 use drawn_files::{drawn, more_drawn};
 use lent_outputs::outputs;
 use refused_files::{in_turn, refused};
+use std::io;
 
-fn main() {
-    accepted();
-    refused();
-    in_turn();
-    drawn();
-    more_drawn();
-    outputs();
+fn main(rt: HostRuntime) -> io::Result<()> {
+    accepted(&rt)?;
+    refused(&rt)?;
+    in_turn(&rt)?;
+    drawn(&rt)?;
+    more_drawn(&rt)?;
+    outputs(&rt)
 }

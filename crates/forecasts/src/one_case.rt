@@ -1,36 +1,28 @@
 // One case: what a file takes, and what is printed of it.
+use bounds::Taken;
+use std::io;
 
-pub fn text(s: &[u8]) {
-    io::write_all(1, s);
-}
-
-pub fn number(n: u64) {
-    text(b" ");
-    io::print_decimal(1, n);
-}
-
-pub fn small(n: u32) {
-    number(n as u64);
-}
-
-fn column(four: [u32; 4]) {
-    small(four[0]);
-    small(four[1]);
-    small(four[2]);
-    small(four[3]);
-}
-
-pub fn case(label: &[u8], file: &[u8]) {
-    let t = bounds::takes(file);
-    text(label);
-    text(b":");
-    number(t.refusal as u64);
-    number(t.buffer as u64);
-    number(t.shared as u64);
-    number(t.table as u64);
-    let count = t.count;
-    let depth = t.depth;
-    column(count);
-    column(depth);
-    text(b"\n");
+// Of a refused file all lengths, counts and depths are 0.
+pub fn case(rt: &impl Print, label: &str, file: &[u8]) -> io::Result<()> {
+    let answer = bounds::takes(file);
+    let none = Taken {
+        buffer: 0,
+        shared: 0,
+        table: 0,
+        count: [0; 4],
+        depth: [0; 4],
+    };
+    let taken = answer.unwrap_or(none);
+    let refusal = verdict::refusal_of(answer);
+    print!(rt;
+        "{label}: {refusal} {} {} {}",
+        taken.buffer, taken.shared, taken.table
+    )?;
+    for n in taken.count {
+        print!(rt; " {n}")?;
+    }
+    for n in taken.depth {
+        print!(rt; " {n}")?;
+    }
+    println!(rt;)
 }

@@ -1,69 +1,61 @@
 // The converters between the forms of a file, with an output of bytes that hold 1.
-use super::printing::{bytes, number, text};
-use forms::FormAnswer;
+use super::printing::bytes;
+use std::io;
+use verdict::Refusal;
 
-fn shown(label: &[u8], converted: FormAnswer, out: &[u8]) {
-    text(label);
-    text(b":");
-    number(converted.refusal as usize);
-    number(converted.length);
-    text(b" output");
-    bytes(out);
-    text(b"\n");
+fn shown(
+    rt: &impl Print,
+    label: &str,
+    converted: Result<usize, Refusal>,
+    out: &[u8],
+) -> io::Result<()> {
+    let refusal = verdict::refusal_of(converted);
+    print!(rt; "{label}: {refusal} {} output", converted.unwrap_or(0))?;
+    bytes(rt, out)?;
+    println!(rt;)
 }
 
-fn to_new(label: &[u8], file: &[u8]) {
-    let mut out = [1u8; 40];
+// Into an output of N bytes.
+fn to_new<const N: usize>(rt: &impl Print, label: &str, file: &[u8]) -> io::Result<()> {
+    let mut out = [1u8; N];
     let converted = forms::to_new(file, &mut out);
-    shown(label, converted, &out);
+    shown(rt, label, converted, &out)
 }
 
-fn to_old(label: &[u8], file: &[u8]) {
-    let mut out = [1u8; 40];
+fn to_old<const N: usize>(rt: &impl Print, label: &str, file: &[u8]) -> io::Result<()> {
+    let mut out = [1u8; N];
     let converted = forms::to_old(file, &mut out);
-    shown(label, converted, &out);
+    shown(rt, label, converted, &out)
 }
 
-fn to_old_short(label: &[u8], file: &[u8]) {
-    let mut out = [1u8; 35];
-    let converted = forms::to_old(file, &mut out);
-    shown(label, converted, &out);
-}
-
-fn to_new_short(label: &[u8], file: &[u8]) {
-    let mut out = [1u8; 39];
-    let converted = forms::to_new(file, &mut out);
-    shown(label, converted, &out);
-}
-
-pub fn news() {
+pub fn news(rt: &impl Print) -> io::Result<()> {
     let old =
         b"MCS1\x02\x06\x00\x01\x00\x09\x00\x08\x00\x00\x00\x09\x00\x01\x0A\x00\x02\x21\x02\x00\x04\x00\x00\x00\x00\x00\x01\x00\x00\x01\x00\x00";
-    to_new(b"an old file made new", old);
-    to_new_short(b"one byte too few for it", old);
+    to_new::<40, _>(rt, "an old file made new", old)?;
+    to_new::<39, _>(rt, "one byte too few for it", old)
 }
 
-pub fn not_made_new() {
-    to_new(b"a new file made new", b"MCS2\x09");
-    to_new(b"another mark", b"MCS3\x01");
-    to_new(b"three bytes", b"MCS");
-    to_new(b"five cores", b"MCS1\x05");
+pub fn not_made_new(rt: &impl Print) -> io::Result<()> {
+    to_new::<40, _>(rt, "a new file made new", b"MCS2\x09")?;
+    to_new::<40, _>(rt, "another mark", b"MCS3\x01")?;
+    to_new::<40, _>(rt, "three bytes", b"MCS")?;
+    to_new::<40, _>(rt, "five cores", b"MCS1\x05")
 }
 
-pub fn olds() {
+pub fn olds(rt: &impl Print) -> io::Result<()> {
     let new =
         b"MCS2\x02\x06\x00\x01\x00\x09\x00\x08\x00\x00\x00\x09\x00\x01\x0A\x00\x02\x21\x02\x00\x04\x00\x00\x00\x00\x00\x01\x00\x00\x01\x00\x00\x00\x00\x00\x00";
-    to_old(b"a new file made old", new);
-    to_old_short(b"one byte too few for it", new);
-    to_old(b"an old file made old", b"MCS1\x09");
+    to_old::<40, _>(rt, "a new file made old", new)?;
+    to_old::<35, _>(rt, "one byte too few for it", new)?;
+    to_old::<40, _>(rt, "an old file made old", b"MCS1\x09")
 }
 
-pub fn not_made_old() {
+pub fn not_made_old(rt: &impl Print) -> io::Result<()> {
     let valued =
         b"MCS2\x02\x06\x00\x01\x00\x09\x00\x08\x00\x00\x00\x09\x00\x01\x0A\x00\x02\x21\x02\x00\x04\x00\x00\x00\x00\x00\x01\x00\x00\x01\x00\x00\x00\x00\x01\x00\x01\x00\x00";
     let longer =
         b"MCS2\x02\x06\x00\x01\x00\x09\x00\x08\x00\x00\x00\x09\x00\x01\x0A\x00\x02\x21\x02\x00\x04\x00\x00\x00\x00\x00\x01\x00\x00\x01\x00\x00\x00\x00\x01\x00\x01\x00\x00\x00";
-    to_old(b"a start value of the last core", valued);
-    to_old_short(b"and an output that is too short", valued);
-    to_old(b"and a byte left over", longer);
+    to_old::<40, _>(rt, "a start value of the last core", valued)?;
+    to_old::<35, _>(rt, "and an output that is too short", valued)?;
+    to_old::<40, _>(rt, "and a byte left over", longer)
 }

@@ -1,78 +1,90 @@
 // The numbers of files: accepted, refused, and what comes first where two rules are broken.
-use super::printing::{number, text};
+use std::io;
 
-fn judged(label: &[u8], file: &[u8]) {
-    text(label);
-    text(b":");
-    number(machine::check_file(file) as usize);
-    text(b"\n");
+fn judged(rt: &impl Print, label: &str, file: &[u8]) -> io::Result<()> {
+    println!(rt;
+        "{label}: {}",
+        verdict::refusal_of(machine::check_file(file))
+    )
 }
 
-pub fn numbers() {
-    judged(b"the sample of 2", b"\x4D\x43\x53\x33");
-    judged(b"nothing but the new mark", b"MCS2");
+pub fn numbers(rt: &impl Print) -> io::Result<()> {
+    judged(rt, "the sample of 2", b"\x4D\x43\x53\x33")?;
+    judged(rt, "nothing but the new mark", b"MCS2")?;
     judged(
-        b"no start values",
+        rt,
+        "no start values",
         b"MCS2\x02\x06\x00\x01\x00\x09\x00\x08\x00\x00\x00\x09\x00\x01\x0A\x00\x02\x21\x02\x00\x04\x00\x00\x00\x00\x00\x01\x00\x00\x01\x00\x00\x00\x00\x00\x00",
-    );
+    )?;
     judged(
-        b"the last place of each core",
+        rt,
+        "the last place of each core",
         b"MCS2\x02\x06\x00\x01\x00\x09\x00\x08\x00\x00\x00\x09\x00\x01\x0A\x00\x02\x21\x02\x00\x04\x00\x00\x00\x00\x00\x01\x00\x00\x01\x00\x00\x01\x00\x05\x00\x09\x01\x00\x07\x00\x09",
-    );
+    )
 }
 
-pub fn beyond() {
+pub fn beyond(rt: &impl Print) -> io::Result<()> {
     judged(
-        b"a place beyond the data of core 0",
+        rt,
+        "a place beyond the data of core 0",
         b"MCS2\x02\x06\x00\x01\x00\x09\x00\x08\x00\x00\x00\x09\x00\x01\x0A\x00\x02\x21\x02\x00\x04\x00\x00\x00\x00\x00\x01\x00\x00\x01\x00\x00\x01\x00\x06\x00\x09\x01\x00\x07\x00\x09",
-    );
+    )?;
     judged(
-        b"a place beyond the data of core 1",
+        rt,
+        "a place beyond the data of core 1",
         b"MCS2\x02\x06\x00\x01\x00\x09\x00\x08\x00\x00\x00\x09\x00\x01\x0A\x00\x02\x21\x02\x00\x04\x00\x00\x00\x00\x00\x01\x00\x00\x01\x00\x00\x01\x00\x05\x00\x09\x01\x00\x08\x00\x09",
-    );
+    )
 }
 
-pub fn rising() {
+pub fn rising(rt: &impl Print) -> io::Result<()> {
     judged(
-        b"a place twice",
+        rt,
+        "a place twice",
         b"MCS2\x02\x06\x00\x01\x00\x09\x00\x08\x00\x00\x00\x09\x00\x01\x0A\x00\x02\x21\x02\x00\x04\x00\x00\x00\x00\x00\x01\x00\x00\x01\x00\x00\x02\x00\x03\x00\x09\x03\x00\x09\x00\x00",
-    );
+    )?;
     judged(
-        b"places that fall",
+        rt,
+        "places that fall",
         b"MCS2\x02\x06\x00\x01\x00\x09\x00\x08\x00\x00\x00\x09\x00\x01\x0A\x00\x02\x21\x02\x00\x04\x00\x00\x00\x00\x00\x01\x00\x00\x01\x00\x00\x02\x00\x03\x00\x09\x02\x00\x09\x00\x00",
-    );
+    )
 }
 
 // The order: presence of a count and of each pair, the pair, and last what follows.
-pub fn ends() {
+pub fn ends(rt: &impl Print) -> io::Result<()> {
     judged(
-        b"no count of the last core",
+        rt,
+        "no count of the last core",
         b"MCS2\x02\x06\x00\x01\x00\x09\x00\x08\x00\x00\x00\x09\x00\x01\x0A\x00\x02\x21\x02\x00\x04\x00\x00\x00\x00\x00\x01\x00\x00\x01\x00\x00\x00\x00",
-    );
+    )?;
     judged(
-        b"a place without its byte",
+        rt,
+        "a place without its byte",
         b"MCS2\x02\x06\x00\x01\x00\x09\x00\x08\x00\x00\x00\x09\x00\x01\x0A\x00\x02\x21\x02\x00\x04\x00\x00\x00\x00\x00\x01\x00\x00\x01\x00\x00\x00\x00\x01\x00\x09\x00",
-    );
+    )
 }
 
-pub fn before_the_cut() {
+pub fn before_the_cut(rt: &impl Print) -> io::Result<()> {
     judged(
-        b"a wrong pair, and the next one cut",
+        rt,
+        "a wrong pair, and the next one cut",
         b"MCS2\x02\x06\x00\x01\x00\x09\x00\x08\x00\x00\x00\x09\x00\x01\x0A\x00\x02\x21\x02\x00\x04\x00\x00\x00\x00\x00\x01\x00\x00\x01\x00\x00\x00\x00\x02\x00\x08\x00\x09\x01",
-    );
+    )?;
     judged(
-        b"a byte left over",
+        rt,
+        "a byte left over",
         b"MCS2\x02\x06\x00\x01\x00\x09\x00\x08\x00\x00\x00\x09\x00\x01\x0A\x00\x02\x21\x02\x00\x04\x00\x00\x00\x00\x00\x01\x00\x00\x01\x00\x00\x00\x00\x00\x00\x00",
-    );
+    )
 }
 
-pub fn before_leftovers() {
+pub fn before_leftovers(rt: &impl Print) -> io::Result<()> {
     judged(
-        b"a wrong pair, and a byte left over",
+        rt,
+        "a wrong pair, and a byte left over",
         b"MCS2\x02\x06\x00\x01\x00\x09\x00\x08\x00\x00\x00\x09\x00\x01\x0A\x00\x02\x21\x02\x00\x04\x00\x00\x00\x00\x00\x01\x00\x00\x01\x00\x00\x00\x00\x01\x00\x08\x00\x09\x00",
-    );
+    )?;
     judged(
-        b"counts in a file of the old form",
+        rt,
+        "counts in a file of the old form",
         b"MCS1\x02\x06\x00\x01\x00\x09\x00\x08\x00\x00\x00\x09\x00\x01\x0A\x00\x02\x21\x02\x00\x04\x00\x00\x00\x00\x00\x01\x00\x00\x01\x00\x00\x00\x00\x00\x00",
-    );
+    )
 }

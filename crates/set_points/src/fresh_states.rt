@@ -1,36 +1,38 @@
 // The fresh state, over memories that are not clear.
-use super::printing::{memories, number, text};
+use super::printing::memories;
+use std::io;
 
-fn fresh(label: &[u8], file: &[u8]) {
+fn fresh(rt: &impl Print, label: &str, file: &[u8]) -> io::Result<()> {
     let mut buffer = [238u8; 14];
     let mut shared = [238u8; 1024];
     let made = machine::fresh(file, &mut buffer, &mut shared);
-    text(label);
-    text(b":");
-    number(made.refusal as usize);
-    text(b"\n");
-    memories(&buffer, &shared);
+    println!(rt; "{label}: {}", made.refusal)?;
+    memories(rt, &buffer, &shared)
 }
 
 // Core 0 starts with 7, 0, 300 as a word, 0 and 9; core 1 has 3 where it reads the word, and 8 in its last byte.
-pub fn starts() {
+pub fn starts(rt: &impl Print) -> io::Result<()> {
     fresh(
-        b"start values",
+        rt,
+        "start values",
         b"MCS2\x02\x06\x00\x01\x00\x09\x00\x08\x00\x00\x00\x09\x00\x01\x0A\x00\x02\x21\x02\x00\x04\x00\x00\x00\x00\x00\x01\x00\x00\x01\x00\x00\x04\x00\x00\x00\x07\x02\x00\x2C\x03\x00\x01\x05\x00\x09\x02\x00\x04\x00\x03\x07\x00\x08",
-    );
+    )?;
     fresh(
-        b"no start values",
+        rt,
+        "no start values",
         b"MCS2\x02\x06\x00\x01\x00\x09\x00\x08\x00\x00\x00\x09\x00\x01\x0A\x00\x02\x21\x02\x00\x04\x00\x00\x00\x00\x00\x01\x00\x00\x01\x00\x00\x00\x00\x00\x00",
-    );
+    )
 }
 
-pub fn zeros() {
+pub fn zeros(rt: &impl Print) -> io::Result<()> {
     fresh(
-        b"the old form",
+        rt,
+        "the old form",
         b"MCS1\x02\x06\x00\x01\x00\x09\x00\x08\x00\x00\x00\x09\x00\x01\x0A\x00\x02\x21\x02\x00\x04\x00\x00\x00\x00\x00\x01\x00\x00\x01\x00\x00",
-    );
+    )?;
     fresh(
-        b"a place twice",
+        rt,
+        "a place twice",
         b"MCS2\x02\x06\x00\x01\x00\x09\x00\x08\x00\x00\x00\x09\x00\x01\x0A\x00\x02\x21\x02\x00\x04\x00\x00\x00\x00\x00\x01\x00\x00\x01\x00\x00\x02\x00\x03\x00\x09\x03\x00\x09\x00\x00",
-    );
+    )
 }

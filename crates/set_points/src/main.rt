@@ -14,19 +14,20 @@ use converters::{news, not_made_new, not_made_old, olds};
 use file_numbers::{before_leftovers, before_the_cut, beyond, ends, numbers, rising};
 use first_readings::readings;
 use fresh_states::{starts, zeros};
+use std::io;
 
-fn main() {
-    numbers();
-    beyond();
-    rising();
-    ends();
-    before_the_cut();
-    before_leftovers();
-    starts();
-    zeros();
-    readings();
-    news();
-    not_made_new();
-    olds();
-    not_made_old();
+fn main(rt: HostRuntime) -> io::Result<()> {
+    numbers(&rt)?;
+    beyond(&rt)?;
+    rising(&rt)?;
+    ends(&rt)?;
+    before_the_cut(&rt)?;
+    before_leftovers(&rt)?;
+    starts(&rt)?;
+    zeros(&rt)?;
+    readings(&rt)?;
+    news(&rt)?;
+    not_made_new(&rt)?;
+    olds(&rt)?;
+    not_made_old(&rt)
 }

@@ -1,31 +1,19 @@
-// What is printed: texts, numbers, bytes, and both memories.
+// What is printed: bytes, and both memories.
+use std::io;
 
-pub fn text(s: &[u8]) {
-    io::write_all(1, s);
-}
-
-pub fn number(n: usize) {
-    text(b" ");
-    io::print_decimal(1, n as u64);
-}
-
-fn byte(b: u8) {
-    text(b" ");
-    io::print_decimal(1, b as u64);
-}
-
-pub fn bytes(s: &[u8]) {
+pub fn bytes(rt: &impl Print, s: &[u8]) -> io::Result<()> {
     for b in s {
-        byte(*b);
+        print!(rt; " {b}")?;
     }
+    Ok(())
 }
 
-pub fn memories(buffer: &[u8], shared: &[u8]) {
-    text(b"data");
-    bytes(buffer);
-    text(b"\nshared 9 to 12");
+pub fn memories(rt: &impl Print, buffer: &[u8], shared: &[u8]) -> io::Result<()> {
+    print!(rt; "data")?;
+    bytes(rt, buffer)?;
+    print!(rt; "\nshared 9 to 12")?;
     for place in 9..13 {
-        number(memory::byte_at(shared, place) as usize);
+        print!(rt; " {}", memory::byte_at(shared, place))?;
     }
-    text(b"\n");
+    println!(rt;)
 }
