@@ -15,6 +15,8 @@ ghost use Rattle.io.specs.Counts.{IsPrefixLen};
 use call_numbers::{fresh_says, next_says, run_says, step_says};
 use printing::{NO_ANSWER, as_given, named, show, told};
 use state_words::{GIVEN, byte_value, state_in_words};
+use std::io::Result;
+use verdict::refusal_of;
 
 // Whether a case and its setting have no other words than these.
 fn spelt_right(setting: &[u8], line: &[u8]) -> bool {
@@ -24,25 +26,38 @@ fn spelt_right(setting: &[u8], line: &[u8]) -> bool {
 }
 
 // What the six calls answer.
-fn asked(setting: &[u8], line: &[u8], file: &[u8], trace: &[u8], order: &[u8]) {
+fn asked(
+    rt: &impl Print,
+    setting: &[u8],
+    line: &[u8],
+    file: &[u8],
+    trace: &[u8],
+    order: &[u8],
+) -> Result<()> {
     let before = state_in_words(setting, line, GIVEN);
     let core = byte_value(setting, line, GIVEN, b"step", 1);
-    let known = spelt_right(setting, line);
-    named(line);
-    let first = as_given(known, line, 1, machine::check_file(file));
-    let second = as_given(first, line, 2, fresh_says(setting, line, file));
-    let third = as_given(second, line, 3, machine::check_state(file, trace, before));
-    let fourth = as_given(third, line, 4, run_says(setting, line, file, trace, order));
-    let fifth = as_given(fourth, line, 5, step_says(setting, line, file, trace, core));
-    let sixth = as_given(fifth, line, 6, next_says(file, trace, before, core));
-    told(sixth);
+    named(rt, line)?;
+    let answers = [
+        refusal_of(machine::check_file(file)),
+        fresh_says(setting, line, file),
+        refusal_of(machine::check_state(file, trace, before)),
+        run_says(setting, line, file, trace, order),
+        step_says(setting, line, file, trace, core),
+        next_says(file, trace, before, core),
+    ];
+    let mut good = spelt_right(setting, line);
+    for (i, came) in answers.iter().enumerate() {
+        good = as_given(rt, good, line, i + 1, *came)?;
+    }
+    told(rt, good)
 }
 
 // What `cores` prints.
-fn listed(line: &[u8], file: &[u8], trace: &[u8], order: &[u8]) {
+fn listed(rt: &impl Print, line: &[u8], file: &[u8], trace: &[u8], order: &[u8]) -> Result<()> {
     let mut out = [0u8; console::TEXT];
-    if let Ok(n) = console::output(file, trace, order, &mut out) {
-        show(line, &out, n);
+    match console::output(file, trace, order, &mut out) {
+        Ok(n) => show(rt, line, &out, n),
+        Err(_) => Ok(()),
     }
 }
 
@@ -58,7 +73,7 @@ fn file_of(setting: &[u8], line: &[u8], file: &mut [u8]) -> usize
 }
 
 // One case, under the setting that stands above it.
-fn case(setting: &[u8], line: &[u8]) {
+fn case(rt: &impl Print, setting: &[u8], line: &[u8]) -> Result<()> {
     let mut file = [0u8; 128];
     let mut trace = [0u8; 64];
     let mut order = [0u8; 64];
@@ -66,36 +81,38 @@ fn case(setting: &[u8], line: &[u8]) {
     let t = cases::bytes(setting, 2, &mut trace);
     let o = cases::bytes(line, 1, &mut order);
     if cases::behind(line, 2, b"gives", 1, NO_ANSWER) == NO_ANSWER {
-        listed(line, &file[..f], &trace[..t], &order[..o]);
+        listed(rt, line, &file[..f], &trace[..t], &order[..o])
     } else {
-        asked(setting, line, &file[..f], &trace[..t], &order[..o]);
+        asked(rt, setting, line, &file[..f], &trace[..t], &order[..o])
     }
 }
 
 // The line that starts at `from`, under the setting that starts at `start`.
-fn case_at(text: &[u8], start: usize, from: usize) {
+fn case_at(rt: &impl Print, text: &[u8], start: usize, from: usize) -> Result<()> {
     let stop = cases::line_end(text, start);
     let end = cases::line_end(text, from);
     if start <= stop && from <= end && cases::is_case(&text[from..end]) {
-        case(&text[start..stop], &text[from..end]);
+        case(rt, &text[start..stop], &text[from..end])?;
     }
+    Ok(())
 }
 
-fn lines(text: &[u8]) {
+fn lines(rt: &impl Print, text: &[u8]) -> Result<()> {
     let mut start: usize = 0;
     let mut from: usize = 0;
     while from < text.len() {
         if text[from] == b'=' {
             start = from;
         } else {
-            case_at(text, start, from);
+            case_at(rt, text, start, from)?;
         }
         from = cases::line_end(text, from) + 1;
     }
+    Ok(())
 }
 
-fn main() {
+fn main(rt: HostRuntime) -> Result<()> {
     let mut space = io::large_buffer();
     let n = io::read_full(0, &mut space);
-    lines(&space[..n]);
+    lines(&rt, &space[..n])
 }

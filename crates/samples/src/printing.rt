@@ -1,31 +1,24 @@
 // What is printed of a case: its name, an answer or a text, and whether the case says the same.
 
+use std::io::{Result, Write, writer};
+
 // No answer of a call.
 pub const NO_ANSWER: u16 = 999;
 
-fn text(s: &[u8]) {
-    io::write_all(1, s);
+pub fn told(rt: &impl Print, good: bool) -> Result<()> {
+    println!(rt; " {}", if good { "ok" } else { "WRONG" })
 }
 
-pub fn told(good: bool) {
-    if good {
-        text(b" ok\n");
-    } else {
-        text(b" WRONG\n");
-    }
-}
-
-pub fn named(line: &[u8]) {
+pub fn named(rt: &impl Print, line: &[u8]) -> Result<()> {
     let n = cases::name_end(line);
-    text(&line[..n]);
-    text(b":");
+    writer(rt).write_all(&line[..n])?;
+    print!(rt; ":")
 }
 
 // The answer of a call, and whether the case gives the same, as it did of the calls before.
-pub fn as_given(before: bool, line: &[u8], nth: usize, came: u8) -> bool {
-    text(b" ");
-    io::print_decimal(1, came as u64);
-    before && came as u16 == cases::behind(line, 2, b"gives", nth, NO_ANSWER)
+pub fn as_given(rt: &impl Print, before: bool, line: &[u8], nth: usize, came: u8) -> Result<bool> {
+    print!(rt; " {came}")?;
+    Ok(before && came as u16 == cases::behind(line, 2, b"gives", nth, NO_ANSWER))
 }
 
 // Whether the line's last field, behind a semicolon and a blank, is this text, with a stroke for the end of each line.
@@ -44,11 +37,11 @@ fn last_field_is(line: &[u8], text: &[u8]) -> bool {
 }
 
 // The text of n bytes beside that of the case.
-pub fn show(line: &[u8], out: &[u8], n: usize) {
+pub fn show(rt: &impl Print, line: &[u8], out: &[u8], n: usize) -> Result<()> {
     if out.len() < n {
-        return;
+        return Ok(());
     }
-    text(&out[..n]);
-    named(line);
-    told(last_field_is(line, &out[..n]));
+    writer(rt).write_all(&out[..n])?;
+    named(rt, line)?;
+    told(rt, last_field_is(line, &out[..n]))
 }

@@ -31,23 +31,23 @@ fn to_old<const N: usize>(rt: &impl Print, label: &str, file: &[u8]) -> io::Resu
 pub fn news(rt: &impl Print) -> io::Result<()> {
     let old =
         b"MCS1\x02\x06\x00\x01\x00\x09\x00\x08\x00\x00\x00\x09\x00\x01\x0A\x00\x02\x21\x02\x00\x04\x00\x00\x00\x00\x00\x01\x00\x00\x01\x00\x00";
-    to_new::<40, _>(rt, "an old file made new", old)?;
-    to_new::<39, _>(rt, "one byte too few for it", old)
+    to_new::<40>(rt, "an old file made new", old)?;
+    to_new::<39>(rt, "one byte too few for it", old)
 }
 
 pub fn not_made_new(rt: &impl Print) -> io::Result<()> {
-    to_new::<40, _>(rt, "a new file made new", b"MCS2\x09")?;
-    to_new::<40, _>(rt, "another mark", b"MCS3\x01")?;
-    to_new::<40, _>(rt, "three bytes", b"MCS")?;
-    to_new::<40, _>(rt, "five cores", b"MCS1\x05")
+    to_new::<40>(rt, "a new file made new", b"MCS2\x09")?;
+    to_new::<40>(rt, "another mark", b"MCS3\x01")?;
+    to_new::<40>(rt, "three bytes", b"MCS")?;
+    to_new::<40>(rt, "five cores", b"MCS1\x05")
 }
 
 pub fn olds(rt: &impl Print) -> io::Result<()> {
     let new =
         b"MCS2\x02\x06\x00\x01\x00\x09\x00\x08\x00\x00\x00\x09\x00\x01\x0A\x00\x02\x21\x02\x00\x04\x00\x00\x00\x00\x00\x01\x00\x00\x01\x00\x00\x00\x00\x00\x00";
-    to_old::<40, _>(rt, "a new file made old", new)?;
-    to_old::<35, _>(rt, "one byte too few for it", new)?;
-    to_old::<40, _>(rt, "an old file made old", b"MCS1\x09")
+    to_old::<40>(rt, "a new file made old", new)?;
+    to_old::<35>(rt, "one byte too few for it", new)?;
+    to_old::<40>(rt, "an old file made old", b"MCS1\x09")
 }
 
 pub fn not_made_old(rt: &impl Print) -> io::Result<()> {
@@ -55,7 +55,7 @@ pub fn not_made_old(rt: &impl Print) -> io::Result<()> {
         b"MCS2\x02\x06\x00\x01\x00\x09\x00\x08\x00\x00\x00\x09\x00\x01\x0A\x00\x02\x21\x02\x00\x04\x00\x00\x00\x00\x00\x01\x00\x00\x01\x00\x00\x00\x00\x01\x00\x01\x00\x00";
     let longer =
         b"MCS2\x02\x06\x00\x01\x00\x09\x00\x08\x00\x00\x00\x09\x00\x01\x0A\x00\x02\x21\x02\x00\x04\x00\x00\x00\x00\x00\x01\x00\x00\x01\x00\x00\x00\x00\x01\x00\x01\x00\x00\x00";
-    to_old::<40, _>(rt, "a start value of the last core", valued)?;
-    to_old::<35, _>(rt, "and an output that is too short", valued)?;
-    to_old::<40, _>(rt, "and a byte left over", longer)
+    to_old::<40>(rt, "a start value of the last core", valued)?;
+    to_old::<35>(rt, "and an output that is too short", valued)?;
+    to_old::<40>(rt, "and a byte left over", longer)
 }
