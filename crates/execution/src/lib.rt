@@ -15,9 +15,9 @@ ghost use Rattle.processor.specs.Typed.{outcome_of, conversion_outcome};
 ghost use Rattle.processor.specs.Executable.{Executable, InstructionStands, Reports, frequent};
 
 use addresses::{any_beyond, is_beyond, operand, operands, single};
-use commands::Performed;
 use conversions::Conversion;
 use protocol::{Outcome, Registers};
+use verdict::Fault;
 
 // From an instruction to the next one: the entries of the table of lengths. Of MCD, to the bytes that it stores.
 const PAST_BRANCH: u16 = code::LENGTHS[2] as u16;
@@ -196,13 +196,12 @@ fn access_element(op: u8, r: Registers, code: &[u8], d: &mut [u8]) -> Outcome
 // ---- typed commands
 
 // What a typed command before the place `next` answers, as an instruction.
-fn outcome(performed: Performed, next: u16) -> Outcome
+fn outcome(performed: Result<(), Fault>, next: u16) -> Outcome
     ensures { result ≡ outcome_of next performed }
 {
     match performed {
-        Performed::Done => Outcome::Next(next),
-        Performed::Beyond => Outcome::Fault(protocol::ADDRESS),
-        Performed::ByZero => Outcome::Fault(protocol::DIVISOR),
+        Ok(()) => Outcome::Next(next),
+        Err(fault) => Outcome::Fault(fault.bit()),
     }
 }
 
@@ -304,7 +303,7 @@ pub fn command_at(counter: u16, code: &[u8]) -> u8
 }
 
 // A typed command with three addresses: how it ended, and the data after it in place.
-pub fn execute_typed(op: u8, r: Registers, code: &[u8], d: &mut [u8]) -> Performed
+pub fn execute_typed(op: u8, r: Registers, code: &[u8], d: &mut [u8]) -> Result<(), Fault>
     requires { Executable code.now r d.old × (byte code.now r.counter ≡ op) × (three op ≡ true) }
     ensures { answer (outcome_of (r.counter + 8) result) d.new ≡ executed code.now r d.old }
 {

@@ -3,8 +3,9 @@ ghost use Rattle.commands.specs.Attempts.{OperandsGiven};
 
 use super::names::type_of;
 use super::vector_line::Line;
-use commands::{Operands, Performed};
+use commands::Operands;
 use conversions::Conversion;
+use verdict::Fault;
 
 #[derive(Clone, Copy)]
 enum Outcome {
@@ -14,7 +15,7 @@ enum Outcome {
 }
 
 // The typed command with this code byte.
-fn perform(code: u8, d: &mut [u8], o: Operands) -> Performed
+fn perform(code: u8, d: &mut [u8], o: Operands) -> Result<(), Fault>
     requires { OperandsGiven code o }
 {
     match code {
@@ -38,9 +39,9 @@ fn run(code: u8, t: u8, a: u64, b: u64) -> Outcome {
         second: 8,
     };
     match perform(code, &mut d, o) {
-        Performed::Done => Outcome::Stored(memory::load(&d, 16, 8)),
-        Performed::ByZero => Outcome::Fault,
-        Performed::Beyond => Outcome::Unknown,
+        Ok(()) => Outcome::Stored(memory::load(&d, 16, 8)),
+        Err(Fault::Divisor) => Outcome::Fault,
+        Err(_) => Outcome::Unknown,
     }
 }
 
