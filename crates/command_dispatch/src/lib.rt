@@ -8,17 +8,18 @@ ghost use Rattle.commands.specs.Attempts.{attempt, attempted, OperandsGiven, Thr
 use arithmetic::{Addition, Division, Multiplication, Remainder, Subtraction};
 use beyond::typed_beyond;
 use bitwise::{And, Or, RotateLeft, RotateRight, ShiftLeft, ShiftRight, Xor};
-use commands::{Operands, Performed, typed};
+use commands::{Operands, typed};
 use comparisons::{Equal, Greater, GreaterOrEqual, Less, LessOrEqual, NotEqual};
+use verdict::Fault;
 
 // A typed command with three operands, by its code byte. What executes an instruction is compiled into a loop only where it has one caller, so the loop over one core's
 // instructions and the one over cores in turn have each their own; this one is the shorter text.
-pub fn typed_by_command(d: &mut [u8], op: u8, o: Operands) -> Performed
+pub fn typed_by_command(d: &mut [u8], op: u8, o: Operands) -> Result<(), Fault>
     requires { ThreeOperands op × OperandsGiven op o }
     ensures { attempt result d.new ≡ attempted op o d.old }
 {
     if typed_beyond(d.len(), op, o) {
-        return Performed::Beyond;
+        return Err(Fault::Address);
     }
     let t = o.kind;
     match op {

@@ -6,16 +6,16 @@ use mathlib.Core.Path.{◌≡◌, refl, sym, ◌∙◌, ap, subst}
 use native.Mathlib.Omega.{arith}
 use lib.ListN.{length, replicate}
 use borrow.Author.Tests.{ltb-false}
+use Rattle.std.proofs.Math.Option.{none, some}
+use Rattle.verdict.specs.Numbers.{divisor_bit, address_bit}
 use Rattle.verdict.specs.Verdict.{either}
 use Rattle.verdict.proofs.Verdict.{absurd-bool, pick_true, pick-false}
 use Rattle.memory.specs.Memory.{splice, part, bytes_le, read_le}
 use Rattle.values.specs.Types.{width_of}
 use Rattle.values.specs.Commands.{result_width, second_width, command, zero_divisor, beyond, any_beyond, performed}
 use Rattle.values.proofs.Commands.{taken-type, width_room}
-use Rattle.commands.specs.Attempts.{attempt, attempted, OperandsGiven}
+use Rattle.commands.specs.Attempts.{ending, attempted, OperandsGiven}
 use Rattle.commands.specs.declared.Operands.{Operands}
-use Rattle.commands.specs.declared.Performed.{Performed}
-use Rattle.commands.specs.declared.Performed.TheVariants.{Done, Beyond, ByZero}
 
 -- ---- what is given
 
@@ -68,20 +68,20 @@ module _ (code : ℕ) (o : Operands) (s : List ℕ) (n m k : ℕ) (r : Bool) (e 
       ∙ ap (λ (x : ℕ). either (beyond (length s) o.to (result_width code o.kind)) (any_beyond (length s) o.first x o.second k)) first
       ∙ ap (λ (x : ℕ). either (beyond (length s) o.to (result_width code o.kind)) (any_beyond (length s) o.first (width_of o.kind) o.second x)) second
 
-  pub was-beyond : r ≡ true → attempt Beyond s ≡ attempted code o s
+  pub was-beyond : r ≡ true → ending (some address_bit) s ≡ attempted code o s
   unfolding attempted
   was-beyond t = sym (pick_true _ _ _ (sym tested ∙ t))
 
   module _ (f : r ≡ false) where
-    pub was-zero : (z : Bool) → z ≡ zero_divisor code o.kind (read_le s o.second (second_width code o.kind)) → z ≡ true → attempt ByZero s ≡ attempted code o s
+    pub was-zero : (z : Bool) → z ≡ zero_divisor code o.kind (read_le s o.second (second_width code o.kind)) → z ≡ true → ending (some divisor_bit) s ≡ attempted code o s
     unfolding attempted
     was-zero z g t = sym (pick-false _ _ _ (sym tested ∙ f) ∙ pick_true _ _ _ (sym g ∙ t))
 
-    pub was-done : (p : Performed) (t : List ℕ) (q : ℕ) → zero_divisor code o.kind (read_le s o.second (second_width code o.kind)) ≡ false
+    pub was-done : (t : List ℕ) (q : ℕ) → zero_divisor code o.kind (read_le s o.second (second_width code o.kind)) ≡ false
         → q ≡ command code o.kind (read_le s o.first (width_of o.kind)) (read_le s o.second (second_width code o.kind))
-        → attempt p t ≡ attempt Done (splice s o.to (bytes_le n q)) → attempt p t ≡ attempted code o s
+        → t ≡ splice s o.to (bytes_le n q) → ending none t ≡ attempted code o s
     unfolding attempted performed
-    was-done p t q z i h =
-        h ∙ ap (λ (x : ℕ). attempt Done (splice s o.to (bytes_le n x))) i
-        ∙ ap (λ (x : ℕ). attempt Done (splice s o.to (bytes_le x (command code o.kind (read_le s o.first (width_of o.kind)) (read_le s o.second (second_width code o.kind)))))) wide
+    was-done t q z i h =
+        ap (ending none) (h ∙ ap (λ (x : ℕ). splice s o.to (bytes_le n x)) i)
+        ∙ ap (λ (x : ℕ). ending none (splice s o.to (bytes_le x (command code o.kind (read_le s o.first (width_of o.kind)) (read_le s o.second (second_width code o.kind)))))) wide
         ∙ sym (pick-false _ _ _ (sym tested ∙ f) ∙ pick-false _ _ _ z)

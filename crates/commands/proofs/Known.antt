@@ -6,14 +6,14 @@ use mathlib.Core.Path.{◌≡◌, refl, sym, ◌∙◌, ap, subst}
 use native.Mathlib.Omega.{arith}
 use lib.ListN.{length}
 use borrow.Author.Tests.{lt-ltb, le-ltb}
+use Rattle.std.proofs.Math.Option.{none, some}
+use Rattle.verdict.specs.Numbers.{divisor_bit}
 use Rattle.verdict.specs.Verdict.{either}
 use Rattle.memory.specs.Memory.{splice, bytes_le, read_le}
 use Rattle.values.specs.Types.{width_of}
 use Rattle.values.specs.Commands.{result_width, second_width, command, zero_divisor, beyond, any_beyond}
-use Rattle.commands.specs.Attempts.{attempt, attempted, Inside}
+use Rattle.commands.specs.Attempts.{ending, attempted, Inside}
 use Rattle.commands.specs.declared.Operands.{Operands}
-use Rattle.commands.specs.declared.Performed.{Performed}
-use Rattle.commands.specs.declared.Performed.TheVariants.{Done, ByZero}
 use Rattle.commands.proofs.Attempts.{either-false, in-data, all_in, was-done, was-zero}
 
 -- ---- the test of eight bytes
@@ -78,13 +78,13 @@ module _ (code t : ℕ) (o : Operands) (s : List ℕ) (key : o.kind ≡ t) (i : 
   zero-known : (z : Bool) → zero_divisor code t (read_le s o.second (second_width code t)) ≡ z → zero_divisor code o.kind (read_le s o.second (second_width code o.kind)) ≡ z
   zero-known z e = ap (λ (k : ℕ). zero_divisor code k (read_le s o.second (second_width code k))) key ∙ e
 
-  pub known-zero : (z : Bool) → z ≡ zero_divisor code t (read_le s o.second (second_width code t)) → z ≡ true → attempt ByZero s ≡ attempted code o s
+  pub known-zero : (z : Bool) → z ≡ zero_divisor code t (read_le s o.second (second_width code t)) → z ≡ true → ending (some divisor_bit) s ≡ attempted code o s
   known-zero z e f = was-zero code o s _ _ _ _ refl refl refl refl i z (e ∙ sym (zero-known _ refl)) f
 
-  pub known-done : (p : Performed) (m : List ℕ) (n q : ℕ) → n ≡ result_width code t → zero_divisor code t (read_le s o.second (second_width code t)) ≡ false
+  pub known-done : (m : List ℕ) (n q : ℕ) → n ≡ result_width code t → zero_divisor code t (read_le s o.second (second_width code t)) ≡ false
       → q ≡ command code t (read_le s o.first (width_of t)) (read_le s o.second (second_width code t))
-      → attempt p m ≡ attempt Done (splice s o.to (bytes_le n q)) → attempt p m ≡ attempted code o s
-  known-done p m n q e z f h =
-      was-done code o s _ _ _ _ refl refl refl refl i p m q (zero-known false z)
+      → m ≡ splice s o.to (bytes_le n q) → ending none m ≡ attempted code o s
+  known-done m n q e z f h =
+      was-done code o s _ _ _ _ refl refl refl refl i m q (zero-known false z)
       (f ∙ ap (λ (k : ℕ). command code k (read_le s o.first (width_of k)) (read_le s o.second (second_width code k))) (sym key))
-      (h ∙ ap (λ (x : ℕ). attempt Done (splice s o.to (bytes_le x q))) (e ∙ ap (result_width code) (sym key)))
+      (h ∙ ap (λ (x : ℕ). splice s o.to (bytes_le x q)) (e ∙ ap (result_width code) (sym key)))

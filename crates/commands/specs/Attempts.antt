@@ -1,22 +1,15 @@
 -- What a typed command of an instruction answers, and the data after it: the addresses are tried first, then the divisor.
-use Rattle.std.specs.Prelude.{ℕ, ◌<◌, true, false, List, ◌≡◌, length}
+use Rattle.std.specs.Prelude.{ℕ, ◌<◌, true, false, List, ◌≡◌, length, Result}
 use Rattle.std.proofs.Math.Option.{Option, none, some}
-use Rattle.verdict.specs.Numbers.{divisor_bit, address_bit}
+use Rattle.verdict.specs.Faults.{fault_bit}
+use Rattle.verdict.specs.declared.Fault.{Fault}
 use Rattle.verdict.specs.Verdict.{pick}
 use Rattle.memory.specs.Memory.{read_le}
 use Rattle.values.specs.Types.{takes}
 use Rattle.values.specs.Commands.{second_width, zero_divisor, typed_beyond, performed}
 use Rattle.commands.specs.declared.Operands.{Operands}
-use Rattle.commands.specs.declared.Performed.{Performed}
-use Rattle.commands.specs.declared.Performed.TheVariants.{Done, Beyond, ByZero}
 
--- ---- an answer, by document 01's number for it, with the data afterwards
-
--- "Bits: .. 3 zero divisor, 4 address beyond the data": the flag bit of the fault that an answer is; a command that is done has none
-abbrev pub flag_bit : Performed → Option ℕ
-flag_bit Done = none
-flag_bit Beyond = some address_bit
-flag_bit ByZero = some divisor_bit
+-- ---- an answer, by its fault's bit of the flag byte, with the data afterwards
 
 pub record Attempt : Type 0 where
   pub fault : Option ℕ
@@ -25,8 +18,8 @@ pub record Attempt : Type 0 where
 abbrev pub ending : Option ℕ → List ℕ → Attempt
 ending f m = record { fault = f; memory = m }
 
-abbrev pub attempt : Performed → List ℕ → Attempt
-attempt p m = ending (flag_bit p) m
+abbrev pub attempt : {A : Type 0} → Result A Fault → List ℕ → Attempt
+attempt p m = ending (fault_bit p) m
 
 -- the command with this code byte on the data s
 unfoldable pub attempted : ℕ → Operands → List ℕ → Attempt

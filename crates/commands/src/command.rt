@@ -8,8 +8,9 @@ ghost use Rattle.values.specs.declared.Value.{Value};
 ghost use Rattle.values.specs.Commands.{result, result_width, second_width, command, zero_divisor};
 ghost use Rattle.commands.specs.Attempts.{attempt, attempted, Inside};
 
-use crate::{Operands, Performed, Source, put};
+use crate::{Operands, Source, store_pattern};
 use values::{Value, pattern_of, read_value};
+use verdict::Fault;
 
 // A command of document 01's list that has a type byte.
 pub trait Command {
@@ -102,18 +103,19 @@ fn pattern<C: Command>(d: &[u8], t: u8, a: usize, b: usize) -> u64
     }
 }
 
-// The command at type t on the data, its operands tried: its divisor is tried, and the result is stored.
-pub fn typed<C: Command>(d: &mut [u8], t: u8, o: Operands) -> Performed
+// The command at type t on the data, none of whose operands is beyond it: the divisor is tried, and the result is stored.
+pub fn typed<C: Command>(d: &mut [u8], t: u8, o: Operands) -> Result<(), Fault>
     requires { (o.kind ≡ t) × (takes C.CODE t ≡ true) × Inside C.CODE o d.old }
     ensures { attempt result d.new ≡ attempted C.CODE o d.old }
 {
     if zero_divisor(C::CODE, t, d, o.second) {
-        return Performed::ByZero;
+        return Err(Fault::Divisor);
     }
-    put(
+    store_pattern(
         d,
         result_width(C::CODE, t),
         o.to,
         pattern::<C>(d, t, o.first, o.second),
-    )
+    );
+    Ok(())
 }

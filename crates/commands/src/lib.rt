@@ -1,4 +1,4 @@
-// What the typed commands of document 01 share: their operands, what they answer, how a result is stored. What each does to the data is in specs/.
+// What the typed commands of document 01 share: their operands, and the one function that reads the sources and stores the result of each. What each does to the data is in specs/.
 // Not here: the commands themselves (crates `arithmetic`, `comparisons` and `bitwise`); the jump to one of them (crate `dispatch`).
 #![tactic(auto)]
 
@@ -8,7 +8,7 @@ mod storing;
 
 pub use command::{Command, typed};
 pub use source::Source;
-pub use storing::{put, store_pattern};
+pub use storing::store_pattern;
 
 // The operands of a typed command: its type, the place of the result, and those of the sources. NOT has one source, which stands for both.
 #[derive(Clone, Copy)]
@@ -17,12 +17,4 @@ pub struct Operands {
     pub to: usize,
     pub first: usize,
     pub second: usize,
-}
-
-// What a typed command answers: it is done; an operand is beyond the data; the divisor is zero.
-#[derive(Clone, Copy)]
-pub enum Performed {
-    Done,
-    Beyond,
-    ByZero,
 }

@@ -2,10 +2,6 @@
 ghost use Rattle.std.specs.Prelude.{◌≡◌, ◌+◌, ◌≤◌, length};
 ghost use Rattle.memory.specs.Memory.{splice, bytes_le};
 ghost use Rattle.values.specs.Width.{Width};
-ghost use Rattle.commands.specs.Attempts.{attempt};
-ghost use Rattle.commands.specs.declared.Performed.TheVariants.{Done};
-
-use crate::Performed;
 
 // Stores a pattern of w bytes, by a copy of its bytes: stores of the single bytes, alike in every arm, would be compiled as one for all
 // widths, a byte at a time; a copy of a constant length is one instruction.
@@ -21,13 +17,4 @@ pub fn store_pattern(d: &mut [u8], w: usize, to: usize, p: u64)
         4 => memory::copy(d, to, &bytes, 0, 4),
         _ => memory::copy(d, to, &bytes, 0, 8),
     }
-}
-
-// The same, which ends a command.
-pub fn put(d: &mut [u8], w: usize, to: usize, p: u64) -> Performed
-    requires { Width w × (to + w ≤ length d.old) }
-    ensures { attempt result d.new ≡ attempt Done (splice d.old to (bytes_le w p)) }
-{
-    store_pattern(d, w, to, p);
-    Performed::Done
 }

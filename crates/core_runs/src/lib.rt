@@ -4,21 +4,19 @@
 
 ghost use Rattle.std.specs.Prelude.{◌≡◌, true, ◌≢◌, ◌+◌, ◌-◌, ◌*◌, ◌<◌, min, length, get_or, set};
 ghost use Rattle.memory.specs.Memory.{byte};
-ghost use Rattle.commands.specs.Attempts.{flag_bit};
 ghost use Rattle.protocol.specs.Modes.{executing};
 ghost use Rattle.taskset.specs.Judge.{code_of};
 ghost use Rattle.processor.specs.Executable.{frequent};
 ghost use Rattle.states.specs.Tasks.{core_task};
 ghost use Rattle.steps.specs.Moving.{AtInstruction, InstructionGiven};
 ghost use Rattle.order.specs.Order.{steps_on, Stretches};
-ghost use Rattle.runner.specs.Running.{faulted_by, executing_at, reached_of, reached_at, single_at, RunStands, CarriesStep, Reaches};
+ghost use Rattle.runner.specs.Running.{executing_at, reached_of, reached_at, single_at, RunStands, CarriesStep, Reaches};
 ghost use Rattle.runner.specs.Executing.{ExecutionGiven, Executes};
 
-use commands::Performed;
 use execution::TYPED;
 use memory::least;
 use order::{STRETCH, execution_ahead, stays};
-use protocol::{ADDRESS, DIVISOR, EXECUTING, LIMIT, Outcome, Registers};
+use protocol::{EXECUTING, LIMIT, Outcome, Registers};
 use runner::{Reached, Single};
 use states::CoreTask;
 
@@ -55,17 +53,6 @@ fn placed_at(r: Registers, counter: u16, offset: u16, depth: u8, count: usize) -
         cycles: r.cycles,
         flags: r.flags,
         time: r.time,
-    }
-}
-
-// The registers of a core whose typed command did not end well.
-fn stopped(r: Registers, p: Performed) -> Registers
-    ensures { result ≡ faulted_by (flag_bit p) r }
-{
-    match p {
-        Performed::Done => r,
-        Performed::Beyond => protocol::faulted(r, ADDRESS),
-        Performed::ByZero => protocol::faulted(r, DIVISOR),
     }
 }
 
@@ -140,8 +127,8 @@ pub fn run_core(
         let op = instructions::command_of(counter, k, c, file, trace);
         if execution::has_three(op) {
             match instructions::typed_of(op, r, k, c, file, trace, buffer) {
-                Performed::Done => counter += TYPED,
-                p => return reach(step + 1, stopped(r, p)),
+                Ok(()) => counter += TYPED,
+                Err(fault) => return reach(step + 1, protocol::faulted(r, fault.bit())),
             }
         } else {
             match instructions::other_of(op, r, k, c, file, trace, buffer) {

@@ -8,8 +8,9 @@ ghost use Rattle.commands.specs.Attempts.{attempt, attempted, OperandsGiven, Thr
 use arithmetic::{Addition, Division, Multiplication, Remainder, Subtraction};
 use beyond::{single_beyond, typed_beyond};
 use bitwise::{And, Not, Or, RotateLeft, RotateRight, ShiftLeft, ShiftRight, Xor};
-use commands::{Operands, Performed, typed};
+use commands::{Operands, typed};
 use comparisons::{Equal, Greater, GreaterOrEqual, Less, LessOrEqual, NotEqual};
+use verdict::Fault;
 
 // A command and its type as one number: 16 for each code byte, and the type.
 fn command_and_type(op: u8, kind: u8) -> usize
@@ -21,12 +22,12 @@ fn command_and_type(op: u8, kind: u8) -> usize
 
 // A typed command with three operands, by its code byte. One jump leads to code for that command and that type alone: of two jumps, by the command and then by the type,
 // an order of mixed commands lets no processor foresee the second.
-pub fn typed_at(d: &mut [u8], op: u8, o: Operands) -> Performed
+pub fn typed_at(d: &mut [u8], op: u8, o: Operands) -> Result<(), Fault>
     requires { ThreeOperands op × OperandsGiven op o }
     ensures { attempt result d.new ≡ attempted op o d.old }
 {
     if typed_beyond(d.len(), op, o) {
-        return Performed::Beyond;
+        return Err(Fault::Address);
     }
     let number = command_and_type(op, o.kind);
     match number {
@@ -206,12 +207,12 @@ pub fn typed_at(d: &mut [u8], op: u8, o: Operands) -> Performed
 
 // NOT, which has one source.
 #[tactic(auto, unfolding(values::specs::Types::takes, values::specs::Commands::result_width, values::specs::Commands::result_type, values::specs::Commands::second_width, verdict::specs::Verdict::pick))]
-pub fn not_at(d: &mut [u8], o: Operands) -> Performed
+pub fn not_at(d: &mut [u8], o: Operands) -> Result<(), Fault>
     requires { OperandsGiven 27 o }
     ensures { attempt result d.new ≡ attempted 27 o d.old }
 {
     if single_beyond(d.len(), o) {
-        return Performed::Beyond;
+        return Err(Fault::Address);
     }
     let t = o.kind;
     match t {

@@ -11,11 +11,10 @@ ghost use Rattle.values.specs.Width.{Width};
 ghost use Rattle.code.specs.Commands.{three};
 ghost use Rattle.code.specs.Code.{judge_code, is_start};
 ghost use Rattle.processor.specs.Processor.{answer, executed};
-ghost use Rattle.processor.specs.Typed.{outcome_of, conversion_outcome};
+ghost use Rattle.processor.specs.Typed.{outcome_of};
 ghost use Rattle.processor.specs.Executable.{Executable, InstructionStands, Reports, frequent};
 
 use addresses::{any_beyond, is_beyond, operand, operands, single};
-use commands::Performed;
 use protocol::{Outcome, Registers};
 use verdict::Fault;
 
@@ -195,14 +194,13 @@ fn access_element(op: u8, r: Registers, code: &[u8], d: &mut [u8]) -> Outcome
 
 // ---- typed commands
 
-// What a typed command before the place `next` answers, as an instruction.
-fn outcome(performed: Performed, next: u16) -> Outcome
+// What a typed command or a conversion before the place `next` answers, as an instruction.
+fn outcome(performed: Result<(), Fault>, next: u16) -> Outcome
     ensures { result ≡ outcome_of next performed }
 {
     match performed {
-        Performed::Done => Outcome::Next(next),
-        Performed::Beyond => Outcome::Fault(protocol::ADDRESS),
-        Performed::ByZero => Outcome::Fault(protocol::DIVISOR),
+        Ok(()) => Outcome::Next(next),
+        Err(fault) => Outcome::Fault(fault.bit()),
     }
 }
 
@@ -231,16 +229,6 @@ fn store_number(
 
 // ---- conversions
 
-// How a conversion before the place `next` ended, as an instruction.
-fn conversion_outcome(conversion: Result<(), Fault>, next: u16) -> Outcome
-    ensures { result ≡ conversion_outcome next conversion }
-{
-    match conversion {
-        Ok(()) => Outcome::Next(next),
-        Err(fault) => Outcome::Fault(fault.bit()),
-    }
-}
-
 // 43
 fn convert_value(r: Registers, code: &[u8], d: &mut [u8]) -> Outcome
     requires { InstructionStands 43 7 code.now r × (byte code.now (r.counter + 1) < 12) × (byte code.now (r.counter + 2) < 12) }
@@ -251,7 +239,7 @@ fn convert_value(r: Registers, code: &[u8], d: &mut [u8]) -> Outcome
     let to = code[p + 2];
     let destination = operand(r.offset, code, p + 3);
     let source = operand(r.offset, code, p + 5);
-    conversion_outcome(
+    outcome(
         conversions::convert_at(d, from, to, destination, source),
         r.counter + PAST_CONVERT,
     )
@@ -263,7 +251,7 @@ fn pack_digits(r: Registers, code: &[u8], d: &mut [u8]) -> Outcome
     ensures { answer result d.new ≡ executed code.now r d.old }
 {
     let o = single(r, code);
-    conversion_outcome(
+    outcome(
         packed::pack_at(d, o.kind, o.to, o.first),
         r.counter + PAST_PACKED,
     )
@@ -275,7 +263,7 @@ fn unpack_digits(r: Registers, code: &[u8], d: &mut [u8]) -> Outcome
     ensures { answer result d.new ≡ executed code.now r d.old }
 {
     let o = single(r, code);
-    conversion_outcome(
+    outcome(
         packed::unpack_at(d, o.kind, o.to, o.first),
         r.counter + PAST_PACKED,
     )
@@ -303,7 +291,7 @@ pub fn command_at(counter: u16, code: &[u8]) -> u8
 }
 
 // A typed command with three addresses: how it ended, and the data after it in place.
-pub fn execute_typed(op: u8, r: Registers, code: &[u8], d: &mut [u8]) -> Performed
+pub fn execute_typed(op: u8, r: Registers, code: &[u8], d: &mut [u8]) -> Result<(), Fault>
     requires { Executable code.now r d.old × (byte code.now r.counter ≡ op) × (three op ≡ true) }
     ensures { answer (outcome_of (r.counter + 8) result) d.new ≡ executed code.now r d.old }
 {

@@ -11,9 +11,9 @@ ghost use Rattle.processor.specs.Executable.{frequent};
 ghost use Rattle.steps.specs.Effects.{InstructsIn};
 ghost use Rattle.steps.specs.Moving.{AtInstruction, InstructionGiven};
 
-use commands::Performed;
 use protocol::{Outcome, Registers};
 use states::CoreTask;
+use verdict::Fault;
 
 // The code byte of the instruction at the program counter.
 pub fn command_of(counter: u16, k: usize, c: CoreTask, file: &[u8], trace: &[u8]) -> u8
@@ -34,7 +34,7 @@ pub fn typed_of(
     file: &[u8],
     trace: &[u8],
     buffer: &mut [u8],
-) -> Performed
+) -> Result<(), Fault>
     requires { InstructionGiven file.now trace.now k c r buffer.old op × (three op ≡ true) }
     ensures { InstructsIn file.now trace.now k r buffer.old (outcome_of (r.counter + 8) result) buffer.new }
 {

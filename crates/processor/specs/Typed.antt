@@ -1,12 +1,10 @@
 -- What an instruction hands to its typed command, and what the answer of a typed command or of a conversion is as an instruction's.
 use Rattle.std.specs.Prelude.{ℕ, ◌+◌, ◌<◌, List, Result}
 use Rattle.std.proofs.Math.Option.{Option, none, some}
-use Rattle.verdict.specs.declared.Fault.{Fault as CoreFault}
 use Rattle.verdict.specs.Faults.{fault_bit}
+use Rattle.verdict.specs.declared.Fault.{Fault as Fault_of}
 use Rattle.memory.specs.Memory.{byte, word}
 use Rattle.commands.specs.declared.Operands.{Operands}
-use Rattle.commands.specs.declared.Performed.{Performed}
-use Rattle.commands.specs.Attempts.{flag_bit}
 use Rattle.protocol.specs.declared.Registers.{Registers}
 use Rattle.protocol.specs.declared.Outcome.{Outcome}
 use Rattle.protocol.specs.declared.Outcome.TheVariants.{Fault, Next}
@@ -32,9 +30,9 @@ outcome_by next none = Next next
 outcome_by next (some b) = Fault b
 
 -- a typed command by its answer
-abbrev pub outcome_of : ℕ → Performed → Outcome
-outcome_of next p = outcome_by next (flag_bit p)
+abbrev pub outcome_of : {A : Type 0} → ℕ → Result A Fault_of → Outcome
+outcome_of next p = outcome_by next (fault_bit p)
 
 -- the same of a conversion
-abbrev pub conversion_outcome : ℕ → Result (Unit {0}) CoreFault → Outcome
+abbrev pub conversion_outcome : ℕ → Result (Unit {0}) Fault_of → Outcome
 conversion_outcome next x = outcome_by next (fault_bit x)

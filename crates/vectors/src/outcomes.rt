@@ -3,18 +3,11 @@ ghost use Rattle.commands.specs.Attempts.{OperandsGiven};
 
 use super::names::type_of;
 use super::vector_line::Line;
-use commands::{Operands, Performed};
+use commands::Operands;
 use verdict::Fault;
 
-#[derive(Clone, Copy)]
-enum Outcome {
-    Unknown,
-    Fault,
-    Stored(u64),
-}
-
 // The typed command with this code byte.
-fn perform(code: u8, d: &mut [u8], o: Operands) -> Performed
+fn perform(code: u8, d: &mut [u8], o: Operands) -> Result<(), Fault>
     requires { OperandsGiven code o }
 {
     match code {
@@ -23,10 +16,10 @@ fn perform(code: u8, d: &mut [u8], o: Operands) -> Performed
     }
 }
 
-// The command on memory: a at 0, b at 8, the result at 16.
-fn run(code: u8, t: u8, a: u64, b: u64) -> Outcome {
+// The command on memory: a at 0, b at 8, the result at 16. None where it does not take the type.
+fn run(code: u8, t: u8, a: u64, b: u64) -> Option<Result<u64, Fault>> {
     if !code::takes_type(code, t) {
-        return Outcome::Unknown;
+        return None;
     }
     let mut d = [0u8; 24];
     memory::store(&mut d, 0, 8, a);
@@ -37,58 +30,43 @@ fn run(code: u8, t: u8, a: u64, b: u64) -> Outcome {
         first: 0,
         second: 8,
     };
-    match perform(code, &mut d, o) {
-        Performed::Done => Outcome::Stored(memory::load(&d, 16, 8)),
-        Performed::ByZero => Outcome::Fault,
-        Performed::Beyond => Outcome::Unknown,
-    }
+    let performed = perform(code, &mut d, o);
+    Some(performed.map(|()| memory::load(&d, 16, 8)))
 }
 
-// How a conversion on memory ended, whose result stands at 16.
-fn ended(conversion: Result<(), Fault>, d: &[u8; 24]) -> Outcome {
-    match conversion {
-        Ok(()) => Outcome::Stored(memory::load(d, 16, 8)),
-        Err(Fault::Conversion) => Outcome::Fault,
-        Err(_) => Outcome::Unknown,
-    }
-}
-
-// A conversion on memory: a at 0, the result at 16.
-fn converted(from: u8, to: u64, a: u64) -> Outcome {
-    if 11 < from {
-        return Outcome::Unknown;
-    }
-    if 11 < to {
-        return Outcome::Unknown;
+// A conversion on memory: a at 0, the result at 16. None where there is no such type.
+fn converted(from: u8, to: u64, a: u64) -> Option<Result<u64, Fault>> {
+    if 11 < from || 11 < to {
+        return None;
     }
     let mut d = [0u8; 24];
     memory::store(&mut d, 0, 8, a);
-    let c = conversions::convert_at(&mut d, from, to as u8, 16, 0);
-    ended(c, &d)
+    let ended = conversions::convert_at(&mut d, from, to as u8, 16, 0);
+    Some(ended.map(|()| memory::load(&d, 16, 8)))
 }
 
 // The same of whole to packed, and of packed to whole.
-fn to_packed(t: u8, a: u64) -> Outcome {
+fn to_packed(t: u8, a: u64) -> Option<Result<u64, Fault>> {
     if 11 < t {
-        return Outcome::Unknown;
+        return None;
     }
     let mut d = [0u8; 24];
     memory::store(&mut d, 0, 8, a);
-    let c = packed::pack_at(&mut d, t, 16, 0);
-    ended(c, &d)
+    let ended = packed::pack_at(&mut d, t, 16, 0);
+    Some(ended.map(|()| memory::load(&d, 16, 8)))
 }
 
-fn from_packed(t: u8, a: u64) -> Outcome {
+fn from_packed(t: u8, a: u64) -> Option<Result<u64, Fault>> {
     if 11 < t {
-        return Outcome::Unknown;
+        return None;
     }
     let mut d = [0u8; 24];
     memory::store(&mut d, 0, 8, a);
-    let c = packed::unpack_at(&mut d, t, 16, 0);
-    ended(c, &d)
+    let ended = packed::unpack_at(&mut d, t, 16, 0);
+    Some(ended.map(|()| memory::load(&d, 16, 8)))
 }
 
-fn outcome_of(l: Line, code: u8) -> Outcome {
+fn outcome_of(l: Line, code: u8) -> Option<Result<u64, Fault>> {
     let t = type_of(l.kind);
     match code {
         43 => converted(t, l.b, l.a),
@@ -101,8 +79,8 @@ fn outcome_of(l: Line, code: u8) -> Outcome {
 // Whether the command gives what the line says.
 pub fn agrees(l: Line, code: u8) -> bool {
     match outcome_of(l, code) {
-        Outcome::Unknown => false,
-        Outcome::Fault => l.fault,
-        Outcome::Stored(r) => { if l.fault { false } else { r == l.result } }
+        Some(Ok(result)) => !l.fault && result == l.result,
+        Some(Err(Fault::Divisor | Fault::Conversion)) => l.fault,
+        _ => false,
     }
 }

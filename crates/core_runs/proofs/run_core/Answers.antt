@@ -10,10 +10,10 @@ use Rattle.processor.specs.Typed.{outcome_of}
 use Rattle.steps.proofs.Given.{at-instruction, counter-low, limit-in, limit-low}
 use Rattle.runner.specs.Running.{executing_at}
 use Rattle.order.proofs.Stretches.{step_in_lem}
-use Rattle.runner.proofs.Carrying.{carry-none, carries-as, Instructed, turn-of, doing, given-at, stopped_by_lem, ended-takes, returned-takes, advanced-at, called_at, returned-at}
+use Rattle.runner.proofs.Carrying.{carry-none, carries-as, Instructed, turn-of, doing, given-at, ended-takes, returned-takes, advanced-at, called_at, returned-at}
 use Rattle.runner.proofs.Carrying.{ready-now, length-now, core-few, keeps_same, keeps-executing, reaches-on, reaches-fault, reaches-ended, takes-outcome, carry-next, carry-fault, carry-ended, carry-call, carry-return}
 use Rattle.core_runs.proofs.run_core.Goals as goal
-use Rattle.core_runs.proofs.run_core.Goals.{then-has_three+in-Done, else-has_three+in-Next, else-has_three+in-Call, else-has_three+in-Return+else-depth-eq0}
+use Rattle.core_runs.proofs.run_core.Goals.{then-has_three+in-Ok, else-has_three+in-Next, else-has_three+in-Call, else-has_three+in-Return+else-depth-eq0}
 
 pub overflow_add-from : goal.overflow_add-from
 overflow_add-from c = record { fits = omega (arith, c.well_formed, (step_in_lem c.args.order.now c.args.from c.args.k c.requires.2).0) }
@@ -76,11 +76,10 @@ overflow_add-counter c =
 pub overflow_add-step : goal.overflow_add-step
 overflow_add-step c = record { fits = omega (arith, c.well_formed, c.loop-step-test.true, c.loop-step.invariant.0, c.stretch_end-end.ensures.1.within) }
 
-pub returns-in_default : goal.returns-in_default
-returns-in_default c =
+pub returns-in-Err : goal.returns-in-Err
+returns-in-Err c =
     let done = (doing c.requires.0 c.requires.1 c.requires.3 c.if-before-c.false c.stretch_end-end.ensures.1 c.loop-step.invariant.0 c.loop-step-test.true c.loop-step.invariant.2 c.placed_at-r.ensures _ c.typed_of.ensures (search rules)) in
-    let wrong = stopped_by_lem _ c.typed_of.result _ c.in_default.not-Done in
-    reaches-fault c.reach-in_default.ensures (omega (arith, c.loop-step.invariant.0)) _ (c.stopped.ensures ∙ wrong.marked ∙ ap (faulted _) c.placed_at-r.ensures) keeps-executing (carry-fault done _ wrong.failed)
+    reaches-fault c.reach-in-Err.ensures (omega (arith, c.loop-step.invariant.0)) _ (c.faulted-in-Err.ensures ∙ ap (faulted _) c.placed_at-r.ensures) keeps-executing (carry-fault done _ (ap (outcome_of _) c.in-Err.is ∙ ap Failed (sym c.bit.ensures.0)))
 
 pub other_of-requires : goal.other_of-requires
 other_of-requires c =
@@ -135,11 +134,11 @@ loop-step-preserved c =
     let here = c.loop-step in
     let count : begun.before.count + (here.step + 1 - begun.from) ≡ begun.before.count + (here.step - begun.from) + 1 = omega (arith, here.invariant.0) in
     elim c.if-has_three.branch [
-      | then-has_three+in-Done w ↦ (
+      | then-has_three+in-Ok w ↦ (
         omega (arith, here.invariant.0),
         omega (arith, c.loop-step-test.true),
         carries-as (advanced-at begun.before here.counter here.offset here.depth _ (w.counter-is ∙ ap (λ (r : Registers). r.counter + 8) (sym c.placed_at-r.ensures)) w.offset-is w.depth-is count) w.places-is w.offsets-is w.buffer-is
-            (carry-next (doing c.requires.0 c.requires.1 c.requires.3 c.if-before-c.false c.stretch_end-end.ensures.1 c.loop-step.invariant.0 c.loop-step-test.true c.loop-step.invariant.2 c.placed_at-r.ensures _ w.typed_of.ensures (search rules)) _ (ap (outcome_of _) w.in-Done.is)),
+            (carry-next (doing c.requires.0 c.requires.1 c.requires.3 c.if-before-c.false c.stretch_end-end.ensures.1 c.loop-step.invariant.0 c.loop-step-test.true c.loop-step.invariant.2 c.placed_at-r.ensures _ w.typed_of.ensures (search rules)) _ (ap (outcome_of _) w.in-Ok.is)),
       )
       | else-has_three+in-Next w ↦ (
         omega (arith, here.invariant.0),

@@ -21,9 +21,10 @@ read-requires g c = (taken-type g.C.Command.CODE c.args.t c.requires.0, rw (g.me
 
 pub apply-requires : goal.apply-requires
 unfolding read_value
-apply-requires g c =
-    (rw (c.width_of.ensures) (width-ok c.args.t (taken-type g.C.Command.CODE c.args.t c.requires.0)),
-     rw (c.read_value.ensures, c.read.ensures, g.met.C.Command.second_is c.args.t) (g.met.C.Command.can_be c.args.t _ _ c.requires.0 c.requires.3))
+apply-requires g c = (
+  rw (c.width_of.ensures) (width-ok c.args.t (taken-type g.C.Command.CODE c.args.t c.requires.0)),
+  rw (c.read_value.ensures, c.read.ensures, g.met.C.Command.second_is c.args.t) (g.met.C.Command.can_be c.args.t _ _ c.requires.0 c.requires.3),
+)
 
 pub pattern_of-requires : goal.pattern_of-requires
 unfolding result_width

@@ -17,14 +17,15 @@ result_width-requires g c = rw (c.CODE-2.ensures) c.requires.1
 
 pub pattern-requires : goal.pattern-requires
 pattern-requires g c =
-    let code = g.C.Command.CODE in
-    (c.requires.1,
-     known-first code c.args.t c.args.o c.args.d.now c.requires.0 c.requires.2,
-     known-second code c.args.t c.args.o c.args.d.now c.requires.0 c.requires.2 _ refl,
-     rw (← c.CODE.ensures) (sym c.zero_divisor.ensures ∙ c.if-zero_divisor.false))
+    let code = g.C.Command.CODE in (
+      c.requires.1,
+      known-first code c.args.t c.args.o c.args.d.now c.requires.0 c.requires.2,
+      known-second code c.args.t c.args.o c.args.d.now c.requires.0 c.requires.2 _ refl,
+      rw (← c.CODE.ensures) (sym c.zero_divisor.ensures ∙ c.if-zero_divisor.false),
+    )
 
-pub put-requires : goal.put-requires
-put-requires g c =
+pub store_pattern-requires : goal.store_pattern-requires
+store_pattern-requires g c =
     let code = g.C.Command.CODE in
     rw (c.result_width.ensures, c.CODE-2.ensures)
     (known_width code c.args.t c.requires.1, known-result code c.args.t c.args.o c.args.d.now c.requires.0 c.requires.2 _ refl)
@@ -32,6 +33,6 @@ put-requires g c =
 pub returns : goal.returns
 returns g c =
     let code = g.C.Command.CODE in
-    known-done code c.args.t c.args.o c.args.d.now c.requires.0 c.requires.2 _ _ c.result_width.result c.pattern.result
+    known-done code c.args.t c.args.o c.args.d.now c.requires.0 c.requires.2 _ c.result_width.result c.pattern.result
     (rw (← c.CODE-2.ensures) c.result_width.ensures)
-    (rw (← c.CODE.ensures) (sym c.zero_divisor.ensures ∙ c.if-zero_divisor.false)) c.pattern.ensures c.put.ensures
+    (rw (← c.CODE.ensures) (sym c.zero_divisor.ensures ∙ c.if-zero_divisor.false)) c.pattern.ensures c.store_pattern.ensures

@@ -14,9 +14,10 @@ pub returns-then-t-gt8 : goal.returns-then-t-gt8
 returns-then-t-gt8 c = whole_divisor c.args.op c.args.t c.if-op-ne19.false _ (λ k l. let z : ⊥ = omega arith in z)
 
 pub load-requires : goal.load-requires
-load-requires c =
-    (divisor_place c.args.op c.args.t c.if-op-ne19.false c.args.at _ c.width_of.result c.width_of.ensures c.requires.1,
-     width_small c.args.t (omega arith) c.width_of.ensures)
+load-requires c = (
+  divisor_place c.args.op c.args.t c.if-op-ne19.false c.args.at _ c.width_of.result c.width_of.ensures c.requires.1,
+  width_small c.args.t (omega arith) c.width_of.ensures,
+)
 
 pub returns : goal.returns
 returns c = divisor_zero c.args.op c.args.t c.if-op-ne19.false _ _ _ _ c.width_of.ensures (omega arith) (omega arith) c.load.ensures.0

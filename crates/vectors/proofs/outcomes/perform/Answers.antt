@@ -1,5 +1,5 @@
 -- `vectors::outcomes::perform` meets its contract. What is given of the code byte is given of the arm's command. Assumes nothing.
-use Rattle.std.proofs.Common.{◌≡◌, ℕ, subst, rules}
+use Rattle.std.proofs.Common.{◌≡◌, ℕ, subst}
 use Rattle.commands.specs.Attempts.{OperandsGiven}
 use Rattle.commands.specs.declared.Operands.{Operands}
 use Rattle.vectors.proofs.outcomes.perform.Goals as goal

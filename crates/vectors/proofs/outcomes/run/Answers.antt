@@ -1,6 +1,5 @@
 -- `vectors::outcomes::run` meets its contract. The test before the call is what the command asks of its type; the places are constants. Assumes nothing.
-use borrow.Author.Tests.{not-false}
-use Rattle.std.proofs.Common.{sym, ◌∙◌, arith, rules}
+use Rattle.std.proofs.Common.{sym, ◌∙◌, arith}
 use Rattle.vectors.proofs.outcomes.run.Goals as goal
 
 pub perform-requires : goal.perform-requires
