@@ -8,4 +8,4 @@ convert_at-requires c = (c.requires.1, c.requires.2, c.operand-destination.ensur
 
 pub returns : goal.returns
 returns c = conversion-done _ _ _ _ _ _ _ _ _ _ c.requires.0.here refl refl c.operand-destination.ensures.0 c.operand-source.ensures.0
-    c.convert_at.ensures c.conversion_outcome.ensures
+    c.convert_at.ensures c.outcome.ensures

@@ -9,4 +9,4 @@ pub pack_at-requires : goal.pack_at-requires
 pack_at-requires c = (rw c.single-o.ensures.0 c.requires.1, c.single-o.ensures.1.0, c.single-o.ensures.1.1)
 
 pub returns : goal.returns
-returns c = packing-done _ _ _ _ _ _ _ c.requires.0.here c.single-o.ensures.0 c.pack_at.ensures c.conversion_outcome.ensures
+returns c = packing-done _ _ _ _ _ _ _ c.requires.0.here c.single-o.ensures.0 c.pack_at.ensures c.outcome.ensures

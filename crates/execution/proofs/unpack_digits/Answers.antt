@@ -9,4 +9,4 @@ pub unpack_at-requires : goal.unpack_at-requires
 unpack_at-requires c = (rw c.single-o.ensures.0 c.requires.1, c.single-o.ensures.1.0, c.single-o.ensures.1.1)
 
 pub returns : goal.returns
-returns c = unpacking-done _ _ _ _ _ _ _ c.requires.0.here c.single-o.ensures.0 c.unpack_at.ensures c.conversion_outcome.ensures
+returns c = unpacking-done _ _ _ _ _ _ _ c.requires.0.here c.single-o.ensures.0 c.unpack_at.ensures c.outcome.ensures
