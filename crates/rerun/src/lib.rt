@@ -291,15 +291,14 @@ pub fn rerun(
 ) -> RunAnswer
     ensures { left_as result buffer.new shared.new [] ≡ rerun_call file.now trace.now list.now buffer.old shared.old }
 {
-    let loaded = machine::load_lent(Profile::Full, file, buffer.len(), shared.len(), true);
-    if loaded.refusal != 0 {
-        return without_table(loaded.refusal);
-    }
-    let layout = loaded.layout;
-    let traces = traces::load_trace(file, trace);
-    if traces.refusal != 0 {
-        return without_table(traces.refusal);
-    }
+    let layout = match machine::load_lent(Profile::Full, file, buffer.len(), shared.len(), true) {
+        Ok(layout) => layout,
+        Err(refusal) => return without_table(refusal.number()),
+    };
+    let traces = match traces::load_trace(file, trace) {
+        Ok(traces) => traces,
+        Err(refusal) => return without_table(refusal.number()),
+    };
     let tasks = states::core_tasks(file, trace, layout, traces);
     rerun_judged(file, trace, layout, tasks, list, buffer, shared)
 }

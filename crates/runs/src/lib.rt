@@ -15,7 +15,7 @@ use exchange::Cursor;
 use machine::{answer, fresh_judged, judge_call, load_lent};
 use runner::RunAnswer;
 use states::{CoreTask, Held};
-use taskset::{Layout, Loaded};
+use taskset::Layout;
 
 // The place of the exchange under way in a fit state, if there is one.
 fn aim_of(
@@ -88,13 +88,20 @@ pub fn run(
 {
     let room = order.len() <= list.len();
     let loaded = load_lent(Profile::Full, file, buffer.len(), shared.len(), room);
-    let judged = judge_call(file, trace, loaded, s, order);
-    if judged.refusal != 0 {
-        return answer(judged.refusal, s);
+    match judge_call(file, trace, loaded, s, order) {
+        Ok(judged) => run_judged(
+            file,
+            trace,
+            judged.layout,
+            judged.tasks,
+            s,
+            buffer,
+            shared,
+            order,
+            list,
+        ),
+        Err(refusal) => answer(refusal.number(), s),
     }
-    let layout = judged.layout;
-    let tasks = judged.tasks;
-    run_judged(file, trace, layout, tasks, s, buffer, shared, order, list)
 }
 
 // The steps of an order from the fresh state, of an accepted file in memories of its sizes, where the order list has room: so the file is judged once.
@@ -111,23 +118,20 @@ pub fn first_run_judged(
     ensures { left_as result buffer.new shared.new list.new ≡ first_run file.now trace.now order.now list.old }
 {
     let start = fresh_judged(file, layout, buffer, shared);
-    let loaded = Loaded { refusal: 0, layout };
-    let judged = judge_call(file, trace, loaded, start.state, order);
-    if judged.refusal != 0 {
-        return answer(judged.refusal, start.state);
+    match judge_call(file, trace, Ok(layout), start.state, order) {
+        Ok(judged) => run_judged(
+            file,
+            trace,
+            layout,
+            judged.tasks,
+            start.state,
+            buffer,
+            shared,
+            order,
+            list,
+        ),
+        Err(refusal) => answer(refusal.number(), start.state),
     }
-    let tasks = judged.tasks;
-    run_judged(
-        file,
-        trace,
-        layout,
-        tasks,
-        start.state,
-        buffer,
-        shared,
-        order,
-        list,
-    )
 }
 
 // One step of a core, as the run of an order of one byte: so the machine has one place that executes.

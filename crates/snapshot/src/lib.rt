@@ -8,6 +8,7 @@ mod table_state;
 ghost use Rattle.std.specs.Prelude.{◌≡◌, [], ◌+◌, ◌<◌};
 ghost use Rattle.verdict.specs.Verdict.{next};
 ghost use Rattle.verdict.specs.Numbers.{bad_lengths};
+ghost use Rattle.verdict.specs.Refusals.{number_of};
 ghost use Rattle.code.specs.declared.Profile.TheVariants.{Small};
 ghost use Rattle.taskset.specs.Judge.{judge_for};
 ghost use Rattle.snapshot.specs.Snapshot.{no_record, table_from, counted, table_left, fresh_table_for, fresh_table, ring_of, refused_ring, place_after, record_moves, answered, ring_answer};
@@ -17,6 +18,7 @@ use protocol::Registers;
 use semaphore::Semaphore;
 pub use table_state::{accepted, state_of, unchanged};
 use table_state::{record_of, registers_in};
+use verdict::Refusal;
 
 // A record of the core table: a core's registers and call stack, in 84 bytes of which each belongs to a field, so that what a call says of the
 // fields it says of every byte. Spare bytes are never judged, and a record that a call writes has zeros there.
@@ -71,7 +73,7 @@ fn fresh_table_for(
     ensures { table_left result buffer.new shared.new [] ≡ fresh_table_for profile file.now t semaphore buffer.old shared.old }
 {
     if t.count < memory::byte_at(file, 4) {
-        return unchanged(t, semaphore, short_refusal(profile, file));
+        return unchanged(t, semaphore, short_refusal(profile, file).number());
     }
     let made = machine::fresh_for(profile, file, buffer, shared);
     if made.refusal != 0 {
@@ -107,14 +109,13 @@ pub fn fresh_small_table(
 }
 
 // The refusal where the table is too short: the file is judged first.
-pub fn short_refusal(profile: Profile, file: &[u8]) -> u8
-    ensures { result ≡ next (judge_for profile file.now) bad_lengths }
+pub fn short_refusal(profile: Profile, file: &[u8]) -> Refusal
+    ensures { number_of result ≡ next (judge_for profile file.now) bad_lengths }
 {
-    let r = file_judging::judge_file_for(profile, file);
-    if r != 0 {
-        return r;
+    match file_judging::judge_file_for(profile, file) {
+        Ok(()) => Refusal::BadLengths,
+        Err(refusal) => refusal,
     }
-    verdict::BAD_LENGTHS
 }
 
 // ---- the ring of cores, and the test of one record
@@ -134,19 +135,17 @@ pub fn ring_of(file: &[u8], trace: &[u8], t: Table, semaphore: Semaphore, given:
     ensures { result ≡ ring_of file.now trace.now t semaphore given }
 {
     let s = state_of(t, semaphore);
-    let loaded = file_loading::load_file(file);
-    if loaded.refusal != 0 {
-        return no_ring(loaded.refusal, given, semaphore);
-    }
-    let layout = loaded.layout;
-    let prepared = fitness::prepare(file, trace, layout, s);
-    if prepared.refusal != 0 {
-        return no_ring(prepared.refusal, given, semaphore);
-    }
+    let layout = match file_loading::load_file(file) {
+        Ok(layout) => layout,
+        Err(refusal) => return no_ring(refusal, given, semaphore),
+    };
+    let tasks = match fitness::prepare(file, trace, layout, s) {
+        Ok(tasks) => tasks,
+        Err(refusal) => return no_ring(refusal, given, semaphore),
+    };
     if layout.cores <= given as usize {
-        return no_ring(20, given, semaphore);
+        return no_ring(Refusal::NoSuchCore, given, semaphore);
     }
-    let tasks = prepared.tasks;
     let counts = [
         tasks[0].count,
         tasks[1].count,
@@ -162,12 +161,12 @@ pub fn ring_of(file: &[u8], trace: &[u8], t: Table, semaphore: Semaphore, given:
     }
 }
 
-fn no_ring(number: u8, given: u8, semaphore: Semaphore) -> Ring
-    ensures { result ≡ refused_ring number given semaphore }
+fn no_ring(refusal: Refusal, given: u8, semaphore: Semaphore) -> Ring
+    ensures { result ≡ refused_ring (number_of refusal) given semaphore }
 {
     let counts = [0usize; 4];
     Ring {
-        refusal: number,
+        refusal: refusal.number(),
         cores: 0,
         given,
         semaphore,

@@ -23,7 +23,7 @@ pub fn rerun_table(
         ≡ rerun_table file.now trace.now list.now t semaphore buffer.old shared.old }
 {
     if t.count < memory::byte_at(file, 4) {
-        return unchanged(t, semaphore, short_refusal(Profile::Full, file));
+        return unchanged(t, semaphore, short_refusal(Profile::Full, file).number());
     }
     let reran = rerun::rerun(file, trace, list, buffer, shared);
     if reran.refusal != 0 {

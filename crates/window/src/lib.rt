@@ -70,11 +70,10 @@ pub fn find_window(
 ) -> Found
     ensures { result ≡ window_found file.now buffer shown core start count }
 {
-    let loaded = file_loading::load_file(file);
-    if loaded.refusal != 0 {
-        return no_stretch(loaded.refusal);
-    }
-    let layout = loaded.layout;
+    let layout = match file_loading::load_file(file) {
+        Ok(layout) => layout,
+        Err(refusal) => return no_stretch(refusal.number()),
+    };
     if buffer != file_loading::sum_of_sizes(file, layout) {
         return no_stretch(verdict::BAD_LENGTHS);
     }

@@ -1,39 +1,44 @@
 -- `rerun::rerun` meets its contract: file, lent memory and trace are judged, then the list. Assumes nothing.
+use mathlib.Core.Path.{refl, sym, ◌∙◌}
 use native.Mathlib.Omega.{arith}
+use Rattle.verdict.proofs.Refusals.{refused}
 use Rattle.code.specs.declared.Profile.TheVariants.{Full}
+use Rattle.taskset.proofs.Records.{trace-judged, trace-sound, trace-laid}
 use Rattle.states.proofs.Accepted.{accepted-set}
-use Rattle.states.proofs.Preparing.{trace-judged, trace-sound, trace-laid}
 use Rattle.machine.proofs.Calls.{lent-to, fresh-number}
 use Rattle.rerun.proofs.Ends.{rerun-refused, refused-loaded, refused-trace}
 use Rattle.rerun.proofs.rerun.Goals as goal
 
-pub returns-then-loaded-ne0 : goal.returns-then-loaded-ne0
-returns-then-loaded-ne0 c = let a = c.args in
+pub returns-in-Err : goal.returns-in-Err
+returns-in-Err c = let a = c.args in
     rerun-refused a.file.now a.trace.now a.list.now a.buffer.now a.shared.now _
-    (refused-loaded a.file.now a.trace.now a.list.now a.buffer.now a.shared.now (fresh-number Full a.file.now a.buffer.now a.shared.now _ c.load_lent-loaded.ensures) c.if-loaded-ne0.true)
-    c.if-loaded-ne0.true c.without_table.ensures
+    (refused-loaded a.file.now a.trace.now a.list.now a.buffer.now a.shared.now
+    (c.number.ensures.0 ∙ fresh-number Full a.file.now a.buffer.now a.shared.now _ c.in-Err.ensures.0) (λ e. refused _ (sym c.number.ensures.0 ∙ e)))
+    (λ e. refused _ (sym c.number.ensures.0 ∙ e)) c.without_table.ensures
 
-pub returns-then-traces-ne0 : goal.returns-then-traces-ne0
-returns-then-traces-ne0 c = let a = c.args in
-    let lent = lent-to Full a.file.now a.buffer.now a.shared.now _ _ c.load_lent-loaded.ensures c.if-loaded-ne0.false in
+pub returns-in-Err-load_trace : goal.returns-in-Err-load_trace
+returns-in-Err-load_trace c = let a = c.args in
+    let lent = lent-to Full a.file.now a.buffer.now a.shared.now _ _ c.in-Ok.ensures in
     rerun-refused a.file.now a.trace.now a.list.now a.buffer.now a.shared.now _
-    (refused-trace a.file.now a.trace.now a.list.now a.buffer.now a.shared.now lent.accepted lent.fits (trace-judged a.file.now a.trace.now _ c.load_trace-traces.ensures) c.if-traces-ne0.true)
-    c.if-traces-ne0.true c.without_table-then-traces-ne0.ensures
+    (refused-trace a.file.now a.trace.now a.list.now a.buffer.now a.shared.now lent.accepted lent.fits
+    (c.number-in-Err-load_trace.ensures.0 ∙ trace-judged a.file.now a.trace.now _ c.in-Err-load_trace.ensures)
+    (λ e. refused _ (sym c.number-in-Err-load_trace.ensures.0 ∙ e)))
+    (λ e. refused _ (sym c.number-in-Err-load_trace.ensures.0 ∙ e)) c.without_table-in-Err-load_trace.ensures
 
 pub core_tasks-tasks-requires : goal.core_tasks-tasks-requires
 core_tasks-tasks-requires c = let a = c.args in
-    let lent = lent-to Full a.file.now a.buffer.now a.shared.now _ _ c.load_lent-loaded.ensures c.if-loaded-ne0.false in
-    let sound = trace-sound a.file.now a.trace.now _ c.load_trace-traces.ensures c.if-traces-ne0.false in (
+    let lent = lent-to Full a.file.now a.buffer.now a.shared.now _ _ c.in-Ok.ensures in
+    let sound = trace-sound a.file.now a.trace.now _ c.in-Ok-load_trace.ensures refl in (
       accepted-set a.file.now a.trace.now (λ i. omega (arith, c.type_inv.file i))
           (λ i. omega (arith, c.type_inv.trace i)) lent.accepted sound,
       lent.laid,
-      trace-laid a.file.now a.trace.now _ c.load_trace-traces.ensures c.if-traces-ne0.false,
+      trace-laid a.file.now a.trace.now _ c.in-Ok-load_trace.ensures refl,
     )
 
 pub rerun_judged-requires : goal.rerun_judged-requires
 rerun_judged-requires c = let a = c.args in
-    let lent = lent-to Full a.file.now a.buffer.now a.shared.now _ _ c.load_lent-loaded.ensures c.if-loaded-ne0.false in
-    let sound = trace-sound a.file.now a.trace.now _ c.load_trace-traces.ensures c.if-traces-ne0.false in
+    let lent = lent-to Full a.file.now a.buffer.now a.shared.now _ _ c.in-Ok.ensures in
+    let sound = trace-sound a.file.now a.trace.now _ c.in-Ok-load_trace.ensures refl in
     record {
       accepted =
           accepted-set a.file.now a.trace.now (λ i. omega (arith, c.type_inv.file i))
