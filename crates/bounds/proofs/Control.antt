@@ -22,7 +22,7 @@ use Rattle.code.specs.declared.Instruction.{Instruction}
 use Rattle.code.specs.declared.Instruction.TheVariants.{Return, Jump, JumpZero, JumpNotZero, CallInstance, CallFunction, MoveConstant, CopyMemory, ReadElement, WriteElement, Typed, CycleTime, FlagByte, Convert, Pack, Unpack, Unknown}
 use Rattle.code.specs.Commands.{Kind, Returns, Jumps, Branches, Calls, Passes}
 use Rattle.code.specs.Flow.{kind_at, after, target_at}
-use Rattle.processor.specs.Processor.{Decided, refused, decided, fault_if, at, ended_by, of_conversion, of_element, data_part, call_made, controlled, executed}
+use Rattle.processor.specs.Processor.{Decided, refused, decided, fault_if, at, of_conversion, of_element, data_part, call_made, controlled, executed}
 use Rattle.bounds.specs.Paths.{Goes, passes, jumps, stays, leaves, calls}
 
 -- ---- the faults of the data part: neither the limit nor the seventeenth call

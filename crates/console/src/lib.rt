@@ -60,11 +60,10 @@ pub fn output(file: &[u8], trace: &[u8], order: &[u8], out: &mut [u8]) -> Result
     if too_long(file.len(), trace.len(), order.len()) {
         return listing::write_long(out);
     }
-    let loaded = file_loading::load_file(file);
-    if loaded.refusal != 0 {
-        return listing::write_refused(loaded.refusal, out);
-    }
-    let layout = loaded.layout;
+    let layout = match file_loading::load_file(file) {
+        Ok(layout) => layout,
+        Err(refusal) => return listing::write_refused(refusal.number(), out),
+    };
     let size = file_loading::sum_of_sizes(file, layout);
     let mut buffer = [0u8; 16384];
     let mut shared = [0u8; 1024];

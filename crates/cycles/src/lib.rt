@@ -1,6 +1,6 @@
 // Document 02, 2.9, whole cycles, one after another: the test of its condition, which a user can ask of a task set file. The theorem itself, of the
 // real machine and its calls, and three cores in a ring are in specs and proofs.
-// In order: lines between two cores; cores that read each other; rings; the call; its numbers.
+// In order: lines between two cores; cores that read each other; rings; the call; its byte.
 #![tactic(auto)]
 
 ghost use Rattle.std.specs.Prelude.{◌≡◌, not, ◌+◌, ◌≤◌, ◌<◌, length};
@@ -10,8 +10,10 @@ ghost use Rattle.protocol.specs.Cycles.{reads_from, line_between, is_one_way, no
 ghost use Rattle.records.specs.File.{variable_in};
 ghost use Rattle.taskset.specs.Judge.{judge};
 ghost use Rattle.taskset.specs.Task.{variables_of};
-ghost use Rattle.cycles.specs.Check.{lines_of, lines_refusal, lines_byte};
+ghost use Rattle.cycles.specs.Check.{numbered, lines_of, lines_byte};
 ghost use Rattle.cycles.specs.Rings.{closed};
+
+use verdict::Refusal;
 
 // ---- lines between two cores
 
@@ -138,51 +140,35 @@ fn any_ring(file: &[u8]) -> bool
 // What the lines of a task set file are.
 #[derive(Clone, Copy)]
 pub enum Lines {
-    Refused(u8), // the file's refusal number
     Free, // no two cores read each other, and no ring: runs end as an order of whole cycles
     EachOther, // two cores read each other
     Ringed, // no two do, and the lines form a ring
 }
 
 // Whether a run of the file's cores always ends as an order of whole cycles, as far as the lines between them tell.
-pub fn check_cycles(file: &[u8]) -> Lines
-    ensures { result ≡ lines_of file.now }
+pub fn check_cycles(file: &[u8]) -> Result<Lines, Refusal>
+    ensures { numbered result ≡ lines_of file.now }
 {
-    let refusal = file_judging::judge_file(file);
-    if refusal != 0 {
-        return Lines::Refused(refusal);
-    }
+    file_judging::judge_file(file)?;
     if any_each_other(file) {
-        return Lines::EachOther;
+        return Ok(Lines::EachOther);
     }
     if any_ring(file) {
-        return Lines::Ringed;
+        return Ok(Lines::Ringed);
     }
-    Lines::Free
+    Ok(Lines::Free)
 }
 
-// ---- its numbers
-
-// The refusal number of an answer, 0 for none.
-pub fn lines_refusal(lines: Lines) -> u8
-    ensures { result ≡ lines_refusal lines }
-{
-    match lines {
-        Lines::Refused(n) => n,
-        Lines::Free => 0,
-        Lines::EachOther => 0,
-        Lines::Ringed => 0,
-    }
-}
+// ---- its byte
 
 // The byte that says which, where `before` stood in it: 0 free, 1 cores that read each other, 2 a ring. A refusal leaves it.
-pub fn lines_byte(before: u8, lines: Lines) -> u8
-    ensures { result ≡ lines_byte before lines }
+pub fn lines_byte(before: u8, lines: Result<Lines, Refusal>) -> u8
+    ensures { result ≡ lines_byte before (numbered lines) }
 {
     match lines {
-        Lines::Refused(n) => before,
-        Lines::Free => 0,
-        Lines::EachOther => 1,
-        Lines::Ringed => 2,
+        Err(_) => before,
+        Ok(Lines::Free) => 0,
+        Ok(Lines::EachOther) => 1,
+        Ok(Lines::Ringed) => 2,
     }
 }

@@ -6,7 +6,7 @@ use std::io;
 
 fn case(rt: &impl Print, label: &str, file: &[u8]) -> io::Result<()> {
     let lines = cycles::check_cycles(file);
-    let refusal = cycles::lines_refusal(lines);
+    let refusal = verdict::refusal_of(lines);
     let byte = cycles::lines_byte(77, lines);
     println!(rt; "{label}: {refusal} {byte}")
 }

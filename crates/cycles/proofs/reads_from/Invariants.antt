@@ -1,5 +1,4 @@
 -- `cycles::reads_from` meets its contract. The invariant: none of the variables so far is such a one. Assumes nothing.
-use Prim.Native.Nat.{◌-◌}
 use mathlib.Core.Path.{◌≡◌}
 use Rattle.records.specs.File.{count_place, variables}
 use Rattle.cycles.proofs.Check.{NoneBefore}
