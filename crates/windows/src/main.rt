@@ -9,6 +9,10 @@ use window::Shown;
 const FILE: &[u8] =
     b"MCS1\x02\x03\x00\x00\x00\x01\x00\x05\x00\x00\x00\x01\x00\x00\x01\x00\x00\x06\x00\x06aa\x01z\x00";
 
+// The same two cores in a file of the new form (document 02, 2.12), where start values follow the code.
+const NEW_FILE: &[u8] =
+    b"MCS2\x02\x03\x00\x00\x00\x01\x00\x05\x00\x00\x00\x01\x00\x00\x01\x00\x00\x06\x00\x06aa\x01z\x00\x01\x00\x02\x00c\x02\x00\x00\x00d\x04\x00h";
+
 const BUFFER: &[u8] = b"abcdefgh";
 
 fn case<'a>(
@@ -27,16 +31,17 @@ fn case<'a>(
     println!(rt; "]")
 }
 
-// A stretch of a core's data or code.
+// A stretch of a core's data or code, with the data buffer of the two cores.
 fn part(
     rt: &impl Print,
+    file: &[u8],
     label: &str,
     shown: Shown,
     core: u8,
     start: usize,
     count: usize,
 ) -> Result<()> {
-    case(rt, label, shown, core, start, count, FILE, BUFFER)
+    case(rt, label, shown, core, start, count, file, BUFFER)
 }
 
 // Another file or data buffer.
@@ -52,25 +57,50 @@ fn of_lent<'a>(
 }
 
 fn windows(rt: &impl Print) -> Result<()> {
-    part(rt, "data of core 0", Shown::Data, 0, 0, 3)?;
-    part(rt, "data of core 1", Shown::Data, 1, 0, 5)?;
-    part(rt, "its second and third byte", Shown::Data, 1, 1, 2)?;
-    part(rt, "an operand of core 1", Shown::Code, 1, 1, 2)?;
-    part(rt, "a constant of core 1", Shown::Code, 1, 4, 1)?;
-    part(rt, "no byte", Shown::Data, 0, 1, 0)?;
-    part(rt, "no byte at the end of the data", Shown::Data, 0, 3, 0)?;
-    part(rt, "no byte at the end of the buffer", Shown::Data, 1, 5, 0)?;
-    part(rt, "no byte at the end of the code", Shown::Code, 1, 6, 0)
+    part(rt, FILE, "data of core 0", Shown::Data, 0, 0, 3)?;
+    part(rt, FILE, "data of core 1", Shown::Data, 1, 0, 5)?;
+    part(rt, FILE, "its second and third byte", Shown::Data, 1, 1, 2)?;
+    part(rt, FILE, "an operand of core 1", Shown::Code, 1, 1, 2)?;
+    part(rt, FILE, "a constant of core 1", Shown::Code, 1, 4, 1)?;
+    part(rt, FILE, "no byte", Shown::Data, 0, 1, 0)?;
+    part(
+        rt,
+        FILE,
+        "no byte at the end of the data",
+        Shown::Data,
+        0,
+        3,
+        0,
+    )?;
+    part(
+        rt,
+        FILE,
+        "no byte at the end of the buffer",
+        Shown::Data,
+        1,
+        5,
+        0,
+    )?;
+    part(
+        rt,
+        FILE,
+        "no byte at the end of the code",
+        Shown::Code,
+        1,
+        6,
+        0,
+    )
 }
 
 fn outside(rt: &impl Print) -> Result<()> {
-    part(rt, "one byte too many", Shown::Data, 0, 0, 4)?;
-    part(rt, "a byte of the next core", Shown::Data, 0, 3, 1)?;
-    part(rt, "no byte, but past the end", Shown::Data, 0, 4, 0)?;
-    part(rt, "a byte after the code", Shown::Code, 1, 6, 1)?;
-    part(rt, "no byte, but past the code", Shown::Code, 1, 7, 0)?;
+    part(rt, FILE, "one byte too many", Shown::Data, 0, 0, 4)?;
+    part(rt, FILE, "a byte of the next core", Shown::Data, 0, 3, 1)?;
+    part(rt, FILE, "no byte, but past the end", Shown::Data, 0, 4, 0)?;
+    part(rt, FILE, "a byte after the code", Shown::Code, 1, 6, 1)?;
+    part(rt, FILE, "no byte, but past the code", Shown::Code, 1, 7, 0)?;
     part(
         rt,
+        FILE,
         "a start and a length that wrap",
         Shown::Data,
         1,
@@ -79,14 +109,15 @@ fn outside(rt: &impl Print) -> Result<()> {
     )?;
     part(
         rt,
+        FILE,
         "a length that wraps",
         Shown::Data,
         1,
         1,
         18446744073709551615,
     )?;
-    part(rt, "core 2 of two", Shown::Data, 2, 0, 0)?;
-    part(rt, "core 255", Shown::Code, 255, 0, 0)
+    part(rt, FILE, "core 2 of two", Shown::Data, 2, 0, 0)?;
+    part(rt, FILE, "core 255", Shown::Code, 255, 0, 0)
 }
 
 fn lent(rt: &impl Print) -> Result<()> {
@@ -137,41 +168,38 @@ fn lent(rt: &impl Print) -> Result<()> {
     )
 }
 
-// The same two cores in a file of the new form (document 02, 2.12), where start values follow the code.
-fn of_new(
-    rt: &impl Print,
-    label: &str,
-    shown: Shown,
-    core: u8,
-    start: usize,
-    count: usize,
-) -> Result<()> {
-    case(
-        rt,
-        label,
-        shown,
-        core,
-        start,
-        count,
-        b"MCS2\x02\x03\x00\x00\x00\x01\x00\x05\x00\x00\x00\x01\x00\x00\x01\x00\x00\x06\x00\x06aa\x01z\x00\x01\x00\x02\x00c\x02\x00\x00\x00d\x04\x00h",
-        b"abcdefgh",
-    )
-}
-
 fn new_form(rt: &impl Print) -> Result<()> {
-    of_new(rt, b"new form: data of core 1", Shown::Data, 1, 0, 5)?;
-    of_new(rt, b"new form: an operand of core 1", Shown::Code, 1, 1, 2)?;
-    of_new(
+    part(
         rt,
-        b"new form: no byte at the end of the code",
+        NEW_FILE,
+        "new form: data of core 1",
+        Shown::Data,
+        1,
+        0,
+        5,
+    )?;
+    part(
+        rt,
+        NEW_FILE,
+        "new form: an operand of core 1",
+        Shown::Code,
+        1,
+        1,
+        2,
+    )?;
+    part(
+        rt,
+        NEW_FILE,
+        "new form: no byte at the end of the code",
         Shown::Code,
         1,
         6,
         0,
     )?;
-    of_new(
+    part(
         rt,
-        b"new form: a start value after the code",
+        NEW_FILE,
+        "new form: a start value after the code",
         Shown::Code,
         1,
         6,
