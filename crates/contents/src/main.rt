@@ -136,17 +136,19 @@ fn run_in(file: &[u8], trace: &[u8], order: &[u8], layout: Layout, n: usize, buf
 }
 
 fn run_files(file: &[u8], trace: &[u8], order: &[u8]) {
-    let loaded = file_loading::load_file(file);
-    if loaded.refusal != 0 {
-        refused(loaded.refusal);
-        return;
-    }
+    let layout = match file_loading::load_file(file) {
+        Ok(layout) => layout,
+        Err(refusal) => {
+            refused(refusal.number());
+            return;
+        }
+    };
     let mut buffer = [0u8; 16384];
     run_in(
         file,
         trace,
         order,
-        loaded.layout,
+        layout,
         machine::buffer_size(file),
         &mut buffer,
     );

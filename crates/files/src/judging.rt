@@ -3,7 +3,10 @@ use super::printing::show;
 
 // The refusal of a whole file.
 pub fn file(label: &[u8], f: &[u8]) {
-    show(label, file_judging::judge_file(f) as usize);
+    show(
+        label,
+        verdict::refusal_of(file_judging::judge_file(f)) as usize,
+    );
 }
 
 // The refusal of the first n bytes.
@@ -12,5 +15,5 @@ pub fn begin(f: &[u8], n: usize) -> u8 {
         return 99;
     }
     let a = 0;
-    file_judging::judge_file(&f[a..n])
+    verdict::refusal_of(file_judging::judge_file(&f[a..n]))
 }

@@ -1,5 +1,6 @@
 // Where everything stands in a file, printed.
 use super::printing::{number, show, text};
+use taskset::Layout;
 
 fn core(c: taskset::CoreLayout) {
     number(c.size);
@@ -16,8 +17,24 @@ fn core(c: taskset::CoreLayout) {
 }
 
 pub fn layout(f: &[u8]) {
-    let a = file_loading::load_file(f);
-    let l = a.layout;
+    match file_loading::load_file(f) {
+        Ok(l) => laid(l),
+        Err(_) => laid(empty()),
+    }
+}
+
+// Where nothing stands: the answer on a file that is refused.
+fn empty() -> Layout {
+    let c = taskset::no_core();
+    Layout {
+        cores: 0,
+        variables: 0,
+        first: 0,
+        core: [c, c, c, c],
+    }
+}
+
+fn laid(l: Layout) {
     show(b"cores", l.cores);
     show(b"variables", l.variables);
     show(b"first record", l.first);

@@ -7,7 +7,7 @@ fn begin_trace(f: &[u8], t: &[u8], n: usize) -> u8 {
         return 99;
     }
     let a = 0;
-    traces::judge_trace(f, &t[a..n])
+    verdict::refusal_of(traces::judge_trace(f, &t[a..n]))
 }
 
 fn trace_cuts(f: &[u8], t: &[u8], n: usize) {
@@ -26,10 +26,14 @@ fn records_of(count: u16, first: usize) {
 }
 
 pub fn trace(f: &[u8], t: &[u8]) {
-    let l = traces::load_trace(f, t);
-    show(b"trace", l.refusal as usize);
-    let count = l.count;
-    let first = l.first;
+    let loaded = traces::load_trace(f, t);
+    show(b"trace", verdict::refusal_of(loaded) as usize);
+    let mut count = [0u16; 4];
+    let mut first = [0usize; 4];
+    if let Ok(l) = loaded {
+        count = l.count;
+        first = l.first;
+    }
     records_of(count[0], first[0]);
     records_of(count[1], first[1]);
     records_of(count[2], first[2]);

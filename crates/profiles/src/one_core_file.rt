@@ -41,7 +41,7 @@ pub fn judged(profile: Profile, size: u16, code: &[u8]) -> u8 {
     memory::copy(&mut f, CODE, code, 0, n);
     let a = 0;
     let e = CODE + n;
-    machine::check_file_for(profile, &f[a..e])
+    verdict::refusal_of(machine::check_file_for(profile, &f[a..e]))
 }
 
 pub fn both(name: &[u8], size: u16, code: &[u8]) {

@@ -157,10 +157,9 @@ fn run(label: &[u8], code: &[u8], data: &[u8], limit: u16) {
     if 8192 < code.len() {
         return;
     }
-    let refusal = code_judging::judge_code_for(Profile::Full, code);
-    if refusal != 0 {
+    if let Err(refusal) = code_judging::judge_code_for(Profile::Full, code) {
         text(b" refused");
-        number(refusal as usize);
+        number(refusal.number() as usize);
         text(b"\n");
         return;
     }

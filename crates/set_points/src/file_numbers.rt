@@ -4,7 +4,7 @@ use super::printing::{number, text};
 fn judged(label: &[u8], file: &[u8]) {
     text(label);
     text(b":");
-    number(machine::check_file(file) as usize);
+    number(verdict::refusal_of(machine::check_file(file)) as usize);
     text(b"\n");
 }
 
