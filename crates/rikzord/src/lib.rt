@@ -210,14 +210,14 @@ pub fn rikzord_next_core(
 pub fn rikzord_check_file(file: &[u8]) -> u8
     ensures { result ≡ judge file.now }
 {
-    machine::check_file(file)
+    verdict::refusal_of(machine::check_file(file))
 }
 
 // The same under the small profile.
 pub fn rikzord_check_file_small(file: &[u8]) -> u8
     ensures { result ≡ judge_for Small file.now }
 {
-    machine::check_file_for(Profile::Small, file)
+    verdict::refusal_of(machine::check_file_for(Profile::Small, file))
 }
 
 // ---- the registers of one core
