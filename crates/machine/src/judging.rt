@@ -63,7 +63,7 @@ fn all_below(order: &[u8], n: usize) -> bool
     for core in order {
         most = most.max(*core);
     }
-    if order.len() == 0 {
+    if order.is_empty() {
         return true;
     }
     (most as usize) < n

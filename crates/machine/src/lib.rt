@@ -16,7 +16,6 @@ pub use fresh_state::{fresh, fresh_for, fresh_judged, idle_table};
 pub use judging::{Judgement, judge_call, load_lent};
 use runner::RunAnswer;
 use states::Held;
-use table::Moving;
 use verdict::Refusal;
 
 // Bytes of shared memory.
@@ -66,7 +65,7 @@ pub fn buffer_size(file: &[u8]) -> usize
 #[derive(Clone, Copy)]
 pub enum Next {
     Refused(u8),
-    Found(Moving),
+    Found(Option<u8>),
 }
 
 // The first core after a given one, round the ring and that one last, whose step would change something.
