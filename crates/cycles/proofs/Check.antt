@@ -20,7 +20,8 @@ use Rattle.protocol.proofs.Tests.{low_reads, low-lines, one_way, way-one, no-rin
 use Rattle.records.specs.File.{variables, variable_at}
 use Rattle.taskset.specs.Judge.{judge}
 use Rattle.taskset.specs.Task.{listed, variables_of}
-use Rattle.cycles.specs.Check.{numbered, lines_of, lines_refusal, lines_byte, Checked}
+use Rattle.verdict.specs.Refusals.{numbered}
+use Rattle.cycles.specs.Check.{lines_of, lines_refusal, lines_byte, Checked}
 use Rattle.cycles.specs.declared.Lines.{Lines}
 use Rattle.cycles.specs.declared.Lines.TheVariants.{Free, EachOther, Ringed}
 

@@ -3,8 +3,6 @@
 -- are free (specs/Serial).
 use Rattle.std.specs.Prelude.{ℕ, ◌≡◌, ◌≢◌, ◌↔◌, List, eqb, Result, Ok, Err}
 use Rattle.verdict.specs.Verdict.{pick}
-use Rattle.verdict.specs.Refusals.{number_of}
-use Rattle.verdict.specs.declared.Refusal.{Refusal}
 use Rattle.protocol.specs.Cycles.{reads_from, line_between, OneWay, NoRing, is_one_way, no_ring}
 use Rattle.taskset.specs.Judge.{judge}
 use Rattle.taskset.specs.Task.{variables_of}
@@ -19,11 +17,6 @@ lines_of f =
     pick (eqb (judge f) 0)
     (pick (is_one_way (reads_from (variables_of f))) (pick (no_ring (line_between (variables_of f))) (Ok Free) (Ok Ringed)) (Ok EachOther))
     (Err (judge f))
-
--- an answer of the code, with the number of its refusal
-abbrev pub numbered : Result Lines Refusal → Result Lines ℕ
-numbered (Ok l) = Ok l
-numbered (Err r) = Err (number_of r)
 
 -- ---- its numbers
 

@@ -4,13 +4,14 @@
 #![tactic(auto)]
 
 ghost use Rattle.std.specs.Prelude.{◌≡◌, not, ◌+◌, ◌≤◌, ◌<◌, length};
+ghost use Rattle.verdict.specs.Refusals.{numbered};
 ghost use Rattle.verdict.specs.Verdict.{both};
 ghost use Rattle.protocol.specs.Variables.{reads_it, writes_it};
 ghost use Rattle.protocol.specs.Cycles.{reads_from, line_between, is_one_way, no_ring};
 ghost use Rattle.records.specs.File.{variable_in};
 ghost use Rattle.taskset.specs.Judge.{judge};
 ghost use Rattle.taskset.specs.Task.{variables_of};
-ghost use Rattle.cycles.specs.Check.{numbered, lines_of, lines_byte};
+ghost use Rattle.cycles.specs.Check.{lines_of, lines_byte};
 ghost use Rattle.cycles.specs.Rings.{closed};
 
 use verdict::Refusal;

@@ -6,6 +6,7 @@ use mathlib.Core.List.{List, []}
 use Prim.Native.Nat.{ℕ, ◌≤◌, ◌<◌}
 use borrow.Author.Tests.{lt-ltb, le-ltb, eq-eqb, ne_eqb, ltb-true, eqb-true}
 use lib.Dec.{eqb}
+use Rattle.std.specs.Prelude.{Result, Ok, Err}
 use Rattle.verdict.specs.Verdict.{pick}
 use lib.ListN.{get_or}
 use Rattle.verdict.proofs.Verdict.{skip, stop, yes, no, pick_true, pick-false, next-none, next-zero, unless-zero}
@@ -22,8 +23,6 @@ use Rattle.std.proofs.Common.{Option}
 use Rattle.table.specs.Table.{next_moving}
 use Rattle.table.specs.Next.{NextCore}
 use Rattle.table.proofs.Next.{next-core}
-use Rattle.machine.specs.declared.Next.{Next}
-use Rattle.machine.specs.declared.Next.TheVariants.{Refused, Found}
 use Rattle.machine.specs.Calls.{next_refusal, next_call, cores_named, next_says, next_said}
 use Rattle.machine.proofs.Calls.{held_none}
 
@@ -55,26 +54,26 @@ module _ (f t : List ℕ) (h : Held) (given : ℕ) where
       (x.0, (held_none f t h y.0).0, ltb-true _ _ (unless-zero _ 19 y.1))
 
   -- the answer, and what it says
-  says : (x : Next) → x ≡ next_call f t h given → (x ≡ next_call f t h given) × (next_says x ≡ next_said f t h given)
+  says : (x : Result (Option ℕ) ℕ) → x ≡ next_call f t h given → (x ≡ next_call f t h given) × (next_says x ≡ next_said f t h given)
   unfolding next_call next_said pick
   says x e = (e, ap next_says e ∙ go (eqb (next_refusal f t h given) 0) refl)
     where
       go : (b : Bool) → eqb (next_refusal f t h given) 0 ≡ b
-          → next_says (pick b (Found (next_moving f t h given)) (Refused (next_refusal f t h given))) ≡ record { number = next_refusal f t h given; named = pick b (cores_named (next_moving f t h given)) [] }
+          → next_says (pick b (Ok (next_moving f t h given)) (Err (next_refusal f t h given))) ≡ record { number = next_refusal f t h given; named = pick b (cores_named (next_moving f t h given)) [] }
       go true e = ap (λ (n : ℕ). record { number = n; named = cores_named (next_moving f t h given) }) (sym (eqb-true _ _ e))
       go false e = refl
 
-  pub next-refused : (r : ℕ) → r ≡ next_refusal f t h given → r ≢ 0 → (Refused r ≡ next_call f t h given) × (next_says (Refused r) ≡ next_said f t h given)
+  pub next-refused : (r : ℕ) → r ≡ next_refusal f t h given → r ≢ 0 → (Err r ≡ next_call f t h given) × (next_says (Err r) ≡ next_said f t h given)
   unfolding next_call
-  next-refused r e n = says (Refused r) (ap Refused e ∙ sym (pick-false _ _ _ (ne_eqb _ _ (λ w. n (e ∙ w)))))
+  next-refused r e n = says (Err r) (ap Err e ∙ sym (pick-false _ _ _ (ne_eqb _ _ (λ w. n (e ∙ w)))))
 
-  pub next-granted : (m : Option ℕ) → next_refusal f t h given ≡ 0 → m ≡ next_moving f t h given → (Found m ≡ next_call f t h given) × (next_says (Found m) ≡ next_said f t h given)
+  pub next-granted : (m : Option ℕ) → next_refusal f t h given ≡ 0 → m ≡ next_moving f t h given → (Ok m ≡ next_call f t h given) × (next_says (Ok m) ≡ next_said f t h given)
   unfolding next_call
-  next-granted m e q = says (Found m) (ap Found q ∙ sym (pick_true _ _ _ (eq-eqb _ _ e)))
+  next-granted m e q = says (Ok m) (ap Ok q ∙ sym (pick_true _ _ _ (eq-eqb _ _ e)))
 
   -- what the answer of a call that is not refused means, with any lent memories of the right sizes
   pub next-means : ((i : ℕ) → get_or f i 0 < 256) → ((i : ℕ) → get_or t i 0 < 256) → next_refusal f t h given ≡ 0 → (d sh : List ℕ) → Sized f h d sh
-      → (next_call f t h given ≡ Found (next_moving f t h given)) × NextCore f t h (state_of f h d sh) given
+      → (next_call f t h given ≡ Ok (next_moving f t h given)) × NextCore f t h (state_of f h d sh) given
   unfolding next_refusal next_call
   next-means a b e d sh z =
       let x = next-zero _ _ e in

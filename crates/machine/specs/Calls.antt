@@ -1,6 +1,6 @@
 -- Each public call for every input: its refusal number, in the order file, 21, 22, 23, 20, or what it does. A refused call changes nothing.
 -- In order: refusals; the fresh state; a run; a step; the next core to move.
-use Rattle.std.specs.Prelude.{ℕ, Bool, true, List, [], ◌∷◌, length, replicate, ltb, leb, eqb, Option, Some, None}
+use Rattle.std.specs.Prelude.{ℕ, Bool, true, List, [], ◌∷◌, length, replicate, ltb, leb, eqb, Option, Some, None, Result, Ok, Err}
 use Rattle.verdict.specs.Numbers.{no_such_core, bad_lengths}
 use Rattle.verdict.specs.Verdict.{pick, both, next, unless}
 use Rattle.memory.specs.Memory.{total}
@@ -21,8 +21,6 @@ use Rattle.states.specs.Preparing.{held_refusal}
 use Rattle.runner.specs.declared.RunAnswer.{RunAnswer}
 use Rattle.runner.specs.Runs.{all_below, Left, left_as, ran_call}
 use Rattle.table.specs.Table.{next_moving}
-use Rattle.machine.specs.declared.Next.{Next}
-use Rattle.machine.specs.declared.Next.TheVariants.{Refused, Found}
 
 -- ---- refusals
 
@@ -115,11 +113,11 @@ step_call f t h d sh k =
 unfoldable pub next_refusal : List ℕ → List ℕ → Held → ℕ → ℕ
 next_refusal f t h given = next (judge f) (next (held_refusal f t h) (unless (ltb given (cores f)) no_such_core))
 
-unfoldable pub next_call : List ℕ → List ℕ → Held → ℕ → Next
+unfoldable pub next_call : List ℕ → List ℕ → Held → ℕ → Result (Option ℕ) ℕ
 next_call f t h given =
     pick (eqb (next_refusal f t h given) 0)
-    (Found (next_moving f t h given))
-    (Refused (next_refusal f t h given))
+    (Ok (next_moving f t h given))
+    (Err (next_refusal f t h given))
 
 -- what an answer says: document 01's refusal number, 0 for none, and the core that it names, if any
 pub record Says : Type 0 where
@@ -131,9 +129,9 @@ abbrev pub cores_named : Option ℕ → List ℕ
 cores_named (Some k) = k ∷ []
 cores_named None = []
 
-abbrev pub next_says : Next → Says
-next_says (Refused r) = record { number = r; named = [] }
-next_says (Found m) = record { number = 0; named = cores_named m }
+abbrev pub next_says : Result (Option ℕ) ℕ → Says
+next_says (Err r) = record { number = r; named = [] }
+next_says (Ok m) = record { number = 0; named = cores_named m }
 
 unfoldable pub next_said : List ℕ → List ℕ → Held → ℕ → Says
 next_said f t h given = record {

@@ -7,7 +7,7 @@ mod fresh_state;
 mod judging;
 
 ghost use Rattle.std.specs.Prelude.{◌≡◌, ◌≤◌};
-ghost use Rattle.verdict.specs.Refusals.{refusal_of};
+ghost use Rattle.verdict.specs.Refusals.{refusal_of, numbered};
 ghost use Rattle.taskset.specs.Judge.{judge_for, judge};
 ghost use Rattle.machine.specs.Calls.{buffer_size, set_refusal, answer_of, next_call, next_says, next_said};
 
@@ -61,30 +61,15 @@ pub fn buffer_size(file: &[u8]) -> usize
 
 // ---- the core table
 
-// The answer on the next core to move: the call's refusal with its number, or what the core table says.
-#[derive(Clone, Copy)]
-pub enum Next {
-    Refused(u8),
-    Found(Option<u8>),
-}
-
-// The first core after a given one, round the ring and that one last, whose step would change something.
-pub fn next_core(file: &[u8], trace: &[u8], s: Held, given: u8) -> Next
-    ensures { (result ≡ next_call file.now trace.now s given) × (next_says result ≡ next_said file.now trace.now s given) }
+// The first core after a given one, round the ring and that one last, whose step would change something; none, where every core is stopped or out of records.
+pub fn next_core(file: &[u8], trace: &[u8], s: Held, given: u8) -> Result<Option<u8>, Refusal>
+    ensures { (numbered result ≡ next_call file.now trace.now s given) × (next_says (numbered result) ≡ next_said file.now trace.now s given) }
 {
     let named = [given];
     let loaded = file_loading::load_file(file);
-    match judge_call(file, trace, loaded, s, &named) {
-        Ok(judged) => Next::Found(table::next_moving(
-            file,
-            trace,
-            judged.tasks,
-            judged.layout.cores,
-            s,
-            given,
-        )),
-        Err(refusal) => Next::Refused(refusal.number()),
-    }
+    let judged = judge_call(file, trace, loaded, s, &named)?;
+    let cores = judged.layout.cores;
+    Ok(table::next_moving(file, trace, judged.tasks, cores, s, given))
 }
 
 // ---- the answer

@@ -1,7 +1,6 @@
 // The calls that write or look for a core, each as one number.
 use super::lent_memory::{filled, kept, length_of};
 use super::state_words::{GIVEN, LEFT, USUAL, state_in_words};
-use machine::Next;
 use runner::RunAnswer;
 use states::Held;
 
@@ -69,12 +68,9 @@ pub fn step_says(setting: &[u8], line: &[u8], file: &[u8], trace: &[u8], core: u
 }
 
 pub fn next_says(file: &[u8], trace: &[u8], s: Held, given: u8) -> u8 {
-    let next = machine::next_core(file, trace, s, given);
-    match next {
-        Next::Refused(number) => number,
-        Next::Found(moving) => match moving {
-            Some(k) => CORE + k % 100,
-            None => NONE,
-        },
+    match machine::next_core(file, trace, s, given) {
+        Ok(Some(k)) => CORE + k % 100,
+        Ok(None) => NONE,
+        Err(refusal) => refusal.number(),
     }
 }

@@ -32,3 +32,8 @@ number_of OutsideWindow = outside_window
 abbrev pub refusal_of : {A : Type 0} → Result A Refusal → ℕ
 refusal_of (Ok a) = 0
 refusal_of (Err r) = number_of r
+
+-- an answer with the number of its refusal
+abbrev pub numbered : {A : Type 0} → Result A Refusal → Result A ℕ
+numbered (Ok a) = Ok a
+numbered (Err r) = Err (number_of r)
