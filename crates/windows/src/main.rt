@@ -19,7 +19,7 @@ fn case<'a>(
 ) {
     text(label);
     text(b": ");
-    let number = window::check_window(shown, core, start, count, file, buffer);
+    let number = verdict::refusal_of(window::check_window(shown, core, start, count, file, buffer));
     io::print_decimal(1, number as u64);
     text(b" [");
     text(window::window(shown, core, start, count, file, buffer));
