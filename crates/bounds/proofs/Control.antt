@@ -11,9 +11,8 @@ use lib.Dec.{eqb}
 use lib.ListN.{length, get_or, set}
 use lib.Seq.{get_or-set_other}
 use Rattle.verdict.proofs.Verdict.{by-pick}
-use Rattle.conversions.specs.declared.Conversion.{Conversion}
-use Rattle.conversions.specs.declared.Conversion.TheVariants.{Done, Beyond, NotHeld}
-use Rattle.conversions.specs.Data.{Ended, converting}
+use Rattle.conversions.specs.Conversions.{Result, stores, not-held}
+use Rattle.conversions.specs.Data.{Ended, settled, tried, converting}
 use Rattle.packed.specs.Data.{packing, unpacking}
 use Rattle.protocol.specs.declared.Registers.{Registers}
 use Rattle.protocol.specs.declared.Outcome.{Outcome}
@@ -23,7 +22,7 @@ use Rattle.code.specs.declared.Instruction.{Instruction}
 use Rattle.code.specs.declared.Instruction.TheVariants.{Return, Jump, JumpZero, JumpNotZero, CallInstance, CallFunction, MoveConstant, CopyMemory, ReadElement, WriteElement, Typed, CycleTime, FlagByte, Convert, Pack, Unpack, Unknown}
 use Rattle.code.specs.Commands.{Kind, Returns, Jumps, Branches, Calls, Passes}
 use Rattle.code.specs.Flow.{kind_at, after, target_at}
-use Rattle.processor.specs.Processor.{Decided, refused, decided, fault_if, at, ended_by, of_conversion, of_element, data_part, call_made, controlled, executed}
+use Rattle.processor.specs.Processor.{Decided, refused, decided, fault_if, at, of_conversion, of_element, data_part, call_made, controlled, executed}
 use Rattle.bounds.specs.Paths.{Goes, passes, jumps, stays, leaves, calls}
 
 -- ---- the faults of the data part: neither the limit nor the seventeenth call
@@ -50,20 +49,20 @@ fourth = (omega arith, omega arith, omega arith)
 sixth : Ordinary 6
 sixth = (omega arith, omega arith, omega arith)
 
-ended-fair : (r : Registers) (x : Conversion) (m : List ℕ) → Fair (ended_by r x m)
-ended-fair r Done m = tt
-ended-fair r Beyond m = fourth
-ended-fair r NotHeld m = sixth
+settled-fair : (r : Registers) (t to : ℕ) (d : List ℕ) (x : Result) → Fair (of_conversion r (settled t d to x))
+settled-fair r t to d (stores p) = tt
+settled-fair r t to d not-held = sixth
 
-conversion-fair : (r : Registers) (x : Ended) → Fair (of_conversion r x)
-conversion-fair r x = ended-fair r x.conversion x.memory
+conversion-fair : (r : Registers) (t u to source : ℕ) (d : List ℕ) (x : Result) → Fair (of_conversion r (tried t u d to source x))
+unfolding tried
+conversion-fair r t u to source d x = by-pick (λ (e : Ended). Fair (of_conversion r e)) _ _ _ (λ _. fourth) (λ _. settled-fair r t to d x)
 
 element-fair : (r : Registers) (d : List ℕ) (v a i size count : ℕ) (x : Decided) → Fair x → Fair (of_element r d v a i size count x)
 unfolding of_element
 element-fair r d v a i size count x f = fault _ 4 _ fourth (fault _ 0 _ zeroth (fault _ 4 x fourth f))
 
 fair : (i : Instruction) (c : List ℕ) (r : Registers) (d : List ℕ) → Fair (data_part i c r d)
-unfolding data_part
+unfolding data_part converting packing unpacking
 fair Return c r d = tt
 fair (Jump t) c r d = tt
 fair (JumpZero a t) c r d = fault _ 4 _ fourth tt
@@ -77,9 +76,9 @@ fair (WriteElement v a i size count) c r d = element-fair r d v a i size count _
 fair (Typed code t to a b) c r d = fault _ 4 _ fourth (fault _ 3 _ third tt)
 fair (CycleTime to) c r d = fault _ 4 _ fourth tt
 fair (FlagByte to) c r d = fault _ 4 _ fourth tt
-fair (Convert from to destination source) c r d = conversion-fair r (converting from to d (at r destination) (at r source))
-fair (Pack type destination source) c r d = conversion-fair r (packing type d (at r destination) (at r source))
-fair (Unpack type destination source) c r d = conversion-fair r (unpacking type d (at r destination) (at r source))
+fair (Convert from to destination source) c r d = conversion-fair r to from (at r destination) (at r source) d _
+fair (Pack type destination source) c r d = conversion-fair r type type (at r destination) (at r source) d _
+fair (Unpack type destination source) c r d = conversion-fair r type type (at r destination) (at r source) d _
 fair Unknown c r d = tt
 
 -- ---- control

@@ -12,14 +12,13 @@ use Rattle.memory.specs.Memory.{splice, part}
 use Rattle.memory.proofs.Laws.{length_part, splice-snoc}
 use Rattle.memory.proofs.Turns.{part-snoc}
 use Rattle.taskset.proofs.Exact.{keeps-rules}
-use Rattle.bounds.specs.declared.Taken.{Taken}
-use Rattle.bounds.specs.Bounds.{takes_of}
+use Rattle.bounds.specs.Bounds.{Takes, takes_of}
 use Rattle.bounds.specs.Outputs.{output_refusal, outputs, takes_lent}
 use Rattle.bounds.proofs.Answer.{file-accepted, answer-is}
 
 -- ---- the refusal
 
-module _ (x : Taken) (lengths counts depths : ℕ) where
+module _ (x : Takes) (lengths counts depths : ℕ) where
   pub own_first : (x.refusal ≡ 0 → ⊥) → x.refusal ≡ output_refusal x lengths counts depths
   unfolding output_refusal
   own_first n = stop _ refl n
@@ -67,7 +66,7 @@ all-stored m₀ m l i n e z = e ∙ ap (λ (k : ℕ). splice m₀ 0 (part l 0 k)
 -- ---- what the call leaves: x is the answer for the file f, r the refusal with these outputs
 
 -- the places that the answer needs are there
-pub record Room (x : Taken) (lengths counts depths : List ℕ) : Type 0 where
+pub record Room (x : Takes) (lengths counts depths : List ℕ) : Type 0 where
   pub for-lengths : 3 ≤ length lengths
   pub for-counts : x.table ≤ length counts
   pub for-depths : x.table ≤ length depths
@@ -77,7 +76,7 @@ pub record Room (x : Taken) (lengths counts depths : List ℕ) : Type 0 where
 columns-long : (f : List ℕ) → (takes_of f).refusal ≡ 0 → ((takes_of f).table ≤ length (takes_of f).count) × ((takes_of f).table ≤ length (takes_of f).depth)
 columns-long f z = let n = (keeps-rules f (file-accepted f z)).most-cores in rw (answer-is f z) (n, n)
 
-module _ (f lengths counts depths : List ℕ) (x : Taken) (r : ℕ) (e : x ≡ takes_of f) (o : r ≡ output_refusal x (length lengths) (length counts) (length depths)) where
+module _ (f lengths counts depths : List ℕ) (x : Takes) (r : ℕ) (e : x ≡ takes_of f) (o : r ≡ output_refusal x (length lengths) (length counts) (length depths)) where
   pub output-refused : (r ≡ 0 → ⊥) → outputs r lengths counts depths ≡ takes_lent f lengths counts depths
   unfolding takes_lent
   output-refused n = rw (sym e, sym o) (sym (pick-false _ _ _ (ne_eqb r 0 n)))

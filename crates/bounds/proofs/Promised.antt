@@ -17,9 +17,8 @@ use Rattle.states.specs.Task.{task_of}
 use Rattle.machine.specs.Calls.{fresh_refusal, fresh_call}
 use Rattle.calls.specs.Calling.{Call, steps_of}
 use Rattle.calls.proofs.Calling.{calls-interleaved}
-use Rattle.bounds.specs.declared.Taken.{Taken}
 use Rattle.bounds.specs.Paths.{Greatest}
-use Rattle.bounds.specs.Bounds.{longest, deepest, all_rise, bounds_refusal, cores_refusal, takes_refusal, longest_of, deepest_of, takes_of}
+use Rattle.bounds.specs.Bounds.{Takes, longest, deepest, all_rise, bounds_refusal, cores_refusal, takes_refusal, longest_of, deepest_of, takes_of}
 use Rattle.bounds.specs.Promised.{count_in, depth_in, Spared, Promised, CallsPromised}
 use Rattle.bounds.proofs.Rising.{Rising, rising}
 use Rattle.bounds.proofs.Greatest.{greatest}
@@ -44,11 +43,11 @@ module _ (f : List ℕ) (z : (takes_of f).refusal ≡ 0) where
 
     pub count-is : count_in f k ≡ longest (code_of f k)
     unfolding longest_of
-    count-is = ap (λ (x : Taken). get_or x.count k 0) (answer-is f z) ∙ four (longest_of f) k 0 few ∙ pick_true _ _ _ (lt-ltb _ _ h)
+    count-is = ap (λ (x : Takes). get_or x.count k 0) (answer-is f z) ∙ four (longest_of f) k 0 few ∙ pick_true _ _ _ (lt-ltb _ _ h)
 
     pub depth_is : depth_in f k ≡ deepest (code_of f k)
     unfolding deepest_of
-    depth_is = ap (λ (x : Taken). get_or x.depth k 0) (answer-is f z) ∙ four (deepest_of f) k 0 few ∙ pick_true _ _ _ (lt-ltb _ _ h)
+    depth_is = ap (λ (x : Takes). get_or x.depth k 0) (answer-is f z) ∙ four (deepest_of f) k 0 few ∙ pick_true _ _ _ (lt-ltb _ _ h)
 
     numbers : Greatest (code_of f k) (count_in f k) (depth_in f k)
     numbers = rw (count-is, depth_is) (greatest (code_of f k) rises)

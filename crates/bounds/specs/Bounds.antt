@@ -1,8 +1,10 @@
 -- Document 02, 2.7: what a task will take, from the file alone. In order: the two numbers; the refusals 25 and 26; the answer; what is found of one core's
 -- code. Not here: what the numbers say of a core's paths (specs/Paths) and of its runs (specs/Promised); lent outputs and their 21 (specs/Outputs).
-use Rattle.std.specs.Prelude.{ℕ, zero, suc, ◌+◌, ◌-◌, min, max, ◌≡◌, Bool, true, List, [], ◌∷◌, ltb, leb, eqb, length}
+use Rattle.std.specs.Prelude.{ℕ, zero, suc, ◌+◌, ◌-◌, min, max, ◌≡◌, Bool, true, false, List, [], ◌∷◌, ltb, leb, eqb, length, Option, Some, None, Result, Ok, Err}
 use Rattle.verdict.specs.Numbers.{not_above, over_count}
 use Rattle.verdict.specs.Verdict.{pick, next, unless, first}
+use Rattle.verdict.specs.Refusals.{number_of}
+use Rattle.verdict.specs.declared.Refusal.{Refusal}
 use Rattle.code.specs.Commands.{Kind, Returns, Jumps, Branches, Calls, Passes}
 use Rattle.code.specs.Flow.{kind_at, goes_to, after, target_at}
 use Rattle.code.specs.Code.{all_from}
@@ -10,6 +12,7 @@ use Rattle.records.specs.File.{cores}
 use Rattle.taskset.specs.Judge.{code_of, judge}
 use Rattle.machine.specs.Calls.{buffer_size}
 use Rattle.bounds.specs.declared.Taken.{Taken}
+use Rattle.bounds.specs.declared.Numbers.{Numbers}
 
 -- ---- the two numbers, from an instruction to the RETURN of its level. `next` is the number at the place after it, `there` the one at its T
 
@@ -68,12 +71,21 @@ longest_of f k = pick (ltb k (cores f)) (longest (code_of f k)) 0
 unfoldable pub deepest_of : List ℕ → ℕ → ℕ
 deepest_of f k = pick (ltb k (cores f)) (deepest (code_of f k)) 0
 
+-- the refusal number, 0 for none, and what the task takes; all 0 where the file is refused
+pub record Takes : Type 0 where
+  pub refusal : ℕ
+  pub buffer : ℕ
+  pub shared : ℕ
+  pub table : ℕ
+  pub count : List ℕ
+  pub depth : List ℕ
+
 -- "Turned away, lengths included"
-abbrev pub no_takes : ℕ → Taken
+abbrev pub no_takes : ℕ → Takes
 no_takes r = record { refusal = r; buffer = 0; shared = 0; table = 0; count = 0 ∷ 0 ∷ 0 ∷ 0 ∷ []; depth = 0 ∷ 0 ∷ 0 ∷ 0 ∷ [] }
 
 -- "the lengths of the data buffer, shared memory and core table, and .. the greatest instruction count and call depth of each core"
-abbrev pub takes_in : List ℕ → Taken
+abbrev pub takes_in : List ℕ → Takes
 takes_in f = record {
   refusal = 0;
   buffer = buffer_size f;
@@ -83,8 +95,13 @@ takes_in f = record {
   depth = deepest_of f 0 ∷ deepest_of f 1 ∷ deepest_of f 2 ∷ deepest_of f 3 ∷ [];
 }
 
-unfoldable pub takes_of : List ℕ → Taken
+unfoldable pub takes_of : List ℕ → Takes
 takes_of f = pick (eqb (takes_refusal f) 0) (takes_in f) (no_takes (takes_refusal f))
+
+-- an answer of the code: what the task takes, or the refusal
+abbrev pub takes_as : Result Taken Refusal → Takes
+takes_as (Ok t) = record { refusal = 0; buffer = t.buffer; shared = t.shared; table = t.table; count = t.count; depth = t.depth }
+takes_as (Err r) = no_takes (number_of r)
 
 -- ---- what is found of one core's code
 
@@ -99,3 +116,12 @@ pub record Found (c : List ℕ) (refusal count depth : ℕ) : Type 0 where
   pub right : refusal ≡ bounds_refusal c
   pub longest-found : refusal ≡ 0 → count ≡ longest c
   pub deepest-found : refusal ≡ 0 → depth ≡ deepest c
+
+-- as the code answers: the numbers, or none where a target does not rise; the numbers, or the refusal
+abbrev pub MeasuredAs : List ℕ → Option Numbers → Type 0
+MeasuredAs c (Some n) = Measured c true n.count n.depth
+MeasuredAs c None = Measured c false 0 0
+
+abbrev pub FoundAs : List ℕ → Result Numbers Refusal → Type 0
+FoundAs c (Ok n) = Found c 0 n.count n.depth
+FoundAs c (Err r) = Found c (number_of r) 0 0

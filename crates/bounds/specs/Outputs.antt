@@ -5,12 +5,11 @@ use Rattle.std.specs.Prelude.{ℕ, List, [], ◌∷◌, leb, eqb, length}
 use Rattle.verdict.specs.Numbers.{bad_lengths}
 use Rattle.verdict.specs.Verdict.{pick, both, next, unless}
 use Rattle.memory.specs.Memory.{splice, part}
-use Rattle.bounds.specs.declared.Taken.{Taken}
-use Rattle.bounds.specs.Bounds.{takes_of}
+use Rattle.bounds.specs.Bounds.{Takes, takes_of}
 
 -- ---- the refusal, with so many places lent for lengths, counts and depths
 
-unfoldable pub output_refusal : Taken → ℕ → ℕ → ℕ → ℕ
+unfoldable pub output_refusal : Takes → ℕ → ℕ → ℕ → ℕ
 output_refusal x lengths counts depths = next x.refusal (unless (both (leb 3 lengths) (both (leb x.table counts) (leb x.table depths))) bad_lengths)
 
 -- ---- what the call leaves
@@ -25,12 +24,12 @@ abbrev pub outputs : ℕ → List ℕ → List ℕ → List ℕ → Outputs
 outputs r lengths counts depths = record { refusal = r; lengths = lengths; counts = counts; depths = depths }
 
 -- the answer x stands at the front of each output, a count and a depth for each core; places past those stay
-abbrev pub answered_in : Taken → List ℕ → List ℕ → List ℕ → Outputs
+abbrev pub answered_in : Takes → List ℕ → List ℕ → List ℕ → Outputs
 answered_in x lengths counts depths =
     outputs 0 (splice lengths 0 (x.buffer ∷ x.shared ∷ x.table ∷ [])) (splice counts 0 (part x.count 0 x.table)) (splice depths 0 (part x.depth 0 x.table))
 
 -- with the refusal r: a refused call changes no place
-abbrev pub output_by : ℕ → Taken → List ℕ → List ℕ → List ℕ → Outputs
+abbrev pub output_by : ℕ → Takes → List ℕ → List ℕ → List ℕ → Outputs
 output_by r x lengths counts depths = pick (eqb r 0) (answered_in x lengths counts depths) (outputs r lengths counts depths)
 
 unfoldable pub takes_lent : List ℕ → List ℕ → List ℕ → List ℕ → Outputs

@@ -1,7 +1,7 @@
 // Document 02, 2.7: what a task will take, before loading it. One pass over each core's code, from its last instruction back.
 #![tactic(auto)]
 
-ghost use Rattle.std.specs.Prelude.{◌≡◌, true, [], ◌∷◌, ◌+◌, ◌<◌, ◌≤◌, min, max, length};
+ghost use Rattle.std.specs.Prelude.{◌≡◌, true, [], ◌∷◌, ◌+◌, ◌<◌, ◌≤◌, min, length};
 ghost use Rattle.memory.specs.Memory.{byte, splice, part};
 ghost use Rattle.code.specs.Commands.{length_of};
 ghost use Rattle.code.specs.Flow.{kind_at, target_at};
@@ -9,16 +9,17 @@ ghost use Rattle.code.specs.Code.{judge_code};
 ghost use Rattle.records.specs.File.{cores};
 ghost use Rattle.taskset.specs.Judge.{code_of, judge};
 ghost use Rattle.taskset.specs.Layout.{layout_of};
-ghost use Rattle.bounds.specs.Bounds.{count_by, depth_by, rises, no_takes, takes_of, Measured as MeasuredOf, Found};
-ghost use Rattle.bounds.specs.Outputs.{output_refusal, outputs, takes_lent};
+ghost use Rattle.bounds.specs.Bounds.{count_by, depth_by, rises, takes_of, takes_as, MeasuredAs, FoundAs};
+ghost use Rattle.verdict.specs.Refusals.{refusal_of};
+ghost use Rattle.bounds.specs.Outputs.{outputs, takes_lent};
 
 use machine::SHARED;
 use taskset::Layout;
+use verdict::Refusal;
 
-// The lengths of the data buffer, shared memory and core table, and each core's greatest count and depth; all 0 where the file is refused.
+// The lengths of the data buffer, shared memory and core table, and each core's greatest count and depth.
 #[derive(Clone, Copy)]
 pub struct Taken {
-    pub refusal: u8,
     pub buffer: usize,
     pub shared: usize,
     pub table: usize,
@@ -26,68 +27,39 @@ pub struct Taken {
     pub depth: [u32; 4],
 }
 
-fn larger(a: u32, b: u32) -> u32
-    ensures { result ≡ max a b }
-{
-    if a < b {
-        return b;
-    }
-    a
-}
-
 // Sums are kept at 65,536, one more than the greatest count that is accepted.
-fn capped(n: u32) -> u32
-    ensures { result ≡ min n 65536 }
-{
-    if 65536 < n {
-        return 65536;
-    }
-    n
-}
+const CAP: u32 = 65536;
 
 // The count at the instruction at p, from the one after it and the one at its T.
 fn count_at(code: &[u8], p: usize, next: u32, there: u32) -> u32
     requires { p < length code.now }
     ensures { result ≡ min (count_by (kind_at code.now p) next there) 65536 }
 {
-    let a = capped(next);
-    let t = capped(there);
-    let b = code[p];
-    if b == 0 {
-        return 1;
+    let a = next.min(CAP);
+    let t = there.min(CAP);
+    match code[p] {
+        0 => 1,
+        1 => (t + 1).min(CAP),
+        2..=3 => (a.max(t) + 1).min(CAP),
+        4..=5 => (t + a + 1).min(CAP),
+        _ => (a + 1).min(CAP),
     }
-    if b == 1 {
-        return capped(t + 1);
-    }
-    if b <= 3 {
-        return capped(larger(a, t) + 1);
-    }
-    if b <= 5 {
-        return capped(t + a + 1);
-    }
-    capped(a + 1)
 }
 
+// The depth at it. Count and depth differ in every kind of instruction, as their definitions do.
 fn depth_at(code: &[u8], p: usize, next: u32, there: u32) -> u32
     requires { p < length code.now }
     ensures { result ≡ min (depth_by (kind_at code.now p) next there) 65536 }
 {
-    let a = capped(next);
-    let t = capped(there);
-    let b = code[p];
-    if b == 0 {
-        return 0;
+    let a = next.min(CAP);
+    let t = there.min(CAP);
+    match code[p] {
+        0 => 0,
+        1 => t,
+        2..=3 => a.max(t),
+        4..=5 => a.max(t + 1).min(CAP),
+        _ => a,
     }
-    if b == 1 {
-        return t;
-    }
-    if b <= 3 {
-        return larger(a, t);
-    }
-    if b <= 5 {
-        return capped(larger(a, t + 1));
-    }
-    a
 }
 
 // The T of the instruction at p; 0 where it has none.
@@ -95,8 +67,7 @@ fn target_at(code: &[u8], p: usize) -> usize
     requires { (p < length code.now) × (p + length_of (byte code.now p) ≤ length code.now) }
     ensures { result ≡ target_at code.now p }
 {
-    let b = code[p];
-    match b {
+    match code[p] {
         1 => code::word(code, p + 1) as usize,
         2 => code::word(code, p + 3) as usize,
         3 => code::word(code, p + 3) as usize,
@@ -112,13 +83,7 @@ fn rises_at(code: &[u8], p: usize) -> bool
     ensures { result ≡ rises code.now p }
 {
     let b = code[p];
-    if b == 0 {
-        return true;
-    }
-    if 5 < b {
-        return true;
-    }
-    p < target_at(code, p)
+    b == 0 || (5 < b || p < target_at(code, p))
 }
 
 fn zeros() -> [u32; 8192]
@@ -127,33 +92,27 @@ fn zeros() -> [u32; 8192]
     [0u32; 8192]
 }
 
+// The greatest count and depth of one core.
 #[derive(Clone, Copy)]
-pub struct Measured {
-    pub rise: bool,
+struct Numbers {
     pub count: u32,
     pub depth: u32,
 }
 
-// One pass, from the last instruction back.
-fn measure(code: &[u8]) -> Measured
+// One pass, from the last instruction back: the numbers, each kept at 65,536, or none where a target is not above its instruction.
+fn measure(code: &[u8]) -> Option<Numbers>
     requires { (0 < length code.now) × (length code.now ≤ 8192) × (judge_code code.now ≡ 0) }
-    ensures { MeasuredOf code.now result.rise result.count result.depth }
+    ensures { MeasuredAs code.now result }
 {
     let starts = code_judging::starts(code);
     let mut counts = zeros();
     let mut depths = zeros();
     let mut count: u32 = 0;
     let mut depth: u32 = 0;
-    let mut p = code.len();
-    while 0 < p {
-        p = p - 1;
+    for p in (0..code.len()).rev() {
         if starts[p] == 1 {
             if !rises_at(code, p) {
-                return Measured {
-                    rise: false,
-                    count: 0,
-                    depth: 0,
-                };
+                return None;
             }
             let t = target_at(code, p);
             count = count_at(code, p, count, counts[t]);
@@ -162,54 +121,28 @@ fn measure(code: &[u8]) -> Measured
             depths[p] = depth;
         }
     }
-    Measured {
-        rise: true,
-        count,
-        depth,
-    }
-}
-
-#[derive(Clone, Copy)]
-pub struct Bounds {
-    pub refusal: u8,
-    pub count: u32,
-    pub depth: u32,
+    Some(Numbers { count, depth })
 }
 
 // The greatest count that an instruction counter holds.
 const MOST_COUNT: u32 = 65535;
 
-// The refusal of accepted code, or 0 and its numbers.
-fn bounds_in(code: &[u8]) -> Bounds
+// The numbers of accepted code, or its refusal.
+fn bounds_in(code: &[u8]) -> Result<Numbers, Refusal>
     requires { (0 < length code.now) × (length code.now ≤ 8192) × (judge_code code.now ≡ 0) }
-    ensures { Found code.now result.refusal result.count result.depth }
+    ensures { FoundAs code.now result }
 {
-    let m = measure(code);
-    if !m.rise {
-        return Bounds {
-            refusal: verdict::NOT_ABOVE,
-            count: 0,
-            depth: 0,
-        };
-    }
-    if MOST_COUNT < m.count {
-        return Bounds {
-            refusal: verdict::OVER_COUNT,
-            count: 0,
-            depth: 0,
-        };
-    }
-    Bounds {
-        refusal: 0,
-        count: m.count,
-        depth: m.depth,
+    match measure(code) {
+        None => Err(Refusal::NotAbove),
+        Some(numbers) if MOST_COUNT < numbers.count => Err(Refusal::OverCount),
+        Some(numbers) => Ok(numbers),
     }
 }
 
 // The same of core k's code.
-fn core_bounds(file: &[u8], layout: Layout, k: usize) -> Bounds
+fn core_bounds(file: &[u8], layout: Layout, k: usize) -> Result<Numbers, Refusal>
     requires { (judge file.now ≡ 0) × (layout ≡ layout_of file.now) × (k < cores file.now) }
-    ensures { Found (code_of file.now k) result.refusal result.count result.depth }
+    ensures { FoundAs (code_of file.now k) result }
 {
     let core = layout.core[k];
     let a = core.code;
@@ -217,79 +150,37 @@ fn core_bounds(file: &[u8], layout: Layout, k: usize) -> Bounds
     bounds_in(&file[a..e])
 }
 
-fn none(refusal: u8) -> Taken
-    ensures { result ≡ no_takes refusal }
-{
-    Taken {
-        refusal,
-        buffer: 0,
-        shared: 0,
-        table: 0,
-        count: [0, 0, 0, 0],
-        depth: [0, 0, 0, 0],
-    }
-}
-
 // What an accepted file takes.
-fn takes_in(file: &[u8], layout: Layout) -> Taken
+fn takes_in(file: &[u8], layout: Layout) -> Result<Taken, Refusal>
     requires { (judge file.now ≡ 0) × (layout ≡ layout_of file.now) }
-    ensures { result ≡ takes_of file.now }
+    ensures { takes_as result ≡ takes_of file.now }
 {
     let n = layout.cores;
     let mut count = [0u32; 4];
     let mut depth = [0u32; 4];
-    let mut k = 0;
-    while k < n {
-        let b = core_bounds(file, layout, k);
-        if b.refusal != 0 {
-            return none(b.refusal);
-        }
-        count[k] = b.count;
-        depth[k] = b.depth;
-        k = k + 1;
+    for k in 0..n {
+        let numbers = core_bounds(file, layout, k)?;
+        count[k] = numbers.count;
+        depth[k] = numbers.depth;
     }
-    let buffer = file_loading::sum_of_sizes(file, layout);
-    Taken {
-        refusal: 0,
-        buffer,
+    Ok(Taken {
+        buffer: file_loading::sum_of_sizes(file, layout),
         shared: SHARED,
         table: n,
         count,
         depth,
-    }
+    })
 }
 
 // What a task will take, from the file alone: the file's own refusals, then for each core in turn 25 before 26.
-pub fn takes(file: &[u8]) -> Taken
-    ensures { result ≡ takes_of file.now }
+pub fn takes(file: &[u8]) -> Result<Taken, Refusal>
+    ensures { takes_as result ≡ takes_of file.now }
 {
-    let loaded = file_loading::load_file(file);
-    if loaded.refusal != 0 {
-        return none(loaded.refusal);
-    }
-    takes_in(file, loaded.layout)
+    let layout = file_loading::load_file(file)?;
+    takes_in(file, layout)
 }
 
 // ---- the answer in lent places
-
-// The refusal of an answer that goes to so many places: its own, then 21.
-fn output_refusal(answer: Taken, lengths: usize, counts: usize, depths: usize) -> u8
-    ensures { result ≡ output_refusal answer lengths counts depths }
-{
-    if answer.refusal != 0 {
-        return answer.refusal;
-    }
-    if lengths < 3 {
-        return verdict::BAD_LENGTHS;
-    }
-    if counts < answer.table {
-        return verdict::BAD_LENGTHS;
-    }
-    if depths < answer.table {
-        return verdict::BAD_LENGTHS;
-    }
-    0
-}
 
 fn put_lengths(lengths: &mut [usize], buffer: usize, shared: usize, table: usize)
     requires { 3 ≤ length lengths.old }
@@ -305,27 +196,27 @@ fn put_column(places: &mut [u32], column: [u32; 4], n: usize)
     requires { (n ≤ length places.old) × (n ≤ length column) }
     ensures { places.new ≡ splice places.old 0 (part column 0 n) }
 {
-    let mut i = 0;
-    while i < n {
+    for i in 0..n {
         places[i] = column[i];
-        i += 1;
     }
 }
 
 // What a task will take, in lent places: the lengths of data buffer, shared memory and core table, then a count and a depth for each core. Places
 // past those stay; a refused call changes none.
-pub fn takes_to(file: &[u8], lengths: &mut [usize], counts: &mut [u32], depths: &mut [u32]) -> u8
-    ensures { outputs result lengths.new counts.new depths.new ≡ takes_lent file.now lengths.old counts.old depths.old }
+pub fn takes_to(
+    file: &[u8],
+    lengths: &mut [usize],
+    counts: &mut [u32],
+    depths: &mut [u32],
+) -> Result<(), Refusal>
+    ensures { outputs (refusal_of result) lengths.new counts.new depths.new ≡ takes_lent file.now lengths.old counts.old depths.old }
 {
-    let answer = takes(file);
-    let refusal = output_refusal(answer, lengths.len(), counts.len(), depths.len());
-    if refusal != 0 {
-        return refusal;
+    let taken = takes(file)?;
+    if lengths.len() < 3 || counts.len() < taken.table || depths.len() < taken.table {
+        return Err(Refusal::BadLengths);
     }
-    let count = answer.count;
-    let depth = answer.depth;
-    put_lengths(lengths, answer.buffer, answer.shared, answer.table);
-    put_column(counts, count, answer.table);
-    put_column(depths, depth, answer.table);
-    0
+    put_lengths(lengths, taken.buffer, taken.shared, taken.table);
+    put_column(counts, taken.count, taken.table);
+    put_column(depths, taken.depth, taken.table);
+    Ok(())
 }

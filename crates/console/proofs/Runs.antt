@@ -33,7 +33,8 @@ use Rattle.machine.specs.Judging.{first_run}
 use Rattle.machine.proofs.Calls.{start_fits}
 use Rattle.listing.specs.Listing.{listing, refused_text, long_text}
 use Rattle.calls.proofs.Calling.{fresh-state}
-use Rattle.listing.specs.declared.Written.{Written}
+use Rattle.std.specs.Prelude.{Result}
+use Rattle.verdict.specs.declared.Refusal.{Refusal}
 use Rattle.listing.specs.Writers.{text_left, text_call}
 use Rattle.console.specs.Console.{too_long, refusal_of, state_after, takings_of, run_text, cores_text}
 use Rattle.console.proofs.Fresh.{fresh-not-refused}
@@ -137,7 +138,7 @@ module _ (f t order list : List ℕ) (accepted : judge f ≡ 0) (bytes : (i : �
 -- ---- what a writer of the listing ensures, of another name of its text
 
 -- a writer of the text a has written the text b, where these are the same
-pub written : (out : List ℕ) {after : List ℕ} {r : Written} {a b : List ℕ} → a ≡ b → text_left r after ≡ text_call a out → text_left r after ≡ text_call b out
+pub written : (out : List ℕ) {after : List ℕ} {r : Result ℕ Refusal} {a b : List ℕ} → a ≡ b → text_left r after ≡ text_call a out → text_left r after ≡ text_call b out
 written out e w = w ∙ ap (λ (text : List ℕ). text_call text out) e
 
 -- ---- a longer file

@@ -6,8 +6,8 @@ ghost use Rattle.listing.specs.Writers.{text_left, text_call};
 ghost use Rattle.machine.specs.Judging.{LentTo};
 ghost use Rattle.console.specs.Console.{too_long, run_text, cores_text};
 
-use listing::Written;
 use taskset::Layout;
+use verdict::Refusal;
 
 // The most bytes of a task set, of a trace and of an order. Who reads files for `output` reads one byte more, so that a longer one is seen.
 pub const MOST_FILE: usize = 82800;
@@ -23,13 +23,7 @@ pub const TEXT: usize = 16384;
 fn too_long(file: usize, trace: usize, order: usize) -> bool
     ensures { result ≡ too_long file trace order }
 {
-    if MOST_FILE < file {
-        return true;
-    }
-    if MOST_TRACE < trace {
-        return true;
-    }
-    MOST_ORDER < order
+    MOST_FILE < file || (MOST_TRACE < trace || MOST_ORDER < order)
 }
 
 // ---- the run
@@ -44,7 +38,7 @@ fn write_run(
     shared: &mut [u8],
     list: &mut [u8],
     out: &mut [u8],
-) -> Written
+) -> Result<usize, Refusal>
     requires { LentTo file.now layout buffer.old shared.old × (length order.now ≤ length list.old) }
     ensures { text_left result out.new ≡ text_call (run_text file.now trace.now order.now) out.old }
 {
@@ -60,17 +54,16 @@ fn write_run(
 
 // The text goes to the front of `out`, and the answer is its length; where `out` can't hold it, the answer is 21 and `out` stays as it was.
 // TEXT bytes hold any text. The file is judged once.
-pub fn output(file: &[u8], trace: &[u8], order: &[u8], out: &mut [u8]) -> Written
+pub fn output(file: &[u8], trace: &[u8], order: &[u8], out: &mut [u8]) -> Result<usize, Refusal>
     ensures { text_left result out.new ≡ text_call (cores_text file.now trace.now order.now) out.old }
 {
     if too_long(file.len(), trace.len(), order.len()) {
         return listing::write_long(out);
     }
-    let loaded = file_loading::load_file(file);
-    if loaded.refusal != 0 {
-        return listing::write_refused(loaded.refusal, out);
-    }
-    let layout = loaded.layout;
+    let layout = match file_loading::load_file(file) {
+        Ok(layout) => layout,
+        Err(refusal) => return listing::write_refused(refusal.number(), out),
+    };
     let size = file_loading::sum_of_sizes(file, layout);
     let mut buffer = [0u8; 16384];
     let mut shared = [0u8; 1024];

@@ -13,7 +13,7 @@ use Rattle.values.specs.declared.Value.{Value}
 use Rattle.values.specs.declared.Value.TheVariants.{Signed, Unsigned, Real, Lreal}
 use Rattle.values.proofs.Types.{each-type}
 use Rattle.values.proofs.Widths.{two-halves, signed_low, signed_high}
-use Rattle.conversions.specs.declared.Converted.TheVariants.{Gives, NotHeld}
+use Rattle.std.specs.Prelude.{Some, None}
 use Rattle.conversions.specs.Conversions.{stores, held_in, with_sign, nearest_whole, to_whole, to_type, converted, result_as}
 use Rattle.conversions.specs.Kept.{Whole, number_at}
 use Rattle.conversions.specs.Rounding.{Nearest}
@@ -79,7 +79,7 @@ module _ (t w : ℕ) (wide : width_of t ≡ w) (W : 0 < w) where
   unfolding held_in stored pattern_of pick
   signed-kept z q = go (ltb (mag z) (2 ^ (8 * w - 1))) (ltb→lt (mag z) (2 ^ (8 * w - 1)))
     where
-      go : (c : Bool) → (T c → mag z < 2 ^ (8 * w - 1)) → result_as t (pick c (Gives (Signed z)) NotHeld) ≡ stores q → signed (8 * w) q ≡ z
+      go : (c : Bool) → (T c → mag z < 2 ^ (8 * w - 1)) → result_as t (pick c (Some (Signed z)) None) ≡ stores q → signed (8 * w) q ≡ z
       go true h e =
           ap (signed (8 * w)) (sym (ap pattern_in e) ∙ ap (λ (x : ℕ). pattern (8 * x) z) wide)
           ∙ read_back (8 * w) (2 ^ (8 * w - 1)) refl (two-halves w W) (pow_pos (8 * w - 1)) z (h tt)
@@ -89,7 +89,7 @@ module _ (t w : ℕ) (wide : width_of t ≡ w) (W : 0 < w) where
   unfolding held_in stored pattern_of pick
   unsigned-kept (pos n) q = go (ltb n (2 ^ (8 * w))) (ltb→lt n (2 ^ (8 * w)))
     where
-      go : (c : Bool) → (T c → n < 2 ^ (8 * w)) → result_as t (pick c (Gives (Unsigned n)) NotHeld) ≡ stores q → pos q ≡ pos n
+      go : (c : Bool) → (T c → n < 2 ^ (8 * w)) → result_as t (pick c (Some (Unsigned n)) None) ≡ stores q → pos q ≡ pos n
       go true h e = ap pos (sym (ap pattern_in e) ∙ ap (λ (x : ℕ). n % 2 ^ (8 * x)) wide ∙ mod-eq_of_lt (h tt))
       go false h e = absurd-bool (ap is_stored e)
   unsigned-kept (negsuc n) q = λ e. absurd-bool (ap is_stored e)

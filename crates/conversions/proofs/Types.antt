@@ -2,15 +2,14 @@
 -- stores. Assumes nothing.
 use Rattle.std.proofs.Common.{◌≡◌, ℕ, zero, suc, Bool, true, false, sym, refl, ap, ◌∙◌}
 use Rattle.values.specs.declared.Value.{Value}
-use Rattle.conversions.specs.declared.Converted.{Converted}
-use Rattle.conversions.specs.declared.Converted.TheVariants.{NotHeld}
+use Rattle.std.specs.Prelude.{Option, None}
 use Rattle.conversions.specs.Conversions.{to_type, Result, stores, not-held}
 
-pub at-type : (k : ℕ) {t : ℕ} (v : Value) {r : Converted} → t ≡ k → r ≡ to_type k v → r ≡ to_type t v
+pub at-type : (k : ℕ) {t : ℕ} (v : Value) {r : Option Value} → t ≡ k → r ≡ to_type k v → r ≡ to_type t v
 at-type k v e h = h ∙ ap (λ (n : ℕ). to_type n v) (sym e)
 
 pub no-type : (t : ℕ) (v : Value) → (t ≡ 1 → ⊥) → (t ≡ 2 → ⊥) → (t ≡ 3 → ⊥) → (t ≡ 4 → ⊥) → (t ≡ 5 → ⊥) → (t ≡ 6 → ⊥) → (t ≡ 7 → ⊥) → (t ≡ 8 → ⊥) → (t ≡ 9 → ⊥)
-    → (t ≡ 10 → ⊥) → NotHeld ≡ to_type t v
+    → (t ≡ 10 → ⊥) → None ≡ to_type t v
 unfolding to_type
 no-type zero v a b c d e f g h i j = refl
 no-type (suc zero) v a b c d e f g h i j = absurd (a refl)

@@ -1,9 +1,9 @@
 -- Floats and whole numbers: what a pattern's digits and shift are worth, and which whole numbers w bytes hold. Assumes nothing.
 use Rattle.verdict.specs.Verdict.{pick}
-use Rattle.std.proofs.Common.{◌≡◌, ℕ, zero, suc, ◌+◌, ◌-◌, ◌*◌, ◌/◌, ◌%◌, ◌^◌, ◌<◌, ◌≤◌, Bool, true, false, cond, not, T, eqb, leb, ◌⊎◌, ℤ, pos, negsuc, nat_abs, sym, refl, ap, ◌∙◌, subst, ⊎_elim, le_trans, le_of_eq, lt_of_lt_of_le, le_of_suc-le-suc, add-zero, lt_irrefl, mul-le-mul_right, mod-lt, zero-lt-suc, mul_comm, div-lt_iff_lt-mul, add_comm, eq-or-lt_of_le, mul-le-mul_left, mul-pos, le-div_iff_mul-le, mul-one, le-add_left, arith, eqb→eq, pow_pos, pow_mono, pow-add, shl_lt, le-ltb, lt-ltb, ne_eqb}
+use Rattle.std.proofs.Common.{◌≡◌, ℕ, zero, suc, ◌+◌, ◌-◌, ◌*◌, ◌/◌, ◌%◌, ◌^◌, ◌<◌, ◌≤◌, Bool, true, false, cond, not, T, eqb, leb, ℤ, pos, negsuc, nat_abs, sym, refl, ap, ◌∙◌, subst, ⊎_elim, le_trans, le_of_eq, lt_of_lt_of_le, le_of_suc-le-suc, add-zero, lt_irrefl, mul-le-mul_right, mod-lt, zero-lt-suc, mul_comm, div-lt_iff_lt-mul, add_comm, eq-or-lt_of_le, mul-le-mul_left, mul-pos, le-div_iff_mul-le, mul-one, le-add_left, arith, eqb→eq, pow_pos, pow_mono, pow-add, shl_lt, le-ltb, lt-ltb, ne_eqb}
 use Prim.Native.Nat.{compare}
-use lib.Dec.{leb-zero, eqb-suc-zero, not_T}
-use lib.Signed.{mag, le_z, lt_z}
+use lib.Dec.{eqb-suc-zero, not_T}
+use lib.Signed.{lt_z}
 use lib.Ieee as Ieee
 use lib.Ieee.{Float, Format, nan, inf, fin, binary32, binary64, prec, emax, low, up, down, hid, ones, top}
 use lib.Ieee.Bits.{cond_no, is_true}
@@ -13,7 +13,7 @@ use lib.Ieee.Scale.{round_same}
 use lib.Ieee.Nearest.{closest, closest_same, nearest-ge}
 use Rattle.values.proofs.Widths.{half_le}
 use Rattle.values.specs.declared.Value.TheVariants.{Signed, Unsigned}
-use Rattle.conversions.specs.declared.Converted.TheVariants.{Gives, NotHeld}
+use Rattle.std.specs.Prelude.{Some, None}
 use Rattle.conversions.specs.Conversions.{with_sign, held_in, nearest_whole, narrow}
 use Rattle.conversions.specs.Digits.{digits_in, shift_in}
 
@@ -89,48 +89,48 @@ pub held_same : (b b' s s' : Bool) (w n n' : ℕ) → b ≡ b' → s ≡ s' → 
 held_same b b' s s' w n n' p q r =
     ap (λ (x : Bool). held_in x w (with_sign s n)) p ∙ ap (λ (x : Bool). held_in b' w (with_sign x n)) q ∙ ap (λ (x : ℕ). held_in b' w (with_sign s' x)) r
 
-pub signed-zero : (s : Bool) (w : ℕ) → Gives (Signed (pos 0)) ≡ held_in true w (with_sign s 0)
+pub signed-zero : (s : Bool) (w : ℕ) → Some (Signed (pos 0)) ≡ held_in true w (with_sign s 0)
 unfolding held_in pick
 signed-zero true w = rw (lt-ltb 0 (2 ^ (8 * w - 1)) (pow_pos (8 * w - 1)))
 signed-zero false w = rw (lt-ltb 0 (2 ^ (8 * w - 1)) (pow_pos (8 * w - 1)))
 
-pub unsigned-zero : (s : Bool) (w : ℕ) → Gives (Unsigned 0) ≡ held_in false w (with_sign s 0)
+pub unsigned-zero : (s : Bool) (w : ℕ) → Some (Unsigned 0) ≡ held_in false w (with_sign s 0)
 unfolding held_in pick
 unsigned-zero true w = rw (lt-ltb 0 (2 ^ (8 * w)) (pow_pos (8 * w)))
 unsigned-zero false w = rw (lt-ltb 0 (2 ^ (8 * w)) (pow_pos (8 * w)))
 
-pub below-held : (w n : ℕ) → 0 < n → n - 1 < 2 ^ (8 * w - 1) → Gives (Signed (negsuc (n - 1))) ≡ held_in true w (with_sign true n)
+pub below-held : (w n : ℕ) → 0 < n → n - 1 < 2 ^ (8 * w - 1) → Some (Signed (negsuc (n - 1))) ≡ held_in true w (with_sign true n)
 unfolding held_in pick
 below-held w zero p h = absurd (lt_irrefl 0 p)
 below-held w (suc k) p h =
     let e : suc k - 1 ≡ k = omega arith in
-    ap (λ (x : ℕ). Gives (Signed (negsuc x))) e ∙ rw (lt-ltb k (2 ^ (8 * w - 1)) (subst (λ (x : ℕ). x < 2 ^ (8 * w - 1)) e h))
+    ap (λ (x : ℕ). Some (Signed (negsuc x))) e ∙ rw (lt-ltb k (2 ^ (8 * w - 1)) (subst (λ (x : ℕ). x < 2 ^ (8 * w - 1)) e h))
 
-pub below-fault : (w n : ℕ) → 0 < n → 2 ^ (8 * w - 1) ≤ n - 1 → NotHeld ≡ held_in true w (with_sign true n)
+pub below-fault : (w n : ℕ) → 0 < n → 2 ^ (8 * w - 1) ≤ n - 1 → None ≡ held_in true w (with_sign true n)
 unfolding held_in pick
 below-fault w zero p h = absurd (lt_irrefl 0 p)
 below-fault w (suc k) p h =
     let e : suc k - 1 ≡ k = omega arith in
     rw (le-ltb k (2 ^ (8 * w - 1)) (subst (λ (x : ℕ). 2 ^ (8 * w - 1) ≤ x) e h))
 
-pub above-held : (w n : ℕ) → n < 2 ^ (8 * w - 1) → Gives (Signed (pos n)) ≡ held_in true w (with_sign false n)
+pub above-held : (w n : ℕ) → n < 2 ^ (8 * w - 1) → Some (Signed (pos n)) ≡ held_in true w (with_sign false n)
 unfolding held_in pick
 above-held w n h = rw (lt-ltb n (2 ^ (8 * w - 1)) h)
 
-pub above-fault : (w n : ℕ) → 2 ^ (8 * w - 1) ≤ n → NotHeld ≡ held_in true w (with_sign false n)
+pub above-fault : (w n : ℕ) → 2 ^ (8 * w - 1) ≤ n → None ≡ held_in true w (with_sign false n)
 unfolding held_in pick
 above-fault w n h = rw (le-ltb n (2 ^ (8 * w - 1)) h)
 
-pub negative-fault : (w n : ℕ) → 0 < n → NotHeld ≡ held_in false w (with_sign true n)
+pub negative-fault : (w n : ℕ) → 0 < n → None ≡ held_in false w (with_sign true n)
 unfolding held_in pick
 negative-fault w zero p = absurd (lt_irrefl 0 p)
 negative-fault w (suc k) p = refl
 
-pub unsigned-held : (w n : ℕ) → n < 2 ^ (8 * w) → Gives (Unsigned n) ≡ held_in false w (with_sign false n)
+pub unsigned-held : (w n : ℕ) → n < 2 ^ (8 * w) → Some (Unsigned n) ≡ held_in false w (with_sign false n)
 unfolding held_in pick
 unsigned-held w n h = rw (lt-ltb n (2 ^ (8 * w)) h)
 
-pub unsigned-fault : (w n : ℕ) → 2 ^ (8 * w) ≤ n → NotHeld ≡ held_in false w (with_sign false n)
+pub unsigned-fault : (w n : ℕ) → 2 ^ (8 * w) ≤ n → None ≡ held_in false w (with_sign false n)
 unfolding held_in pick
 unsigned-fault w n h = rw (le-ltb n (2 ^ (8 * w)) h)
 
@@ -138,7 +138,7 @@ full-le : (w : ℕ) → w ≤ 8 → 2 ^ (8 * w) ≤ 2 ^ 64
 full-le w h = let e : 8 * w ≤ 64 = omega arith in pow_mono e
 
 -- a number from 2 ^ 64 on fits no type
-pub held-large : (b s : Bool) (w n : ℕ) → w ≤ 8 → 2 ^ 64 ≤ n → NotHeld ≡ held_in b w (with_sign s n)
+pub held-large : (b s : Bool) (w n : ℕ) → w ≤ 8 → 2 ^ 64 ≤ n → None ≡ held_in b w (with_sign s n)
 held-large true true w n h l = let p : 0 < n = omega arith in below-fault w n p (omega (arith, half_le w h))
 held-large true false w n h l = above-fault w n (omega (arith, half_le w h))
 held-large false true w n h l = let p : 0 < n = omega arith in negative-fault w n p
@@ -182,7 +182,7 @@ by-pattern x e h =
     subst (λ (y : Float). HasValue y (leb (2 ^ 63) p) (digits_in binary64 p * 2 ^ shift_in binary64 p) (2 ^ 1074)) e
     (pattern-value binary64 p (small p h))
 
-pub out_of_range : (b : Bool) (w : ℕ) (x : Float) → Ieee.of_bits binary64 (Ieee.to_bits binary64 x) ≡ x → w ≤ 8 → 1085 < shift_in binary64 (Ieee.to_bits binary64 x) → NotHeld ≡ nearest_whole b w x
+pub out_of_range : (b : Bool) (w : ℕ) (x : Float) → Ieee.of_bits binary64 (Ieee.to_bits binary64 x) ≡ x → w ≤ 8 → 1085 < shift_in binary64 (Ieee.to_bits binary64 x) → None ≡ nearest_whole b w x
 unfolding nearest_whole
 out_of_range b w nan e h l = refl
 out_of_range b w (inf s) e h l = refl
@@ -199,10 +199,6 @@ out_of_range b w (fin s m k) e h l =
 -- ---- signed numbers by sign and magnitude
 nothing-less : (n : ℕ) → 0 ≤ n
 nothing-less n = omega arith
-
-pub magnitude-down : (z : ℤ) → le_z (pos 0) z ≡ false → mag z + 1 ≡ nat_abs z
-magnitude-down (pos n) e = absurd (subst T (sym (leb-zero n) ∙ e) tt)
-magnitude-down (negsuc n) e = omega arith
 
 pub sign-and-size : (z : ℤ) → with_sign (lt_z z (pos 0)) (nat_abs z) ≡ z
 sign-and-size (pos n) = ap (λ (b : Bool). with_sign b n) (le-ltb n 0 (nothing-less n))

@@ -1,7 +1,7 @@
 -- Document 02, 2.3, "Conversions between number types", in its order: whole to whole, float to whole, whole to float and LREAL to REAL; by type
 -- number; then on stored patterns. w is a width in bytes, and b says whether a whole destination is signed.
 -- Not here: what "nearest" says over whole numbers (`Rounding`); addresses, and what the data are afterwards (`Data`).
-use Rattle.std.specs.Prelude.{ℕ, ◌-◌, ◌*◌, ◌^◌, Bool, true, false, [], ◌∷◌, ℤ, pos, negsuc, neg_ℤ, nat_lt, slice_index_or, Float}
+use Rattle.std.specs.Prelude.{ℕ, ◌-◌, ◌*◌, ◌^◌, Bool, true, false, [], ◌∷◌, ℤ, pos, negsuc, neg_ℤ, nat_lt, slice_index_or, Option, Some, None, Float}
 use Rattle.std.specs.Int.Signed.{mag}
 use Rattle.std.specs.Float.Ieee as Ieee
 use Rattle.std.specs.Float.{nan, inf, fin, binary32, binary64}
@@ -11,15 +11,13 @@ use Rattle.verdict.specs.Verdict.{pick}
 use Rattle.values.specs.Values.{typed, stored}
 use Rattle.values.specs.declared.Value.{Value}
 use Rattle.values.specs.declared.Value.TheVariants.{Bool as VBool, Signed, Unsigned, Real, Lreal}
-use Rattle.conversions.specs.declared.Converted.{Converted}
-use Rattle.conversions.specs.declared.Converted.TheVariants.{Gives, NotHeld}
 
 -- ---- whole to whole: the value is kept, where the destination can hold it
 
-unfoldable pub held_in : Bool → ℕ → ℤ → Converted
-held_in true w z = pick (nat_lt (mag z) (2 ^ (8 * w - 1))) (Gives (Signed z)) NotHeld
-held_in false w (pos n) = pick (nat_lt n (2 ^ (8 * w))) (Gives (Unsigned n)) NotHeld
-held_in false w (negsuc n) = NotHeld
+unfoldable pub held_in : Bool → ℕ → ℤ → Option Value
+held_in true w z = pick (nat_lt (mag z) (2 ^ (8 * w - 1))) (Some (Signed z)) None
+held_in false w (pos n) = pick (nat_lt n (2 ^ (8 * w))) (Some (Unsigned n)) None
+held_in false w (negsuc n) = None
 
 -- ---- float to whole: rounded to nearest, ties to even, and then held or not; NaN and infinities are not
 
@@ -29,15 +27,15 @@ with_sign true n = neg_ℤ (pos n)
 with_sign false n = pos n
 
 -- the float fin s m e is m * 2 ^ e, the fraction m * up e / down e, with the sign s
-unfoldable pub nearest_whole : Bool → ℕ → Float → Converted
+unfoldable pub nearest_whole : Bool → ℕ → Float → Option Value
 unfolding held_in
-nearest_whole b w nan = NotHeld
-nearest_whole b w (inf s) = NotHeld
+nearest_whole b w nan = None
+nearest_whole b w (inf s) = None
 nearest_whole b w (fin s m e) = held_in b w (with_sign s (closest (m * up e) (down e)))
 
-unfoldable pub to_whole : Bool → ℕ → Value → Converted
+unfoldable pub to_whole : Bool → ℕ → Value → Option Value
 unfolding held_in nearest_whole
-to_whole b w (VBool x) = NotHeld
+to_whole b w (VBool x) = None
 to_whole b w (Signed z) = held_in b w z
 to_whole b w (Unsigned n) = held_in b w (pos n)
 to_whole b w (Real x) = nearest_whole b w x
@@ -69,11 +67,11 @@ to_lreal (Lreal x) = x
 -- ---- by type number
 
 -- a value as one of type t; BOOL and TIME are not among the types 1 to 10
-unfoldable pub to_type : ℕ → Value → Converted
+unfoldable pub to_type : ℕ → Value → Option Value
 unfolding to_whole to_real to_lreal
 to_type t v =
     slice_index_or
-    (NotHeld  -- 0 BOOL
+    (None  -- 0 BOOL
     ∷ to_whole true 1 v  -- 1 SINT
     ∷ to_whole false 1 v  -- 2 BYTE
     ∷ to_whole true 2 v  -- 3 INT
@@ -82,10 +80,10 @@ to_type t v =
     ∷ to_whole false 4 v  -- 6 DWORD
     ∷ to_whole true 8 v  -- 7 LINT
     ∷ to_whole false 8 v  -- 8 LWORD
-    ∷ Gives (Real (to_real v))  -- 9 REAL
-    ∷ Gives (Lreal (to_lreal v))  -- 10 LREAL
+    ∷ Some (Real (to_real v))  -- 9 REAL
+    ∷ Some (Lreal (to_lreal v))  -- 10 LREAL
     ∷ [])
-    t NotHeld
+    t None
 
 -- ---- on stored patterns
 
@@ -95,9 +93,9 @@ pub data Result : Type 0 where
   not-held : Result
 
 -- the result at a destination of type t; NaN has document 01's stored form by `stored`
-abbrev pub result_as : ℕ → Converted → Result
-result_as t (Gives v) = stores (stored t v)
-result_as t NotHeld = not-held
+abbrev pub result_as : ℕ → Option Value → Result
+result_as t (Some v) = stores (stored t v)
+result_as t None = not-held
 
 -- the operand with this pattern of the type `from`, converted to the type `to`
 unfoldable pub converted : ℕ → ℕ → ℕ → Result

@@ -1,9 +1,9 @@
 // Document 02, 2.3: conversions between the number types 1 to 10.
-// In order: whole numbers and powers of two; rounding to the nearest whole number; a float's pattern taken apart; to a whole type; to REAL
+// In order: rounding to the nearest whole number; a float's pattern taken apart; to a whole type; to REAL
 // and LREAL; by type number; from memory to memory. A width w is in bytes. No float arithmetic: results are rounded as whole numbers, once.
 #![tactic(auto)]
 
-ghost use Rattle.std.specs.Prelude.{◌≡◌, ◌+◌, ◌-◌, ◌*◌, ◌/◌, ◌%◌, ◌^◌, ◌<◌, ◌≤◌, Bool, true, false, length, if◌then◌else◌, unsigned_abs};
+ghost use Rattle.std.specs.Prelude.{◌≡◌, ◌+◌, ◌-◌, ◌*◌, ◌/◌, ◌%◌, ◌^◌, ◌<◌, ◌≤◌, Bool, true, false, length, if◌then◌else◌};
 ghost use Rattle.std.specs.Float.Ieee as Ieee;
 ghost use Rattle.std.specs.Float.{binary32, binary64};
 ghost use Rattle.std.specs.Float.Ieee.Nearest.{closest};
@@ -14,40 +14,7 @@ ghost use Rattle.conversions.specs.Digits.{digits_in, shift_in};
 ghost use Rattle.conversions.specs.Data.{ended, settled, converting};
 
 use values::Value;
-
-// A converted operand, or that the destination can't hold it.
-#[derive(Clone, Copy)]
-pub enum Converted {
-    Gives(Value),
-    NotHeld,
-}
-
-// How a conversion ends: it is done; an operand is beyond the data; the destination can't hold the result.
-#[derive(Clone, Copy)]
-pub enum Conversion {
-    Done,
-    Beyond,
-    NotHeld,
-}
-
-// 2^k
-pub fn power(k: u64) -> u64
-    requires { k < 64 }
-    ensures { result ≡ 2 ^ k }
-{
-    1u64 << k
-}
-
-// The magnitude of a signed number.
-fn magnitude(z: i64) -> u64
-    ensures { result ≡ unsigned_abs z }
-{
-    if 0 <= z {
-        z as u64
-    } else {
-        ((-1 - z) as u64) + 1
-    }
-}
+use verdict::Fault;
 
 // m / (2 * half) to the nearest whole number, a tie to the even one.
 fn nearest_by_half(m: u64, half: u64) -> u64
@@ -72,7 +39,7 @@ fn nearest_shift(m: u64, k: u64) -> u64
     if k == 0 {
         m
     } else if k < 64 {
-        nearest_by_half(m, power(k - 1))
+        nearest_by_half(m, 1 << (k - 1))
     } else if k == 64 {
         if 0x8000_0000_0000_0000 < m { 1 } else { 0 }
     } else {
@@ -112,48 +79,48 @@ fn shift_of(p: u64) -> u64
     if e == 0 { 0 } else { e - 1 }
 }
 
-// The whole number of a sign and a magnitude, where w bytes hold it: signed, unsigned, and either.
-fn signed_at(w: usize, negative: bool, n: u64) -> Converted
+// The whole number of a sign and a magnitude, none where w bytes can't hold it: signed, unsigned, and either.
+fn signed_at(w: usize, negative: bool, n: u64) -> Option<Value>
     requires { (0 < w) × (w ≤ 8) }
     ensures { result ≡ held_in true w (with_sign negative n) }
 {
     if n == 0 {
-        return Converted::Gives(Value::Signed(0));
+        return Some(Value::Signed(0));
     }
     let half = values::half_of(w);
     if negative {
         if n - 1 < half {
-            Converted::Gives(Value::Signed(values::below_zero(n - 1)))
+            Some(Value::Signed(values::below_zero(n - 1)))
         } else {
-            Converted::NotHeld
+            None
         }
     } else {
         if n < half {
-            Converted::Gives(Value::Signed(n as i64))
+            Some(Value::Signed(n as i64))
         } else {
-            Converted::NotHeld
+            None
         }
     }
 }
 
-fn unsigned_at(w: usize, negative: bool, number: u64) -> Converted
+fn unsigned_at(w: usize, negative: bool, number: u64) -> Option<Value>
     requires { (0 < w) × (w ≤ 8) }
     ensures { result ≡ held_in false w (with_sign negative number) }
 {
     if number == 0 {
-        return Converted::Gives(Value::Unsigned(0));
+        return Some(Value::Unsigned(0));
     }
     if negative {
-        return Converted::NotHeld;
+        return None;
     }
     if number / 2 < values::half_of(w) {
-        Converted::Gives(Value::Unsigned(number))
+        Some(Value::Unsigned(number))
     } else {
-        Converted::NotHeld
+        None
     }
 }
 
-fn held_at(signed: bool, w: usize, negative: bool, n: u64) -> Converted
+fn held_at(signed: bool, w: usize, negative: bool, n: u64) -> Option<Value>
     requires { (0 < w) × (w ≤ 8) }
     ensures { result ≡ held_in signed w (with_sign negative n) }
 {
@@ -164,18 +131,18 @@ fn held_at(signed: bool, w: usize, negative: bool, n: u64) -> Converted
     }
 }
 
-// The whole number nearest to x, where w bytes hold it.
-fn nearest_whole(signed: bool, w: usize, x: f64) -> Converted
+// The whole number nearest to x, none where w bytes can't hold it.
+fn nearest_whole(signed: bool, w: usize, x: f64) -> Option<Value>
     requires { (0 < w) × (w ≤ 8) }
     ensures { result ≡ nearest_whole signed w x }
 {
     if x != x {
-        return Converted::NotHeld;
+        return None;
     }
     let p = f64::to_bits(x);
     let j = shift_of(p);
     if 1085 < j {
-        return Converted::NotHeld;
+        return None;
     }
     let n = nearest_scaled(digits_of(p), j, 1074);
     held_at(signed, w, 0x8000_0000_0000_0000 <= p, n)
@@ -244,14 +211,14 @@ fn narrowed(x: f64) -> f32
     }
 }
 
-// A typed operand as a whole number.
-fn to_whole(signed: bool, w: usize, v: Value) -> Converted
+// A typed operand as a whole number, none where w bytes can't hold it.
+fn to_whole(signed: bool, w: usize, v: Value) -> Option<Value>
     requires { (0 < w) × (w ≤ 8) }
     ensures { result ≡ to_whole signed w v }
 {
     match v {
-        Value::Bool(_) => Converted::NotHeld,
-        Value::Signed(z) => held_at(signed, w, z < 0, magnitude(z)),
+        Value::Bool(_) => None,
+        Value::Signed(z) => held_at(signed, w, z < 0, z.unsigned_abs()),
         Value::Unsigned(n) => held_at(signed, w, false, n),
         Value::Real(x) => nearest_whole(signed, w, std::num::f32_to_f64_with_nan(x)),
         Value::Lreal(x) => nearest_whole(signed, w, x),
@@ -271,7 +238,7 @@ fn to_real(v: Value) -> f32
 {
     match v {
         Value::Bool(_) => 0.0 / 0.0,
-        Value::Signed(z) => whole_real(z < 0, magnitude(z)),
+        Value::Signed(z) => whole_real(z < 0, z.unsigned_abs()),
         Value::Unsigned(n) => whole_real(false, n),
         Value::Real(x) => x,
         Value::Lreal(x) => narrowed(x),
@@ -291,8 +258,8 @@ fn to_lreal(v: Value) -> f64
     }
 }
 
-// A typed operand as one of type t. The code that asks for this names a type from 1 to 10.
-pub fn convert(t: u8, v: Value) -> Converted
+// A typed operand as one of type t, none where that type can't hold it. The code that asks for this names a type from 1 to 10.
+pub fn convert(t: u8, v: Value) -> Option<Value>
     ensures { result ≡ to_type t v }
 {
     match t {
@@ -304,9 +271,9 @@ pub fn convert(t: u8, v: Value) -> Converted
         6 => to_whole(false, 4, v),
         7 => to_whole(true, 8, v),
         8 => to_whole(false, 8, v),
-        9 => Converted::Gives(Value::Real(to_real(v))),
-        10 => Converted::Gives(Value::Lreal(to_lreal(v))),
-        _ => Converted::NotHeld,
+        9 => Some(Value::Real(to_real(v))),
+        10 => Some(Value::Lreal(to_lreal(v))),
+        _ => None,
     }
 }
 
@@ -315,29 +282,32 @@ pub fn either_beyond(size: usize, p: usize, n: usize, q: usize, m: usize) -> boo
     requires { (p + n < 2 ^ 64) × (q + m < 2 ^ 64) }
     ensures { result ≡ any_beyond size p n q m }
 {
-    if size < p + n {
-        return true;
-    }
-    size < q + m
+    size < p + n || size < q + m
 }
 
 // Stores a result of type t, if it is held.
-pub fn settle(d: &mut [u8], t: u8, to: usize, c: Converted) -> Conversion
+pub fn settle(d: &mut [u8], t: u8, to: usize, c: Option<Value>) -> Result<(), Fault>
     requires { (t < 12) × (to + width_of t ≤ length d.old) }
     ensures { ended result d.new ≡ settled t d.old to (result_as t c) }
 {
     match c {
-        Converted::Gives(v) => {
+        Some(v) => {
             let w = values::width_of(t);
             commands::store_pattern(d, w, to, values::pattern_of(w, v));
-            Conversion::Done
+            Ok(())
         }
-        Converted::NotHeld => Conversion::NotHeld,
+        None => Err(Fault::Conversion),
     }
 }
 
 // Code 43: the addresses are tried first, then whether the destination can hold the result.
-pub fn convert_at(d: &mut [u8], from: u8, to: u8, destination: usize, source: usize) -> Conversion
+pub fn convert_at(
+    d: &mut [u8],
+    from: u8,
+    to: u8,
+    destination: usize,
+    source: usize,
+) -> Result<(), Fault>
     requires { (from < 12) × (to < 12) × (destination < 98304) × (source < 98304) }
     ensures { ended result d.new ≡ converting from to d.old destination source }
 {
@@ -348,7 +318,7 @@ pub fn convert_at(d: &mut [u8], from: u8, to: u8, destination: usize, source: us
         source,
         values::width_of(from),
     ) {
-        return Conversion::Beyond;
+        return Err(Fault::Address);
     }
     let v = values::read_value(d, from, source);
     settle(d, to, destination, convert(to, v))

@@ -8,6 +8,9 @@ use native.Mathlib.Numerals.{add-one}
 use native.Mathlib.Omega.{arith}
 use lib.Dec.{eqb}
 use borrow.Author.Tests.{eq-eqb, ne_eqb, eqb-true, eqb-false}
+use Rattle.std.specs.Prelude.{Result, Ok, Err}
+use Rattle.verdict.specs.Refusals.{refusal_of}
+use Rattle.verdict.specs.declared.Refusal.{Refusal}
 use Rattle.verdict.specs.Verdict.{pick, both, either}
 use Rattle.verdict.proofs.Truth.{holds, tested, fails, either-skip, either-stop, not-not}
 use Rattle.verdict.proofs.Verdict.{absurd-bool}
@@ -17,9 +20,9 @@ use Rattle.protocol.proofs.Tests.{low_reads, low-lines, one_way, way-one, no-rin
 use Rattle.records.specs.File.{variables, variable_at}
 use Rattle.taskset.specs.Judge.{judge}
 use Rattle.taskset.specs.Task.{listed, variables_of}
-use Rattle.cycles.specs.Check.{lines_of, lines_refusal, lines_byte, Checked}
+use Rattle.cycles.specs.Check.{numbered, lines_of, lines_refusal, lines_byte, Checked}
 use Rattle.cycles.specs.declared.Lines.{Lines}
-use Rattle.cycles.specs.declared.Lines.TheVariants.{Refused, Free, EachOther, Ringed}
+use Rattle.cycles.specs.declared.Lines.TheVariants.{Free, EachOther, Ringed}
 
 -- ---- a walk over the variables
 
@@ -61,11 +64,11 @@ module _ (f : List ℕ) (r w : ℕ) where
 -- ---- the answer is exact
 
 -- the answer by its three tests
-unfoldable answer : Bool → Bool → Bool → ℕ → Lines
-answer accepted one none n = pick accepted (pick one (pick none Free Ringed) EachOther) (Refused n)
+unfoldable answer : Bool → Bool → Bool → ℕ → Result Lines ℕ
+answer accepted one none n = pick accepted (pick one (pick none (Ok Free) (Ok Ringed)) (Ok EachOther)) (Err n)
 
 -- a number for each case, so that cases differ as numbers do
-unfoldable case : Lines → ℕ
+unfoldable case : Result Lines ℕ → ℕ
 case x = lines_byte 3 x
 
 free-tests : (a o n : Bool) (m : ℕ) → case (answer a o n m) ≡ 0 → (a ≡ true) × (o ≡ true) × (n ≡ true)
@@ -106,7 +109,7 @@ module _ (f : List ℕ) where
   abbrev none : Bool
   none = no_ring (line_between vs)
 
-  abbrev told : Bool → Bool → Bool → Lines
+  abbrev told : Bool → Bool → Bool → Result Lines ℕ
   told a o n = answer a o n (judge f)
 
   is-answer : lines_of f ≡ told (eqb (judge f) 0) one none
@@ -126,7 +129,7 @@ module _ (f : List ℕ) where
   none_true : NoRing (line_between vs) → none ≡ true
   none_true h = holds none (ring-no (line_between vs) h)
 
-  case-of : (x : Lines) → lines_of f ≡ x → case (told (eqb (judge f) 0) one none) ≡ case x
+  case-of : (x : Result Lines ℕ) → lines_of f ≡ x → case (told (eqb (judge f) 0) one none) ≡ case x
   case-of x e = ap case (sym is-answer ∙ e)
 
   -- the answer where the file is accepted
@@ -137,23 +140,23 @@ module _ (f : List ℕ) where
   unfolding answer pick case
   checked = record {
     refused = λ n. (
-      λ e. let a : eqb (judge f) 0 ≡ false = refused-tests (eqb (judge f) 0) one none (judge f) (case-of (Refused n) e) in
+      λ e. let a : eqb (judge f) 0 ≡ false = refused-tests (eqb (judge f) 0) one none (judge f) (case-of (Err n) e) in
           let q : judge f ≡ n = ap lines_refusal (sym (is-answer ∙ ap (λ (b : Bool). told b one none) a) ∙ e) in
           (q, λ z. eqb-false (judge f) 0 a (q ∙ z)),
-      λ h. is-answer ∙ ap (λ (b : Bool). told b one none) (ne_eqb (judge f) 0 (λ z. h.1 (sym h.0 ∙ z))) ∙ ap Refused h.0,
+      λ h. is-answer ∙ ap (λ (b : Bool). told b one none) (ne_eqb (judge f) 0 (λ z. h.1 (sym h.0 ∙ z))) ∙ ap Err h.0,
     );
     free = (
-      λ e. let t = free-tests (eqb (judge f) 0) one none (judge f) (case-of Free e) in
+      λ e. let t = free-tests (eqb (judge f) 0) one none (judge f) (case-of (Ok Free) e) in
           (eqb-true (judge f) 0 t.0, record { one_way = one_holds t.1; no-ring = none-holds t.2 }),
       λ h. accepted-is h.0 ∙ (λ z. told true (one-true h.1.one_way z) (none_true h.1.no-ring z)),
     );
     each-other = (
-      λ e. let t = each-other-tests (eqb (judge f) 0) one none (judge f) (case-of EachOther e) in
+      λ e. let t = each-other-tests (eqb (judge f) 0) one none (judge f) (case-of (Ok EachOther) e) in
           (eqb-true (judge f) 0 t.0, λ h. absurd-bool (sym t.1 ∙ one-true h)),
       λ h. accepted-is h.0 ∙ ap (λ (o : Bool). told true o none) (fails one (λ t. h.1 (one_holds (holds one t)))),
     );
     ringed = (
-      λ e. let t = ringed-tests (eqb (judge f) 0) one none (judge f) (case-of Ringed e) in
+      λ e. let t = ringed-tests (eqb (judge f) 0) one none (judge f) (case-of (Ok Ringed) e) in
           (eqb-true (judge f) 0 t.0, one_holds t.1, λ h. absurd-bool (sym t.2 ∙ none_true h)),
       λ h. accepted-is h.0 ∙ (λ z. told true (one-true h.1 z) (fails none (λ t. h.2 (none-holds (holds none t))) z)),
     );
@@ -161,11 +164,11 @@ module _ (f : List ℕ) where
 
   -- ---- what each return of the test shows
 
-  pub told-refused : (judge f ≡ 0 → ⊥) → Refused (judge f) ≡ lines_of f
+  pub told-refused : (judge f ≡ 0 → ⊥) → Err (judge f) ≡ lines_of f
   told-refused n = sym ((checked.refused (judge f)).1 (refl, n))
 
   module _ (e : judge f ≡ 0) where
-    pub told-each-other : true ≡ not one → EachOther ≡ lines_of f
+    pub told-each-other : true ≡ not one → Ok EachOther ≡ lines_of f
     unfolding answer pick
     told-each-other h = sym (accepted-is e ∙ ap (λ (o : Bool). told true o none) (sym (not-not one) ∙ ap not (sym h)))
 
@@ -173,10 +176,16 @@ module _ (f : List ℕ) where
       one_told : one ≡ true
       one_told = sym (not-not one) ∙ ap not (sym h)
 
-      pub told-ringed : true ≡ not none → Ringed ≡ lines_of f
+      pub told-ringed : true ≡ not none → Ok Ringed ≡ lines_of f
       unfolding answer pick
       told-ringed k = sym (accepted-is e ∙ (λ z. told true (one_told z) ((sym (not-not none) ∙ ap not (sym k)) z)))
 
-      pub told_free : false ≡ not none → Free ≡ lines_of f
+      pub told_free : false ≡ not none → Ok Free ≡ lines_of f
       unfolding answer pick
       told_free k = sym (accepted-is e ∙ (λ z. told true (one_told z) ((sym (not-not none) ∙ ap not (sym k)) z)))
+
+-- ---- the number of an answer
+
+pub told-number : (r : Result Lines Refusal) → refusal_of r ≡ lines_refusal (numbered r)
+told-number (Ok l) = refl
+told-number (Err x) = refl

@@ -1,6 +1,6 @@
 // Document 02, 2.9, whole cycles, one after another: the test of its condition, which a user can ask of a task set file. The theorem itself, of the
 // real machine and its calls, and three cores in a ring are in specs and proofs.
-// In order: lines between two cores; cores that read each other; rings; the call; its numbers.
+// In order: lines between two cores; cores that read each other; rings; the call; its byte.
 #![tactic(auto)]
 
 ghost use Rattle.std.specs.Prelude.{◌≡◌, not, ◌+◌, ◌≤◌, ◌<◌, length};
@@ -10,8 +10,10 @@ ghost use Rattle.protocol.specs.Cycles.{reads_from, line_between, is_one_way, no
 ghost use Rattle.records.specs.File.{variable_in};
 ghost use Rattle.taskset.specs.Judge.{judge};
 ghost use Rattle.taskset.specs.Task.{variables_of};
-ghost use Rattle.cycles.specs.Check.{lines_of, lines_refusal, lines_byte};
+ghost use Rattle.cycles.specs.Check.{numbered, lines_of, lines_byte};
 ghost use Rattle.cycles.specs.Rings.{closed};
+
+use verdict::Refusal;
 
 // ---- lines between two cores
 
@@ -20,10 +22,7 @@ fn passes(file: &[u8], place: usize, r: usize, w: usize) -> bool
     requires { (place + 12 ≤ length file.now) × (r < 4) × (w < 4) }
     ensures { result ≡ both (reads_it r (variable_in file.now place)) (writes_it w (variable_in file.now place)) }
 {
-    if records::reads(file, place, r) {
-        return records::writes(file, place, w);
-    }
-    false
+    records::reads(file, place, r) && records::writes(file, place, w)
 }
 
 // Whether core r reads a variable that core w writes.
@@ -33,12 +32,10 @@ fn reads_from(file: &[u8], r: usize, w: usize) -> bool
 {
     let at = 5 + records::CORE_RECORD * (memory::byte_at(file, 4) as usize);
     let n = memory::byte_at(file, at) as usize;
-    let mut i: usize = 0;
-    while i < n {
+    for i in 0..n {
         if passes(file, at + 1 + records::VARIABLE_RECORD * i, r, w) {
             return true;
         }
-        i += 1;
     }
     false
 }
@@ -48,10 +45,7 @@ fn line_between(file: &[u8], j: usize, k: usize) -> bool
     requires { (judge file.now ≡ 0) × (j < 4) × (k < 4) }
     ensures { result ≡ line_between (variables_of file.now) j k }
 {
-    if reads_from(file, j, k) {
-        return true;
-    }
-    reads_from(file, k, j)
+    reads_from(file, j, k) || reads_from(file, k, j)
 }
 
 // ---- cores that read each other
@@ -61,10 +55,7 @@ fn each_other(file: &[u8], j: usize, k: usize) -> bool
     requires { (judge file.now ≡ 0) × (j < 4) × (k < 4) }
     ensures { result ≡ both (reads_from (variables_of file.now) j k) (reads_from (variables_of file.now) k j) }
 {
-    if reads_from(file, j, k) {
-        return reads_from(file, k, j);
-    }
-    false
+    reads_from(file, j, k) && reads_from(file, k, j)
 }
 
 // Whether any two do.
@@ -72,6 +63,7 @@ fn any_each_other(file: &[u8]) -> bool
     requires { judge file.now ≡ 0 }
     ensures { result ≡ not (is_one_way (reads_from (variables_of file.now))) }
 {
+    // A return for each pair: a chain of `||` joins its tests, and the proof no longer tells which of them held.
     if each_other(file, 0, 1) {
         return true;
     }
@@ -95,27 +87,20 @@ fn any_each_other(file: &[u8]) -> bool
 fn three(a: bool, b: bool, c: bool) -> bool
     ensures { result ≡ both a (both b c) }
 {
-    if a {
-        if b {
-            return c;
-        }
-    }
-    false
+    a && b && c
 }
 
 fn four(a: bool, b: bool, c: bool, d: bool) -> bool
     ensures { result ≡ both a (both b (both c d)) }
 {
-    if a {
-        return three(b, c, d);
-    }
-    false
+    a && three(b, c, d)
 }
 
 // Whether lines close a ring: one of four rings of three cores, or of three rings of four.
 fn closed(l01: bool, l02: bool, l03: bool, l12: bool, l13: bool, l23: bool) -> bool
     ensures { result ≡ closed l01 l02 l03 l12 l13 l23 }
 {
+    // A return for each ring, for the same reason.
     if three(l01, l12, l02) {
         return true;
     }
@@ -155,51 +140,35 @@ fn any_ring(file: &[u8]) -> bool
 // What the lines of a task set file are.
 #[derive(Clone, Copy)]
 pub enum Lines {
-    Refused(u8), // the file's refusal number
     Free, // no two cores read each other, and no ring: runs end as an order of whole cycles
     EachOther, // two cores read each other
     Ringed, // no two do, and the lines form a ring
 }
 
 // Whether a run of the file's cores always ends as an order of whole cycles, as far as the lines between them tell.
-pub fn check_cycles(file: &[u8]) -> Lines
-    ensures { result ≡ lines_of file.now }
+pub fn check_cycles(file: &[u8]) -> Result<Lines, Refusal>
+    ensures { numbered result ≡ lines_of file.now }
 {
-    let refusal = file_judging::judge_file(file);
-    if refusal != 0 {
-        return Lines::Refused(refusal);
-    }
+    file_judging::judge_file(file)?;
     if any_each_other(file) {
-        return Lines::EachOther;
+        return Ok(Lines::EachOther);
     }
     if any_ring(file) {
-        return Lines::Ringed;
+        return Ok(Lines::Ringed);
     }
-    Lines::Free
+    Ok(Lines::Free)
 }
 
-// ---- its numbers
-
-// The refusal number of an answer, 0 for none.
-pub fn lines_refusal(lines: Lines) -> u8
-    ensures { result ≡ lines_refusal lines }
-{
-    match lines {
-        Lines::Refused(n) => n,
-        Lines::Free => 0,
-        Lines::EachOther => 0,
-        Lines::Ringed => 0,
-    }
-}
+// ---- its byte
 
 // The byte that says which, where `before` stood in it: 0 free, 1 cores that read each other, 2 a ring. A refusal leaves it.
-pub fn lines_byte(before: u8, lines: Lines) -> u8
-    ensures { result ≡ lines_byte before lines }
+pub fn lines_byte(before: u8, lines: Result<Lines, Refusal>) -> u8
+    ensures { result ≡ lines_byte before (numbered lines) }
 {
     match lines {
-        Lines::Refused(n) => before,
-        Lines::Free => 0,
-        Lines::EachOther => 1,
-        Lines::Ringed => 2,
+        Err(_) => before,
+        Ok(Lines::Free) => 0,
+        Ok(Lines::EachOther) => 1,
+        Ok(Lines::Ringed) => 2,
     }
 }

@@ -16,8 +16,8 @@ ghost use Rattle.processor.specs.Executable.{Executable, InstructionStands, Repo
 
 use addresses::{any_beyond, is_beyond, operand, operands, single};
 use commands::Performed;
-use conversions::Conversion;
 use protocol::{Outcome, Registers};
+use verdict::Fault;
 
 // From an instruction to the next one: the entries of the table of lengths. Of MCD, to the bytes that it stores.
 const PAST_BRANCH: u16 = code::LENGTHS[2] as u16;
@@ -232,13 +232,12 @@ fn store_number(
 // ---- conversions
 
 // How a conversion before the place `next` ended, as an instruction.
-fn conversion_outcome(conversion: Conversion, next: u16) -> Outcome
+fn conversion_outcome(conversion: Result<(), Fault>, next: u16) -> Outcome
     ensures { result ≡ conversion_outcome next conversion }
 {
     match conversion {
-        Conversion::Done => Outcome::Next(next),
-        Conversion::Beyond => Outcome::Fault(protocol::ADDRESS),
-        Conversion::NotHeld => Outcome::Fault(protocol::CONVERSION),
+        Ok(()) => Outcome::Next(next),
+        Err(fault) => Outcome::Fault(fault.bit()),
     }
 }
 

@@ -5,18 +5,19 @@ fn lent(label: &[u8], file: &[u8]) {
     let mut lengths = [7usize; 4];
     let mut counts = [8u32; 2];
     let mut depths = [9u32; 2];
-    let refusal = bounds::takes_to(file, &mut lengths, &mut counts, &mut depths);
+    let answer = bounds::takes_to(file, &mut lengths, &mut counts, &mut depths);
     text(label);
     text(b":");
-    number(refusal as u64);
-    number(lengths[0] as u64);
-    number(lengths[1] as u64);
-    number(lengths[2] as u64);
-    number(lengths[3] as u64);
-    small(counts[0]);
-    small(counts[1]);
-    small(depths[0]);
-    small(depths[1]);
+    number(verdict::refusal_of(answer) as u64);
+    for n in lengths {
+        number(n as u64);
+    }
+    for n in counts {
+        small(n);
+    }
+    for n in depths {
+        small(n);
+    }
     text(b"\n");
 }
 

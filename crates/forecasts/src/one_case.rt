@@ -1,4 +1,14 @@
 // One case: what a file takes, and what is printed of it.
+use bounds::Taken;
+
+// Of a refused file.
+const NOTHING: Taken = Taken {
+    buffer: 0,
+    shared: 0,
+    table: 0,
+    count: [0; 4],
+    depth: [0; 4],
+};
 
 pub fn text(s: &[u8]) {
     io::write_all(1, s);
@@ -14,23 +24,21 @@ pub fn small(n: u32) {
 }
 
 fn column(four: [u32; 4]) {
-    small(four[0]);
-    small(four[1]);
-    small(four[2]);
-    small(four[3]);
+    for n in four {
+        small(n);
+    }
 }
 
 pub fn case(label: &[u8], file: &[u8]) {
-    let t = bounds::takes(file);
+    let answer = bounds::takes(file);
+    let t = answer.unwrap_or(NOTHING);
     text(label);
     text(b":");
-    number(t.refusal as u64);
+    number(verdict::refusal_of(answer) as u64);
     number(t.buffer as u64);
     number(t.shared as u64);
     number(t.table as u64);
-    let count = t.count;
-    let depth = t.depth;
-    column(count);
-    column(depth);
+    column(t.count);
+    column(t.depth);
     text(b"\n");
 }

@@ -14,8 +14,7 @@ use Rattle.memory.proofs.Laws.{splice-append}
 use Rattle.protocol.specs.Fresh.{zeros}
 use Rattle.records.specs.File.{cores}
 use Rattle.taskset.specs.Judge.{old_mark, new_mark, is_old, is_new, code_place, start_place, judge}
-use Rattle.forms.specs.declared.FormAnswer.{FormAnswer}
-use Rattle.forms.specs.Forms.{body_of, to_new, to_old, no_starts, to_new_refusal, to_old_refusal, ConversionLeft, convert_call, converted_lent, lent_by}
+use Rattle.forms.specs.Forms.{body_of, to_new, to_old, no_starts, to_new_refusal, to_old_refusal, FormAnswer, ConversionLeft, convert_call, converted_lent, lent_by}
 use Rattle.forms.proofs.BothWays.{length-body, body-begins, length-old, length-new, old-ends, none-short, short_none, none-tested, tested-none}
 
 -- ---- a call

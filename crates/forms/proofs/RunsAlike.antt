@@ -16,7 +16,7 @@ use Rattle.protocol.specs.Instruction.{instruction_by}
 use Rattle.protocol.specs.Variables.{reads_of, writes_of}
 use Rattle.protocol.specs.Fresh.{zeros}
 use Rattle.processor.specs.Processor.{executed}
-use Rattle.records.specs.File.{cores, data_size, limit}
+use Rattle.records.specs.File.{cores, data_size}
 use Rattle.taskset.specs.Judge.{is_old, is_new, start_place, judge}
 use Rattle.taskset.specs.Trace.{blank, trace_place, record_count, trace_refusal}
 use Rattle.taskset.specs.Task.{listed, sizes_of, sample_at, samples_of}

@@ -2,16 +2,17 @@
 -- file. Either converter gives 2 for a file already in the form it makes, and lent bytes past its output stay." Refused besides: 1, a file of less than
 -- four bytes; the file's own numbers; 32, "a file with start values sent back, between 24 and 21"; 21, an output too short.
 -- In order: the two forms of a file; refusals; the calls, for every input; over C. Not here: that both ways return the first file (`BothWays`).
-use Rattle.std.specs.Prelude.{ℕ, ◌+◌, ◌-◌, ◌*◌, Bool, List, ◌++◌, leb, eqb, length}
+use Rattle.std.specs.Prelude.{ℕ, ◌-◌, ◌*◌, Bool, List, ◌++◌, leb, eqb, length, Result, Ok, Err}
 use Rattle.verdict.specs.Numbers.{no_mark, bad_lengths, has_starts}
 use Rattle.verdict.specs.Verdict.{pick, upto, next, unless}
+use Rattle.verdict.specs.Refusals.{number_of}
+use Rattle.verdict.specs.declared.Refusal.{Refusal}
 use Rattle.memory.specs.Memory.{splice, part}
 use Rattle.protocol.specs.Fresh.{zeros}
 use Rattle.records.specs.File.{cores}
 use Rattle.records.specs.Records.{present}
 use Rattle.taskset.specs.Judge.{old_mark, new_mark, is_old, is_new, start_place, judge}
 use Rattle.taskset.specs.Starts.{start_count}
-use Rattle.forms.specs.declared.FormAnswer.{FormAnswer}
 
 -- ---- the two forms
 
@@ -42,7 +43,17 @@ to_old_refusal f room =
 
 -- ---- the calls
 
--- what a call answers, and what its output holds afterwards
+-- what a call answers: the refusal number, 0 for none, and how many bytes were written
+pub record FormAnswer : Type 0 where
+  pub refusal : ℕ
+  pub length : ℕ
+
+-- an answer of the code: how many, or the refusal
+abbrev pub form_answer : Result ℕ Refusal → FormAnswer
+form_answer (Ok n) = record { refusal = 0; length = n }
+form_answer (Err r) = record { refusal = number_of r; length = 0 }
+
+-- the answer, and what the output holds afterwards
 pub record ConversionLeft : Type 0 where
   pub answer : FormAnswer
   pub output : List ℕ

@@ -10,10 +10,8 @@ fn byte(b: u8) {
 }
 
 fn bytes(s: &[u8; 16]) {
-    let mut i: usize = 0;
-    while i < 16 {
-        byte(s[i]);
-        i += 1;
+    for &b in s {
+        byte(b);
     }
     text(b"\n");
 }
@@ -24,8 +22,7 @@ pub fn case(label: &[u8], run: &[u8], span: u32, room: usize) {
     if 16 < room {
         return;
     }
-    let a = 0;
-    let number = holding::lowest(run, span, &mut lent[a..room]);
+    let number = verdict::refusal_of(holding::lowest(run, span, &mut lent[..room]));
     text(label);
     text(b": ");
     io::print_decimal(1, number as u64);

@@ -8,20 +8,21 @@ use lib.ListN.{length, take, length-append, length-take}
 use Rattle.verdict.proofs.Verdict.{pick_true, pick-false}
 use Rattle.memory.specs.Memory.{splice, flat}
 use Rattle.states.specs.declared.Held.{Held}
-use Rattle.listing.specs.declared.Written.TheVariants.{Text, Refused}
+use Rattle.std.specs.Prelude.{Ok, Err}
+use Rattle.verdict.specs.declared.Refusal.TheVariants.{BadLengths}
 use Rattle.listing.specs.Listing.{line_feed, taking_text, order_line, head, listing}
 use Rattle.listing.specs.Writers.{text_left, text_call}
 
 -- ---- the answers
 
-pub text-short : (text out : List ℕ) → length out < length text → text_left (Refused 21) out ≡ text_call text out
+pub text-short : (text out : List ℕ) → length out < length text → text_left (Err BadLengths) out ≡ text_call text out
 unfolding text_call
 text-short text out l = sym (pick_true _ _ _ (lt-ltb _ _ l))
 
 pub text-written : (text out : List ℕ) {n : ℕ} {now : List ℕ} → length text ≤ length out → n ≡ length text → now ≡ splice out 0 text
-    → text_left (Text n) now ≡ text_call text out
+    → text_left (Ok n) now ≡ text_call text out
 unfolding text_call
-text-written text out l e q = ap₂ (λ (m : ℕ) (x : List ℕ). text_left (Text m) x) e q ∙ sym (pick-false _ _ _ (le-ltb _ _ l))
+text-written text out l e q = ap₂ (λ (m : ℕ) (x : List ℕ). text_left (Ok m) x) e q ∙ sym (pick-false _ _ _ (le-ltb _ _ l))
 
 -- ---- a listing's length
 

@@ -9,9 +9,9 @@ ghost use Rattle.memory.specs.Memory.{splice, flat};
 ghost use Rattle.listing.specs.Listing.{decimal, column, core_line, core_lines, kind_letter, taking_text, head, listing, refused_text, long_text};
 ghost use Rattle.listing.specs.Writers.{text_left, text_call};
 
-use memory::least;
 use protocol::Registers;
 use states::{Held, table_of};
+use verdict::Refusal;
 
 const LINE_FEED: u8 = b'\n';
 
@@ -38,10 +38,8 @@ fn write_text(out: &mut [u8], at: usize, text: &[u8]) -> usize
     ensures { (out.new ≡ splice out.old at text.now) × (result ≡ at + length text.now) }
 {
     let mut next = at;
-    let mut i = 0;
-    while i < text.len() {
-        next = put_byte(out, next, text[i]);
-        i += 1;
+    for &byte in text {
+        next = put_byte(out, next, byte);
     }
     next
 }
@@ -90,12 +88,9 @@ fn write_lines(out: &mut [u8], at: usize, s: Held, n: usize) -> usize
     ensures { (out.new ≡ splice out.old at (core_lines 0 (take n s.cores))) × (result ≡ at + length (core_lines 0 (take n s.cores))) × (result ≤ at + 120) }
 {
     let cores = table_of(s);
-    let lines = least(n, CORES);
     let mut next = at;
-    let mut k = 0;
-    while k < lines {
+    for k in 0..n.min(CORES) {
         next = write_line(out, next, k, cores[k]);
-        k += 1;
     }
     next
 }
@@ -105,10 +100,7 @@ fn write_lines(out: &mut [u8], at: usize, s: Held, n: usize) -> usize
 fn kind_of(byte: u8) -> u8
     ensures { result ≡ kind_letter byte }
 {
-    if byte < FIRST_WRITING {
-        return b'r';
-    }
-    b'w'
+    if byte < FIRST_WRITING { b'r' } else { b'w' }
 }
 
 fn write_taking(out: &mut [u8], at: usize, byte: u8) -> usize
@@ -126,24 +118,15 @@ fn write_takings(out: &mut [u8], at: usize, list: &[u8], taken: usize) -> usize
     ensures { (out.new ≡ splice out.old at (flat (map taking_text (take taken list.now))))
         × (result ≡ at + length (flat (map taking_text (take taken list.now)))) × (result ≡ at + 3 * min taken (length list.now)) }
 {
-    let takings = least(taken, list.len());
+    let takings = &list[..taken.min(list.len())];
     let mut next = at;
-    let mut i = 0;
-    while i < takings {
-        next = write_taking(out, next, list[i]);
-        i += 1;
+    for &byte in takings {
+        next = write_taking(out, next, byte);
     }
     next
 }
 
-// ---- the three texts
-
-// What a writer answers: the length of the text, or a refusal with its number.
-#[derive(Clone, Copy)]
-pub enum Written {
-    Text(usize),
-    Refused(u8),
-}
+// ---- the three texts: each writer answers the length of its text, or a refusal
 
 // What comes before the takings.
 fn write_head(out: &mut [u8], s: Held, n: usize) -> usize
@@ -155,21 +138,27 @@ fn write_head(out: &mut [u8], s: Held, n: usize) -> usize
 }
 
 // The listing of n cores in the state s and of the first `taken` takings of the order list.
-pub fn write_listing(s: Held, n: usize, list: &[u8], taken: usize, out: &mut [u8]) -> Written
+pub fn write_listing(
+    s: Held,
+    n: usize,
+    list: &[u8],
+    taken: usize,
+    out: &mut [u8],
+) -> Result<usize, Refusal>
     ensures { text_left result out.new ≡ text_call (listing n s (take taken list.now)) out.old }
 {
     let mut nothing = [0u8; 0];
     let before = write_head(&mut nothing, s, n);
     if out.len() <= before {
-        return Written::Refused(verdict::BAD_LENGTHS);
+        return Err(Refusal::BadLengths);
     }
-    let takings = least(taken, list.len());
+    let takings = taken.min(list.len());
     if (out.len() - before - 1) / 3 < takings {
-        return Written::Refused(verdict::BAD_LENGTHS);
+        return Err(Refusal::BadLengths);
     }
     let from = write_head(out, s, n);
     let end = write_takings(out, from, list, taken);
-    Written::Text(put_byte(out, end, LINE_FEED))
+    Ok(put_byte(out, end, LINE_FEED))
 }
 
 fn write_number(out: &mut [u8], number: u8) -> usize
@@ -180,22 +169,22 @@ fn write_number(out: &mut [u8], number: u8) -> usize
 }
 
 // The refusal with its number.
-pub fn write_refused(number: u8, out: &mut [u8]) -> Written
+pub fn write_refused(number: u8, out: &mut [u8]) -> Result<usize, Refusal>
     ensures { text_left result out.new ≡ text_call (refused_text number) out.old }
 {
     let mut nothing = [0u8; 0];
     if out.len() < write_number(&mut nothing, number) {
-        return Written::Refused(verdict::BAD_LENGTHS);
+        return Err(Refusal::BadLengths);
     }
-    Written::Text(write_number(out, number))
+    Ok(write_number(out, number))
 }
 
 // A file was longer than the program reads.
-pub fn write_long(out: &mut [u8]) -> Written
+pub fn write_long(out: &mut [u8]) -> Result<usize, Refusal>
     ensures { text_left result out.new ≡ text_call long_text out.old }
 {
     if out.len() < 5 {
-        return Written::Refused(verdict::BAD_LENGTHS);
+        return Err(Refusal::BadLengths);
     }
-    Written::Text(write_text(out, 0, b"long\n"))
+    Ok(write_text(out, 0, b"long\n"))
 }

@@ -2,7 +2,7 @@
 // steps, and JMP 0 with limit 1 among them.
 #![tactic(auto)]
 
-use listing::Written;
+use verdict::Refusal;
 
 fn text(s: &[u8]) {
     io::write_all(1, s);
@@ -18,16 +18,15 @@ fn show(label: &[u8], file: &[u8], trace: &[u8], order: &[u8]) {
 }
 
 // The text that was written, or 21.
-fn tell(written: Written, out: &[u8]) {
+fn tell(written: Result<usize, Refusal>, out: &[u8]) {
     match written {
-        Written::Text(n) => {
+        Ok(n) => {
             if n <= out.len() {
-                let start = 0;
-                text(&out[start..n]);
+                text(&out[..n]);
             }
         }
-        Written::Refused(number) => {
-            io::print_decimal(1, number as u64);
+        Err(refusal) => {
+            io::print_decimal(1, refusal.number() as u64);
             text(b"\n");
         }
     }
@@ -38,8 +37,8 @@ fn show_room(label: &[u8], file: &[u8], order: &[u8], out: &mut [u8]) {
     text(label);
     text(b":\n");
     let written = console::output(file, b"\x01\x00\x00\x00\x00\x00", order, out);
-    if let Written::Refused(number) = written {
-        io::print_decimal(1, number as u64);
+    if let Err(refusal) = written {
+        io::print_decimal(1, refusal.number() as u64);
         text(b" ");
     }
     text(out);

@@ -15,7 +15,8 @@ use Rattle.memory.specs.Memory.{byte, read_le}
 use Rattle.values.specs.Types.{width_of}
 use Rattle.values.specs.Commands.{any_beyond}
 use Rattle.conversions.specs.Conversions.{Result, stores, not-held, converted}
-use Rattle.conversions.specs.declared.Conversion.TheVariants.{Beyond}
+use Rattle.std.specs.Prelude.{Err}
+use Rattle.verdict.specs.declared.Fault.TheVariants.{Address}
 use Rattle.conversions.specs.Data.{ended, settled, tried, converting}
 use Rattle.packed.specs.Packed.{packed, unpacked}
 use Rattle.packed.specs.Data.{packing, unpacking}
@@ -83,7 +84,7 @@ module _ (limit : ℕ) (c : List ℕ) (r : Registers) (d : List ℕ) where
   unfolding tried pick
   converts t u to source y = go (any_beyond (length d) to (width_of t) source (width_of u)) y
     where
-      go : (b : Bool) (y : Result) → Finds (of_conversion r (pick b (ended Beyond d) (settled t d to y))) (bit_if b address_bit (bit_if (is_not_held y) conversion_bit none))
+      go : (b : Bool) (y : Result) → Finds (of_conversion r (pick b (ended (Err Address) d) (settled t d to y))) (bit_if b address_bit (bit_if (is_not_held y) conversion_bit none))
       go true y = record { found = refl }
       go false (stores p) = record { found = refl }
       go false not-held = record { found = refl }

@@ -16,7 +16,8 @@ use Rattle.memory.proofs.Number.{length-bytes_le}
 use Rattle.values.specs.Types.{width_of}
 use Rattle.values.specs.Commands.{beyond, any_beyond, typed_beyond, result_width, second_width, zero_divisor, command, performed}
 use Rattle.commands.proofs.Attempts.{either-false, in-data}
-use Rattle.conversions.specs.declared.Conversion.TheVariants.{Beyond}
+use Rattle.std.specs.Prelude.{Err}
+use Rattle.verdict.specs.declared.Fault.TheVariants.{Address}
 use Rattle.conversions.specs.Conversions.{Result, stores, not-held, converted}
 use Rattle.conversions.specs.Data.{ended, settled, tried, converting}
 use Rattle.packed.specs.Packed.{packed, unpacked}
@@ -109,7 +110,7 @@ module _ (c : List ℕ) (r : Registers) (d d' : List ℕ) (size : length d ≡ l
       settles not-held = faults 6
 
       go : (b b' : Bool) → b ≡ b' → (y : Result)
-          → Decides d d' (stretch to (width_of t)) (of_conversion r (pick b (ended Beyond d) (settled t d to y))) (of_conversion r (pick b' (ended Beyond d') (settled t d' to y)))
+          → Decides d d' (stretch to (width_of t)) (of_conversion r (pick b (ended (Err Address) d) (settled t d to y))) (of_conversion r (pick b' (ended (Err Address) d') (settled t d' to y)))
       go true true e y = faults 4
       go false false e y = settles y
       go true false e y = absurd-bool (sym e)

@@ -16,8 +16,8 @@ use borrow.Author.Tests.{lt-ltb}
 use Rattle.values.specs.Types.{width_of}
 use Rattle.values.specs.Values.{unsigned_in, stored, pattern_of}
 use Rattle.values.specs.declared.Value.TheVariants.{Unsigned}
-use Rattle.conversions.specs.declared.Converted.{Converted}
-use Rattle.conversions.specs.declared.Converted.TheVariants.{Gives, NotHeld}
+use Rattle.values.specs.declared.Value.{Value}
+use Rattle.std.specs.Prelude.{Option, Some, None}
 use Rattle.conversions.specs.Conversions.{stores, result_as}
 use Rattle.packed.specs.Packed.{recoded, digits_below, packed_digits, unpacked_digits, packed_at, unpacked_at, packed, unpacked}
 use Rattle.conversions.proofs.Types.{pattern_in, is_stored}
@@ -86,13 +86,13 @@ module _ (a b : ℕ) (A : 0 < a) where
   always-below h (suc d) n = and_i (ltb (n % a) b) (digits_below a b d (n / a)) (lt→ltb (n % a) b (lt_of_lt_of_le (mod-lt n A) h)) (always-below h d (n / a))
 
 -- ---- the two commands, at every width
-abbrev number_of : Converted → ℕ
-number_of (Gives v) = unsigned_in v
-number_of NotHeld = 0
+abbrev number_of : Option Value → ℕ
+number_of (Some v) = unsigned_in v
+number_of None = 0
 
-abbrev is_held : Converted → Bool
-is_held (Gives v) = true
-is_held NotHeld = false
+abbrev is_held : Option Value → Bool
+is_held (Some v) = true
+is_held None = false
 
 ten : 0 < 10
 ten = omega arith
@@ -103,32 +103,32 @@ sixteen = omega arith
 less : 10 ≤ 16
 less = omega arith
 
-packed-back : (w n : ℕ) → n < 10 ^ (2 * w) → unpacked_at w (packed_digits (2 * w) n) ≡ Gives (Unsigned n)
+packed-back : (w n : ℕ) → n < 10 ^ (2 * w) → unpacked_at w (packed_digits (2 * w) n) ≡ Some (Unsigned n)
 unfolding unpacked_at pick
 packed-back w n h =
     rw (is_true (digits_below 16 10 (2 * w) (packed_digits (2 * w) n)) (digits-below 10 16 ten (2 * w) n (always-below 10 16 ten less (2 * w) n)))
-    (ap (λ (x : ℕ). Gives (Unsigned x)) (back 10 16 ten (2 * w) n h (always-below 10 16 ten less (2 * w) n)))
+    (ap (λ (x : ℕ). Some (Unsigned x)) (back 10 16 ten (2 * w) n h (always-below 10 16 ten less (2 * w) n)))
 
-unpacked-back : (w p : ℕ) → p < 16 ^ (2 * w) → T (digits_below 16 10 (2 * w) p) → packed_at w (unpacked_digits (2 * w) p) ≡ Gives (Unsigned p)
+unpacked-back : (w p : ℕ) → p < 16 ^ (2 * w) → T (digits_below 16 10 (2 * w) p) → packed_at w (unpacked_digits (2 * w) p) ≡ Some (Unsigned p)
 unfolding packed_at pick
 unpacked-back w p h t =
     rw (lt-ltb (unpacked_digits (2 * w) p) (10 ^ (2 * w)) (recoded-lt 16 10 sixteen (2 * w) p t))
-    (ap (λ (x : ℕ). Gives (Unsigned x)) (back 16 10 sixteen (2 * w) p h t))
+    (ap (λ (x : ℕ). Some (Unsigned x)) (back 16 10 sixteen (2 * w) p h t))
 
 -- going there and back gives the starting value wherever the first way succeeds
-pub there_and_back : (w n p : ℕ) → packed_at w n ≡ Gives (Unsigned p) → unpacked_at w p ≡ Gives (Unsigned n)
+pub there_and_back : (w n p : ℕ) → packed_at w n ≡ Some (Unsigned p) → unpacked_at w p ≡ Some (Unsigned n)
 unfolding packed_at pick
 there_and_back w n p = go (ltb n (10 ^ (2 * w))) (ltb→lt n (10 ^ (2 * w)))
   where
-    go : (b : Bool) → (T b → n < 10 ^ (2 * w)) → pick b (Gives (Unsigned (packed_digits (2 * w) n))) NotHeld ≡ Gives (Unsigned p) → unpacked_at w p ≡ Gives (Unsigned n)
+    go : (b : Bool) → (T b → n < 10 ^ (2 * w)) → pick b (Some (Unsigned (packed_digits (2 * w) n))) None ≡ Some (Unsigned p) → unpacked_at w p ≡ Some (Unsigned n)
     go true h e = ap (λ (x : ℕ). unpacked_at w x) (sym (ap number_of e)) ∙ packed-back w n (h tt)
     go false h e = absurd (subst T (sym (ap is_held e)) tt)
 
-pub back-and-there : (w p n : ℕ) → p < 16 ^ (2 * w) → unpacked_at w p ≡ Gives (Unsigned n) → packed_at w n ≡ Gives (Unsigned p)
+pub back-and-there : (w p n : ℕ) → p < 16 ^ (2 * w) → unpacked_at w p ≡ Some (Unsigned n) → packed_at w n ≡ Some (Unsigned p)
 unfolding unpacked_at pick
 back-and-there w p n l = go (digits_below 16 10 (2 * w) p) (λ t. t)
   where
-    go : (b : Bool) → (T b → T (digits_below 16 10 (2 * w) p)) → pick b (Gives (Unsigned (unpacked_digits (2 * w) p))) NotHeld ≡ Gives (Unsigned n) → packed_at w n ≡ Gives (Unsigned p)
+    go : (b : Bool) → (T b → T (digits_below 16 10 (2 * w) p)) → pick b (Some (Unsigned (unpacked_digits (2 * w) p))) None ≡ Some (Unsigned n) → packed_at w n ≡ Some (Unsigned p)
     go true h e = ap (λ (x : ℕ). packed_at w x) (sym (ap number_of e)) ∙ unpacked-back w p l (h tt)
     go false h e = absurd (subst T (sym (ap is_held e)) tt)
 
@@ -164,7 +164,7 @@ packed-unpacked t n q = go (ltb n (10 ^ (2 * w))) (ltb→lt n (10 ^ (2 * w)))
     D-low : D < 2 ^ (8 * w)
     D-low = subst (λ (x : ℕ). D < x) (fours w) (recoded-lt 10 16 ten (2 * w) n (always-below 10 16 ten less (2 * w) n))
 
-    go : (b : Bool) → (T b → n < 10 ^ (2 * w)) → result_as t (pick b (Gives (Unsigned D)) NotHeld) ≡ stores q → result_as t (unpacked_at w q) ≡ stores n
+    go : (b : Bool) → (T b → n < 10 ^ (2 * w)) → result_as t (pick b (Some (Unsigned D)) None) ≡ stores q → result_as t (unpacked_at w q) ≡ stores n
     go true h e =
         let same : q ≡ D = sym (ap pattern_in e) ∙ mod-eq_of_lt D-low in
         let room : n < 2 ^ (8 * w) = lt_of_lt_of_le (h tt) (le_trans (tens (2 * w)) (le_of_eq (fours w))) in
@@ -182,7 +182,7 @@ unpacked-packed t p n room = go (digits_below 16 10 (2 * w) p) (λ x. x)
     D : ℕ
     D = unpacked_digits (2 * w) p
 
-    go : (b : Bool) → (T b → T (digits_below 16 10 (2 * w) p)) → result_as t (pick b (Gives (Unsigned D)) NotHeld) ≡ stores n → result_as t (packed_at w n) ≡ stores p
+    go : (b : Bool) → (T b → T (digits_below 16 10 (2 * w) p)) → result_as t (pick b (Some (Unsigned D)) None) ≡ stores n → result_as t (packed_at w n) ≡ stores p
     go true h e =
         let low : D < 2 ^ (8 * w) = lt_of_lt_of_le (recoded-lt 16 10 sixteen (2 * w) p (h tt)) (le_trans (tens (2 * w)) (le_of_eq (fours w))) in
         let same : n ≡ D = sym (ap pattern_in e) ∙ mod-eq_of_lt low in

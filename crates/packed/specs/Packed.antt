@@ -1,12 +1,11 @@
 -- Document 02, 2.8, "Packed decimal for panel switches": four bits to a digit, the last digit in the lowest four. In order: digits from one base to another; at a
 -- width of w bytes, which has room for 2 * w digits; by type number, on stored patterns.
-use Rattle.std.specs.Prelude.{ℕ, zero, suc, ◌+◌, ◌*◌, ◌/◌, ◌%◌, ◌^◌, Bool, true, ◌&&◌, ltb}
+use Rattle.std.specs.Prelude.{ℕ, zero, suc, ◌+◌, ◌*◌, ◌/◌, ◌%◌, ◌^◌, Bool, true, ◌&&◌, ltb, Option, Some, None}
 use Rattle.verdict.specs.Verdict.{pick}
 use Rattle.values.specs.Types.{width_of}
 use Rattle.values.specs.Values.{stored}
 use Rattle.values.specs.declared.Value.TheVariants.{Unsigned}
-use Rattle.conversions.specs.declared.Converted.{Converted}
-use Rattle.conversions.specs.declared.Converted.TheVariants.{Gives, NotHeld}
+use Rattle.values.specs.declared.Value.{Value}
 use Rattle.conversions.specs.Conversions.{Result, result_as}
 
 -- ---- digits from one base to another
@@ -30,13 +29,13 @@ unpacked_digits d p = recoded 16 10 d p
 
 -- ---- at a width: a value with too many digits, and a digit above 9, are not held
 
-unfoldable pub packed_at : ℕ → ℕ → Converted
+unfoldable pub packed_at : ℕ → ℕ → Option Value
 unfolding recoded
-packed_at w n = pick (ltb n (10 ^ (2 * w))) (Gives (Unsigned (packed_digits (2 * w) n))) NotHeld
+packed_at w n = pick (ltb n (10 ^ (2 * w))) (Some (Unsigned (packed_digits (2 * w) n))) None
 
-unfoldable pub unpacked_at : ℕ → ℕ → Converted
+unfoldable pub unpacked_at : ℕ → ℕ → Option Value
 unfolding recoded digits_below
-unpacked_at w p = pick (digits_below 16 10 (2 * w) p) (Gives (Unsigned (unpacked_digits (2 * w) p))) NotHeld
+unpacked_at w p = pick (digits_below 16 10 (2 * w) p) (Some (Unsigned (unpacked_digits (2 * w) p))) None
 
 -- ---- by type number: 2 BYTE, 4 WORD, 6 DWORD, 8 LWORD, whose patterns are the numbers
 

@@ -24,8 +24,9 @@ use Rattle.values.specs.Types.{width_of}
 use Rattle.values.specs.Commands.{beyond, any_beyond}
 use Rattle.commands.specs.declared.Operands.{Operands}
 use Rattle.commands.specs.Attempts.{Attempt, ending, attempted}
-use Rattle.conversions.specs.declared.Conversion.{Conversion}
-use Rattle.conversions.specs.declared.Conversion.TheVariants.{Beyond as Outside}
+use Rattle.std.specs.Prelude.{Result as Answer, Err}
+use Rattle.verdict.specs.declared.Fault.{Fault as CoreFault}
+use Rattle.verdict.specs.declared.Fault.TheVariants.{Address}
 use Rattle.conversions.specs.Conversions.{Result, stores, not-held, converted as converted_to}
 use Rattle.conversions.specs.Data.{Ended, ended, settled, tried, converting}
 use Rattle.packed.specs.Packed.{packed, unpacked}
@@ -280,31 +281,31 @@ module _ (c : List ℕ) (r : Registers) (d : List ℕ) where
   unfolding tried pick
   converted-tests next t u to source x = go (any_beyond (length d) to (width_of t) source (width_of u)) x
     where
-      go : (b : Bool) (x : Result) → converted next (pick b (ended Outside d) (settled t d to x)) ≡ passed next d (of_conversion r (pick b (ended Outside d) (settled t d to x)))
+      go : (b : Bool) (x : Result) → converted next (pick b (ended (Err Address) d) (settled t d to x)) ≡ passed next d (of_conversion r (pick b (ended (Err Address) d) (settled t d to x)))
       go true x = refl
       go false (stores p) = refl
       go false not-held = refl
 
-  converted-done : (n t u to source : ℕ) (y : Result) (x : Conversion) (o : Outcome) (m : List ℕ)
+  converted-done : (n t u to source : ℕ) (y : Result) (x : Answer (Unit {0}) CoreFault) (o : Outcome) (m : List ℕ)
       → executed c r d ≡ passed (r.counter + n) d (of_conversion r (tried t u d to source y)) → ended x m ≡ tried t u d to source y
       → o ≡ conversion_outcome (r.counter + n) x → answer o m ≡ executed c r d
   converted-done n t u to source y x o m e l w =
       rw w (ap (converted (r.counter + n)) l ∙ converted-tests (r.counter + n) t u to source y ∙ sym e)
 
-  pub conversion-done : (from to destination source : ℕ) (x : Conversion) (o : Outcome) (m : List ℕ) → byte c r.counter ≡ 43
+  pub conversion-done : (from to destination source : ℕ) (x : Answer (Unit {0}) CoreFault) (o : Outcome) (m : List ℕ) → byte c r.counter ≡ 43
       → from ≡ byte_at 1 → to ≡ byte_at 2 → destination ≡ operand_at 3 → source ≡ operand_at 5 → ended x m ≡ converting from to d destination source
       → o ≡ conversion_outcome (r.counter + 7) x → answer o m ≡ executed c r d
   unfolding converting
   conversion-done from to destination source x o m e f g h k l =
       converted-done 7 to from destination source (converted_to from to (read_le d source (width_of from))) x o m (conversion-at e ∙ rw (f, g, h, k)) l
 
-  pub packing-done : (p : Operands) (x : Conversion) (o : Outcome) (m : List ℕ) → byte c r.counter ≡ 44 → p ≡ operands_at 4 c r
+  pub packing-done : (p : Operands) (x : Answer (Unit {0}) CoreFault) (o : Outcome) (m : List ℕ) → byte c r.counter ≡ 44 → p ≡ operands_at 4 c r
       → ended x m ≡ packing p.kind d p.to p.first → o ≡ conversion_outcome (r.counter + 6) x → answer o m ≡ executed c r d
   unfolding packing
   packing-done p x o m e f l =
       converted-done 6 p.kind p.kind p.to p.first (packed p.kind (read_le d p.first (width_of p.kind))) x o m (packing-at e ∙ rw f) l
 
-  pub unpacking-done : (p : Operands) (x : Conversion) (o : Outcome) (m : List ℕ) → byte c r.counter ≡ 45 → p ≡ operands_at 4 c r
+  pub unpacking-done : (p : Operands) (x : Answer (Unit {0}) CoreFault) (o : Outcome) (m : List ℕ) → byte c r.counter ≡ 45 → p ≡ operands_at 4 c r
       → ended x m ≡ unpacking p.kind d p.to p.first → o ≡ conversion_outcome (r.counter + 6) x → answer o m ≡ executed c r d
   unfolding unpacking
   unpacking-done p x o m e f l =

@@ -15,11 +15,8 @@ use Rattle.memory.specs.Memory.{splice, read_le}
 use Rattle.memory.proofs.Laws.{length-splice}
 use Rattle.values.specs.Types.{width_of}
 use Rattle.values.specs.Commands.{performed}
-use Rattle.conversions.specs.declared.Conversion.{Conversion}
-use Rattle.conversions.specs.declared.Conversion.TheVariants.{Done, Beyond, NotHeld}
-use Rattle.conversions.specs.Conversions.{Result, converted}
-use Rattle.conversions.specs.Data.{tried, converting}
-use Rattle.conversions.proofs.Data.{tried-length}
+use Rattle.conversions.specs.Conversions.{Result, stores, not-held, converted}
+use Rattle.conversions.specs.Data.{Ended, settled, tried, converting}
 use Rattle.packed.specs.Packed.{packed, unpacked}
 use Rattle.packed.specs.Data.{packing, unpacking}
 use Rattle.protocol.specs.declared.Registers.{Registers}
@@ -38,7 +35,7 @@ use Rattle.code.specs.Flow.{goes_on, goes_to, kind_at, target_at, after}
 use Rattle.code.specs.Code.{judge_code, is_start}
 use Rattle.code.specs.Instructions.{instruction_at}
 use Rattle.code.proofs.Sound.{sound, inside-code, start-zero}
-use Rattle.processor.specs.Processor.{Decided, refused, decided, fault_if, changed, at, of_element, ended_by, of_conversion, data_part, answer, controlled, executed}
+use Rattle.processor.specs.Processor.{Decided, refused, decided, fault_if, changed, at, of_element, of_conversion, data_part, answer, controlled, executed}
 use Rattle.processor.specs.Placed.{Placed, Leads}
 
 -- ---- the answers of the data part
@@ -76,15 +73,13 @@ module _ (r : Registers) (d : List ℕ) where
   address-answers = record { faults = inr (inr (inl refl)); keeps = tt; inside = tt }
 
   -- a conversion, whose data keep their size
-  ended-answers : (x : Conversion) (m : List ℕ) → length m ≡ length d → Answers r d (ended_by r x m)
-  ended-answers Done m e = record { faults = tt; keeps = e; inside = λ h. h }
-  ended-answers Beyond m e = address-answers
-  ended-answers NotHeld m e = record { faults = inr (inr (inr refl)); keeps = tt; inside = tt }
+  settled-answers : (t to : ℕ) (x : Result) → Answers r d (of_conversion r (settled t d to x))
+  settled-answers t to (stores p) = record { faults = tt; keeps = length-splice d to _; inside = λ h. h }
+  settled-answers t to not-held = record { faults = inr (inr (inr refl)); keeps = tt; inside = tt }
 
   conversion-answers : (t u to source : ℕ) (x : Result) → Answers r d (of_conversion r (tried t u d to source x))
-  conversion-answers t u to source x =
-      let y = tried t u d to source x in
-      ended-answers y.conversion y.memory (tried-length t u d to source x)
+  unfolding tried
+  conversion-answers t u to source x = by-pick (λ (e : Ended). Answers r d (of_conversion r e)) _ _ _ (λ _. address-answers) (λ _. settled-answers t to x)
 
   same-answers : (made : Bool) → Answers r d (decided made r.offset d)
   same-answers made = record { faults = tt; keeps = refl; inside = λ h. h }

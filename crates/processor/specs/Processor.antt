@@ -1,12 +1,12 @@
 -- Document 01, mode 2 and "Types and commands": what one instruction answers, and the data after it.
 -- In order: addresses; what the data decide; the data part of each command, in the document's order; control; one instruction.
 -- The limit and the count are applied outside, once for all commands (`instruction_by` of crate protocol).
-use Rattle.std.specs.Prelude.{ℕ, ◌+◌, ◌-◌, ◌*◌, Bool, false, not, List, length, ltb, leb, eqb}
-use Rattle.verdict.specs.Numbers.{index_bit, divisor_bit, address_bit, call_bit, conversion_bit}
+use Rattle.std.specs.Prelude.{ℕ, ◌+◌, ◌-◌, ◌*◌, Bool, false, not, List, length, ltb, leb, eqb, Result, Ok, Err}
+use Rattle.verdict.specs.Numbers.{index_bit, divisor_bit, address_bit, call_bit}
+use Rattle.verdict.specs.Faults.{bit_of}
+use Rattle.verdict.specs.declared.Fault.{Fault}
 use Rattle.verdict.specs.Verdict.{pick}
 use Rattle.memory.specs.Memory.{byte, splice, part, bytes_le, read_le}
-use Rattle.conversions.specs.declared.Conversion.{Conversion}
-use Rattle.conversions.specs.declared.Conversion.TheVariants.{Done, Beyond, NotHeld}
 use Rattle.conversions.specs.Data.{Ended, converting}
 use Rattle.packed.specs.Data.{packing, unpacking}
 use Rattle.values.specs.Commands.{beyond, any_beyond, typed_beyond, second_width, zero_divisor, performed}
@@ -59,11 +59,10 @@ of_element r d variable array index size count x =
     (fault_if (leb count (index_of r d index)) index_bit
     (fault_if (beyond (length d) (element_at r d array index size) size) address_bit x))
 
--- how a conversion ended: the data afterwards; bit 4, an address beyond the data; bit 6, a result that the destination can't hold
-abbrev pub ended_by : Registers → Conversion → List ℕ → Decided
-ended_by r Done m = changed r m
-ended_by r Beyond m = refused address_bit
-ended_by r NotHeld m = refused conversion_bit
+-- how a conversion ended: the data afterwards; or the bit of its fault: 4, an address beyond the data; 6, a result that the destination can't hold
+abbrev pub ended_by : Registers → Result (Unit {0}) Fault → List ℕ → Decided
+ended_by r (Ok _) m = changed r m
+ended_by r (Err f) m = refused (bit_of f)
 
 abbrev pub of_conversion : Registers → Ended → Decided
 of_conversion r x = ended_by r x.conversion x.memory

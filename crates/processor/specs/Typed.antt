@@ -1,13 +1,12 @@
 -- What an instruction hands to its typed command, and what the answer of a typed command or of a conversion is as an instruction's.
-use Rattle.std.specs.Prelude.{ℕ, ◌+◌, ◌<◌, List}
+use Rattle.std.specs.Prelude.{ℕ, ◌+◌, ◌<◌, List, Result}
 use Rattle.std.proofs.Math.Option.{Option, none, some}
-use Rattle.verdict.specs.Numbers.{address_bit, conversion_bit}
+use Rattle.verdict.specs.declared.Fault.{Fault as CoreFault}
+use Rattle.verdict.specs.Faults.{fault_bit}
 use Rattle.memory.specs.Memory.{byte, word}
 use Rattle.commands.specs.declared.Operands.{Operands}
 use Rattle.commands.specs.declared.Performed.{Performed}
 use Rattle.commands.specs.Attempts.{flag_bit}
-use Rattle.conversions.specs.declared.Conversion.{Conversion}
-use Rattle.conversions.specs.declared.Conversion.TheVariants.{Done as Converted, Beyond as Outside, NotHeld}
 use Rattle.protocol.specs.declared.Registers.{Registers}
 use Rattle.protocol.specs.declared.Outcome.{Outcome}
 use Rattle.protocol.specs.declared.Outcome.TheVariants.{Fault, Next}
@@ -37,7 +36,5 @@ abbrev pub outcome_of : ℕ → Performed → Outcome
 outcome_of next p = outcome_by next (flag_bit p)
 
 -- the same of a conversion
-abbrev pub conversion_outcome : ℕ → Conversion → Outcome
-conversion_outcome next Converted = Next next
-conversion_outcome next Outside = Fault address_bit
-conversion_outcome next NotHeld = Fault conversion_bit
+abbrev pub conversion_outcome : ℕ → Result (Unit {0}) CoreFault → Outcome
+conversion_outcome next x = outcome_by next (fault_bit x)

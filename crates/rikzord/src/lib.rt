@@ -247,7 +247,7 @@ pub fn step_registers(
 pub fn rikzord_lowest(run: &[u8], span: u32, answers: &mut [u8]) -> u8
     ensures { (result ≡ lowest_refusal run.now span (length answers.old)) × (answers.new ≡ answers_after run.now span answers.old) }
 {
-    holding::lowest(run, span, answers)
+    verdict::refusal_of(holding::lowest(run, span, answers))
 }
 
 // ---- beside the machine: whether runs end as orders of whole cycles
@@ -259,7 +259,7 @@ pub fn rikzord_check_cycles(file: &[u8], lines: &mut u8) -> u8
 {
     let answer = cycles::check_cycles(file);
     *lines = cycles::lines_byte(*lines, answer);
-    cycles::lines_refusal(answer)
+    verdict::refusal_of(answer)
 }
 
 // ---- the memory window: C gets the number and the place, since it can't be handed a part of a slice
@@ -316,7 +316,7 @@ pub fn rikzord_takes(
 ) -> u8
     ensures { outputs result lengths.new counts.new depths.new ≡ takes_lent file.now lengths.old counts.old depths.old }
 {
-    bounds::takes_to(file, lengths, counts, depths)
+    verdict::refusal_of(bounds::takes_to(file, lengths, counts, depths))
 }
 
 // ---- beside the machine: the two forms of a task set file
@@ -325,22 +325,24 @@ pub fn rikzord_takes(
 pub fn rikzord_to_new(file: &[u8], out: &mut [u8], length: &mut usize) -> u8
     ensures { converted_lent result length.new out.new ≡ to_new_lent file.now out.old length.old }
 {
-    let converted = forms::to_new(file, out);
-    if converted.refusal != 0 {
-        return converted.refusal;
+    match forms::to_new(file, out) {
+        Ok(written) => {
+            *length = written;
+            0
+        }
+        Err(refusal) => refusal.number(),
     }
-    *length = converted.length;
-    0
 }
 
 // The file in the old form: 32 where it has start values.
 pub fn rikzord_to_old(file: &[u8], out: &mut [u8], length: &mut usize) -> u8
     ensures { converted_lent result length.new out.new ≡ to_old_lent file.now out.old length.old }
 {
-    let converted = forms::to_old(file, out);
-    if converted.refusal != 0 {
-        return converted.refusal;
+    match forms::to_old(file, out) {
+        Ok(written) => {
+            *length = written;
+            0
+        }
+        Err(refusal) => refusal.number(),
     }
-    *length = converted.length;
-    0
 }

@@ -15,7 +15,7 @@ fn case(label: &[u8], file: &[u8]) {
     let lines = cycles::check_cycles(file);
     text(label);
     text(b":");
-    number(cycles::lines_refusal(lines));
+    number(verdict::refusal_of(lines));
     number(cycles::lines_byte(77, lines));
     text(b"\n");
 }

@@ -2,7 +2,7 @@
 -- it is of; float destinations; what is not held; all of it. Assumes nothing.
 use mathlib.Core.Path.{◌≡◌, refl, sym, ap, ◌∙◌, subst}
 use mathlib.Core.Bool.{Bool, true, false}
-use mathlib.Core.Logic.{◌⊎◌, ⊎_elim}
+use mathlib.Core.Logic.{⊎_elim}
 use Prim.Native.Nat.{ℕ, ◌*◌, ◌^◌, ◌≤◌, ◌<◌}
 use native.Mathlib.Omega.{arith}
 use lib.IntN.{ℤ, pos, nat_abs}
@@ -16,7 +16,7 @@ use Rattle.values.specs.Types.{width_of}
 use Rattle.values.specs.Values.{typed, stored, pattern_of}
 use Rattle.values.specs.declared.Value.{Value}
 use Rattle.values.specs.declared.Value.TheVariants.{Bool as VBool, Signed, Real, Lreal}
-use Rattle.conversions.specs.declared.Converted.TheVariants.{NotHeld}
+use Rattle.std.specs.Prelude.{None}
 use Rattle.conversions.specs.Conversions.{Result, stores, not-held, with_sign, nearest_whole, to_whole, narrow, to_real, to_lreal, to_type, result_as, converted}
 use Rattle.conversions.specs.Kept.{Whole, number_at}
 use Rattle.conversions.specs.Rounding.{Rounded}
@@ -94,17 +94,17 @@ lreal-nan from p = ⊎_elim (λ x. ap to_lreal x) (λ x. ap to_lreal x)
 none-stands : (to : ℕ) (z : ℤ) → Whole to → holds to z ≡ not-held → (q : ℕ) → q < 2 ^ (8 * width_of to) → number_at to q ≡ z → ⊥
 none-stands to z w h q l e = absurd-bool (ap is_stored (sym h ∙ sym (by_number to to q w w ∙ ap (holds to) e) ∙ same_whole to q w l))
 
-lost : (from to p : ℕ) (x : Float) → ((b : Bool) (w : ℕ) → nearest_whole b w x ≡ NotHeld) → StandsFor from p x → Whole to → converted from to p ≡ not-held
+lost : (from to p : ℕ) (x : Float) → ((b : Bool) (w : ℕ) → nearest_whole b w x ≡ None) → StandsFor from p x → Whole to → converted from to p ≡ not-held
 unfolding converted to_whole to_type
 lost from to p x n s w =
     same-destination (typed from p) (VBool false) (λ b k. ⊎_elim (λ y. ap (to_whole b k) y ∙ n b k) (λ y. ap (to_whole b k) y ∙ n b k) s) to w
     ∙ each-whole (λ (t : ℕ). result_as t (to_type t (VBool false)) ≡ not-held) refl refl refl refl refl refl refl refl to w
 
-nan-not : (b : Bool) (w : ℕ) → nearest_whole b w nan ≡ NotHeld
+nan-not : (b : Bool) (w : ℕ) → nearest_whole b w nan ≡ None
 unfolding nearest_whole
 nan-not b w = refl
 
-infinity-not : (s b : Bool) (w : ℕ) → nearest_whole b w (inf s) ≡ NotHeld
+infinity-not : (s b : Bool) (w : ℕ) → nearest_whole b w (inf s) ≡ None
 unfolding nearest_whole
 infinity-not s b w = refl
 

@@ -12,22 +12,18 @@ pub fn filled() -> [u8; 1025]
     ensures { 1025 ≡ length result }
 {
     let mut all = [0u8; 1025];
-    let mut i: usize = 0;
-    while i < 1025 {
+    for i in 0..1025 {
         all[i] = pattern(i);
-        i += 1;
     }
     all
 }
 
 // Whether every byte is as `filled` left it, behind the lent ones too.
 pub fn kept(s: &[u8; 1025]) -> bool {
-    let mut i: usize = 0;
-    while i < 1025 {
+    for i in 0..1025 {
         if s[i] != pattern(i) {
             return false;
         }
-        i += 1;
     }
     true
 }

@@ -14,7 +14,6 @@ mod state_words;
 ghost use Rattle.io.specs.Counts.{IsPrefixLen};
 
 use call_numbers::{fresh_says, next_says, run_says, step_says};
-use listing::Written;
 use printing::{NO_ANSWER, as_given, named, show, told};
 use state_words::{GIVEN, byte_value, state_in_words};
 
@@ -43,7 +42,7 @@ fn asked(setting: &[u8], line: &[u8], file: &[u8], trace: &[u8], order: &[u8]) {
 // What `cores` prints.
 fn listed(line: &[u8], file: &[u8], trace: &[u8], order: &[u8]) {
     let mut out = [0u8; console::TEXT];
-    if let Written::Text(n) = console::output(file, trace, order, &mut out) {
+    if let Ok(n) = console::output(file, trace, order, &mut out) {
         show(line, &out, n);
     }
 }

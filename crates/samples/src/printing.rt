@@ -37,13 +37,11 @@ fn last_field_is(line: &[u8], text: &[u8]) -> bool {
     if line[from - 2] != b';' {
         return false;
     }
-    let mut i: usize = 0;
-    while i < text.len() {
+    for (i, &byte) in text.iter().enumerate() {
         let c = line[from + i];
-        if c != text[i] && (c != b'/' || text[i] != b'\n') {
+        if c != byte && (c != b'/' || byte != b'\n') {
             return false;
         }
-        i += 1;
     }
     true
 }
@@ -53,8 +51,7 @@ pub fn show(line: &[u8], out: &[u8], n: usize) {
     if out.len() < n {
         return;
     }
-    let start = 0;
-    text(&out[start..n]);
+    text(&out[..n]);
     named(line);
-    told(last_field_is(line, &out[start..n]));
+    told(last_field_is(line, &out[..n]));
 }

@@ -24,17 +24,6 @@ fn same_table(a: Held, b: Held) -> bool {
         && same_registers(x[3], y[3])
 }
 
-fn same_entries(x: [u16; 64], y: [u16; 64]) -> bool {
-    let mut i: usize = 0;
-    while i < 64 {
-        if x[i] != y[i] {
-            return false;
-        }
-        i += 1;
-    }
-    true
-}
-
 // Entries past the line too.
 fn same_semaphore(a: Semaphore, b: Semaphore) -> bool {
     a.holder == b.holder
@@ -49,6 +38,6 @@ pub fn same_state(a: Held, b: Held) -> bool {
     a.count == b.count
         && same_semaphore(a.semaphore, b.semaphore)
         && same_table(a, b)
-        && same_entries(states::places_of(a), states::places_of(b))
-        && same_entries(states::offsets_of(a), states::offsets_of(b))
+        && states::places_of(a) == states::places_of(b)
+        && states::offsets_of(a) == states::offsets_of(b)
 }

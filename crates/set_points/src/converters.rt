@@ -1,12 +1,12 @@
 // The converters between the forms of a file, with an output of bytes that hold 1.
 use super::printing::{bytes, number, text};
-use forms::FormAnswer;
+use verdict::Refusal;
 
-fn shown(label: &[u8], converted: FormAnswer, out: &[u8]) {
+fn shown(label: &[u8], converted: Result<usize, Refusal>, out: &[u8]) {
     text(label);
     text(b":");
-    number(converted.refusal as usize);
-    number(converted.length);
+    number(verdict::refusal_of(converted) as usize);
+    number(converted.unwrap_or(0));
     text(b" output");
     bytes(out);
     text(b"\n");

@@ -15,10 +15,8 @@ fn byte(b: u8) {
 }
 
 pub fn bytes(s: &[u8]) {
-    let mut i = 0;
-    while i < s.len() {
-        byte(s[i]);
-        i += 1;
+    for &b in s {
+        byte(b);
     }
 }
 

@@ -4,8 +4,8 @@
 #![tactic(auto)]
 
 use input_files::read_file;
-use listing::Written;
 use std::rt::Files;
+use verdict::Refusal;
 
 // One byte more than the most, so that a longer file is seen.
 const FILE: usize = console::MOST_FILE + 1;
@@ -18,11 +18,10 @@ const ORDER: usize = console::MOST_ORDER + 1;
 const OUTPUT: i32 = 1;
 
 // The text that was written. There always is one: TEXT bytes hold any.
-fn print(written: Written, out: &[u8]) {
-    if let Written::Text(n) = written {
+fn print(written: Result<usize, Refusal>, out: &[u8]) {
+    if let Ok(n) = written {
         if n <= out.len() {
-            let start = 0;
-            io::write_all(OUTPUT, &out[start..n]);
+            io::write_all(OUTPUT, &out[..n]);
         }
     }
 }

@@ -4,7 +4,7 @@ ghost use Rattle.commands.specs.Attempts.{OperandsGiven};
 use super::names::type_of;
 use super::vector_line::Line;
 use commands::{Operands, Performed};
-use conversions::Conversion;
+use verdict::Fault;
 
 #[derive(Clone, Copy)]
 enum Outcome {
@@ -45,11 +45,11 @@ fn run(code: u8, t: u8, a: u64, b: u64) -> Outcome {
 }
 
 // How a conversion on memory ended, whose result stands at 16.
-fn ended(conversion: Conversion, d: &[u8; 24]) -> Outcome {
+fn ended(conversion: Result<(), Fault>, d: &[u8; 24]) -> Outcome {
     match conversion {
-        Conversion::Done => Outcome::Stored(memory::load(d, 16, 8)),
-        Conversion::NotHeld => Outcome::Fault,
-        Conversion::Beyond => Outcome::Unknown,
+        Ok(()) => Outcome::Stored(memory::load(d, 16, 8)),
+        Err(Fault::Conversion) => Outcome::Fault,
+        Err(_) => Outcome::Unknown,
     }
 }
 

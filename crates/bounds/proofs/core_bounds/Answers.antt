@@ -4,7 +4,7 @@ use mathlib.Core.List.{List}
 use Prim.Native.Nat.{ℕ}
 use native.Mathlib.Omega.{arith}
 use Rattle.taskset.proofs.Exact.{keeps-rules}
-use Rattle.bounds.specs.Bounds.{Found}
+use Rattle.bounds.specs.Bounds.{FoundAs}
 use Rattle.bounds.proofs.Answer.{core-in}
 use Rattle.bounds.proofs.core_bounds.Goals as goal
 
@@ -28,5 +28,4 @@ bounds_in-requires c = let core = core-in c.args.file.now _ c.args.k c.requires.
 
 pub returns : goal.returns
 returns c = let core = core-in c.args.file.now _ c.args.k c.requires.0 c.requires.1 c.requires.2 in
-    let found = c.bounds_in.result in
-    subst (λ (l : List ℕ). Found l found.refusal found.count found.depth) core.is c.bounds_in.ensures
+    subst (λ (l : List ℕ). FoundAs l c.bounds_in.result) core.is c.bounds_in.ensures

@@ -7,27 +7,22 @@ use Rattle.bounds.specs.Bounds.{depth_by}
 use Rattle.bounds.proofs.Bytes.{kind-returns, kind-jumps, kind-branches, kind-calls, depth-caps, kept-as}
 use Rattle.bounds.proofs.depth_at.Goals as goal
 
-pub returns-then-b-eq0 : goal.returns-then-b-eq0
+pub returns-in-0 : goal.returns-in-0
 unfolding depth_by
-returns-then-b-eq0 c = kept-as depth_by depth-caps Returns _ _ _ _ _ _ (kind-returns _ _ c.if-b-eq0.true) c.capped-a.ensures c.capped-t.ensures refl
+returns-in-0 c = kept-as depth_by depth-caps Returns _ _ _ _ _ _ (kind-returns _ _ c.in-0.is) c.min-a.ensures c.min-t.ensures (refl)
 
-pub returns-then-b-eq1 : goal.returns-then-b-eq1
+pub returns-in-1 : goal.returns-in-1
 unfolding depth_by
-returns-then-b-eq1 c = kept-as depth_by depth-caps Jumps _ _ _ _ _ _ (kind-jumps _ _ c.if-b-eq1.true) c.capped-a.ensures c.capped-t.ensures
-    (omega (arith, c.capped-t.ensures))
+returns-in-1 c = kept-as depth_by depth-caps Jumps _ _ _ _ _ _ (kind-jumps _ _ c.in-1.is) c.min-a.ensures c.min-t.ensures (omega (arith, c.min-t.ensures))
 
-pub returns-then-b-le3 : goal.returns-then-b-le3
+pub returns-in-2-to-3 : goal.returns-in-2-to-3
 unfolding depth_by
-returns-then-b-le3 c = kept-as depth_by depth-caps Branches _ _ _ _ _ _
-    (kind-branches _ _ (omega (arith, c.if-b-eq0.false, c.if-b-eq1.false)) c.if-b-le3.true) c.capped-a.ensures
-    c.capped-t.ensures (omega (arith, c.larger.ensures, c.capped-a.ensures, c.capped-t.ensures))
+returns-in-2-to-3 c = kept-as depth_by depth-caps Branches _ _ _ _ _ _ (kind-branches _ _ (omega arith) (omega arith)) c.min-a.ensures c.min-t.ensures (omega (arith, c.max.ensures, c.min-a.ensures, c.min-t.ensures))
 
-pub returns-then-b-le5 : goal.returns-then-b-le5
+pub returns-in-4-to-5 : goal.returns-in-4-to-5
 unfolding depth_by
-returns-then-b-le5 c = kept-as depth_by depth-caps Calls _ _ _ _ _ _ (kind-calls _ _ c.if-b-le3.false c.if-b-le5.true) c.capped-a.ensures c.capped-t.ensures
-    (omega (arith, c.larger-then-b-le5.ensures, c.capped.ensures))
+returns-in-4-to-5 c = kept-as depth_by depth-caps Calls _ _ _ _ _ _ (kind-calls _ _ (omega arith) (omega arith)) c.min-a.ensures c.min-t.ensures (omega (arith, c.max-in-4-to-5.ensures, c.min.ensures))
 
-pub returns : goal.returns
+pub returns-in_default : goal.returns-in_default
 unfolding depth_by
-returns c = kept-as depth_by depth-caps Passes _ _ _ _ _ _ (kind-passes _ _ c.if-b-le5.false) c.capped-a.ensures c.capped-t.ensures
-    (omega (arith, c.capped-a.ensures))
+returns-in_default c = kept-as depth_by depth-caps Passes _ _ _ _ _ _ (kind-passes _ _ (omega arith)) c.min-a.ensures c.min-t.ensures (omega (arith, c.min-a.ensures))

@@ -58,15 +58,9 @@ pub bounds-depths-p : goal.bounds-depths-p
 bounds-depths-p c = let pass = c.loop-p.invariant in
     omega (arith, in_map pass, pass.back.size-depths, c.loop-p-test.true)
 
-pub loop-p-smaller-then-starts-p-eq1 : goal.loop-p-smaller-then-starts-p-eq1
-loop-p-smaller-then-starts-p-eq1 c = omega (arith, c.loop-p-test.true)
-
 pub loop-p-preserved-then-starts-p-eq1 : goal.loop-p-preserved-then-starts-p-eq1
 loop-p-preserved-then-starts-p-eq1 c = passing-more c.loop-p.invariant _ _ _ c.loop-p-test.true c.if-starts-p-eq1.true
     (sym c.rises_at.ensures ∙ c.if-not-rises_at.false) c.target_at-t.ensures c.count_at-count.ensures c.depth_at-depth.ensures
-
-pub loop-p-smaller : goal.loop-p-smaller
-loop-p-smaller c = omega (arith, c.loop-p-test.true)
 
 pub loop-p-preserved : goal.loop-p-preserved
 loop-p-preserved c = passing-skip c.loop-p.invariant c.loop-p-test.true c.if-starts-p-eq1.false

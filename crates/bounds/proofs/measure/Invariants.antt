@@ -4,6 +4,3 @@ use Rattle.bounds.proofs.measure.Given as goal
 
 abbrev pub invariant-loop-p : goal.invariant-loop-p
 invariant-loop-p l = Passing l.code l.starts l.p l.counts l.depths l.count l.depth
-
-abbrev pub decreases-loop-p : goal.decreases-loop-p
-decreases-loop-p l = l.p

@@ -1,31 +1,30 @@
 -- `bounds::takes_to` meets its contract: nothing is written before the refusal is known. Assumes nothing.
-use Rattle.bounds.proofs.Outputs.{output-refused, room, output-done}
+use mathlib.Core.Path.{refl}
+use native.Mathlib.Omega.{arith}
+use lib.ListN.{length}
+use Rattle.verdict.proofs.Refusals.{refused, handed}
+use Rattle.bounds.proofs.Outputs.{own_first, too_short, long-enough, output-refused, room, output-done}
 use Rattle.bounds.proofs.takes_to.Goals as goal
 
-pub returns-then-refusal-ne0 : goal.returns-then-refusal-ne0
-returns-then-refusal-ne0 c = output-refused c.args.file.now _ _ _ _ _ c.takes-answer.ensures c.output_refusal-refusal.ensures c.if-refusal-ne0.true
+pub returns-in_err-taken : goal.returns-in_err-taken
+returns-in_err-taken c = rw (handed _ _ c.from_residual.ensures.1) (output-refused c.args.file.now _ _ _ _ _ c.in_err-taken.ensures (own_first _ _ _ _ (refused _)) (refused _))
 
-pub put_lengths-requires : goal.put_lengths-requires
-put_lengths-requires c = let lent = c.args in
-    let answer = c.takes-answer.ensures in
-    let number = c.output_refusal-refusal.ensures in
-    let x = room lent.file.now lent.lengths.now lent.counts.now lent.depths.now _ _ answer number c.if-refusal-ne0.false in
-    x.for-lengths
+pub returns-then-lengths-lt3 : goal.returns-then-lengths-lt3
+returns-then-lengths-lt3 c = let lent = c.args in
+    output-refused lent.file.now _ _ _ _ 21 c.in_ok-taken.ensures
+    (too_short _ (length lent.lengths.now) (length lent.counts.now) (length lent.depths.now) refl (λ a b d. let z : ⊥ = omega arith in z))
+    (λ e. absurd (let z : ⊥ = omega arith in z))
 
 pub put_column-requires : goal.put_column-requires
 put_column-requires c = let lent = c.args in
-    let answer = c.takes-answer.ensures in
-    let number = c.output_refusal-refusal.ensures in
-    let x = room lent.file.now lent.lengths.now lent.counts.now lent.depths.now _ _ answer number c.if-refusal-ne0.false in
+    let x = room lent.file.now lent.lengths.now lent.counts.now lent.depths.now _ 0 c.in_ok-taken.ensures (long-enough _ _ _ _ refl (omega arith) (omega arith) (omega arith)) refl in
     (x.for-counts, x.of-counts)
 
 pub put_column-requires-2 : goal.put_column-requires-2
 put_column-requires-2 c = let lent = c.args in
-    let answer = c.takes-answer.ensures in
-    let number = c.output_refusal-refusal.ensures in
-    let x = room lent.file.now lent.lengths.now lent.counts.now lent.depths.now _ _ answer number c.if-refusal-ne0.false in
+    let x = room lent.file.now lent.lengths.now lent.counts.now lent.depths.now _ 0 c.in_ok-taken.ensures (long-enough _ _ _ _ refl (omega arith) (omega arith) (omega arith)) refl in
     (x.for-depths, x.of-depths)
 
 pub returns : goal.returns
-returns c = output-done c.args.file.now _ _ _ _ _ c.takes-answer.ensures c.output_refusal-refusal.ensures c.if-refusal-ne0.false _ _ _
+returns c = output-done c.args.file.now _ _ _ _ 0 c.in_ok-taken.ensures (long-enough _ _ _ _ refl (omega arith) (omega arith) (omega arith)) refl _ _ _
     c.put_lengths.ensures c.put_column.ensures c.put_column-2.ensures

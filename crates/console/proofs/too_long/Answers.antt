@@ -11,6 +11,6 @@ pub returns-then-trace-gt-MOST_TRACE : goal.returns-then-trace-gt-MOST_TRACE
 unfolding too_long
 returns-then-trace-gt-MOST_TRACE c = simp (le-ltb _ _ c.if-file-gt-MOST_FILE.false, lt-ltb _ _ c.if-trace-gt-MOST_TRACE.true)
 
-pub returns : goal.returns
+pub returns-else-trace-gt-MOST_TRACE : goal.returns-else-trace-gt-MOST_TRACE
 unfolding too_long
-returns c = simp (le-ltb _ _ c.if-file-gt-MOST_FILE.false, le-ltb _ _ c.if-trace-gt-MOST_TRACE.false)
+returns-else-trace-gt-MOST_TRACE c = simp (le-ltb _ _ c.if-file-gt-MOST_FILE.false, le-ltb _ _ c.if-trace-gt-MOST_TRACE.false)

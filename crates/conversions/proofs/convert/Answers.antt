@@ -2,7 +2,7 @@
 use lib.Ieee.{Float}
 use Rattle.std.proofs.Common.{ap}
 use Rattle.values.specs.declared.Value.TheVariants.{Real, Lreal}
-use Rattle.conversions.specs.declared.Converted.TheVariants.{Gives}
+use Rattle.std.specs.Prelude.{Some}
 use Rattle.conversions.specs.Conversions.{to_type}
 use Rattle.conversions.proofs.Types.{at-type, no-type}
 use Rattle.conversions.proofs.convert.Goals as goal
@@ -41,11 +41,11 @@ returns-in-8 c = at-type 8 c.args.v c.in-8.is c.to_whole-in-8.ensures
 
 pub returns-in-9 : goal.returns-in-9
 unfolding to_type
-returns-in-9 c = at-type 9 c.args.v c.in-9.is (ap (λ (x : Float). Gives (Real x)) c.to_real.ensures)
+returns-in-9 c = at-type 9 c.args.v c.in-9.is (ap (λ (x : Float). Some (Real x)) c.to_real.ensures)
 
 pub returns-in-10 : goal.returns-in-10
 unfolding to_type
-returns-in-10 c = at-type 10 c.args.v c.in-10.is (ap (λ (x : Float). Gives (Lreal x)) c.to_lreal.ensures)
+returns-in-10 c = at-type 10 c.args.v c.in-10.is (ap (λ (x : Float). Some (Lreal x)) c.to_lreal.ensures)
 
 pub returns-in_default : goal.returns-in_default
 unfolding to_type

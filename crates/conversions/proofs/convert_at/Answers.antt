@@ -3,7 +3,8 @@ use Rattle.std.proofs.Common.{length, ap, ◌∙◌}
 use Rattle.values.specs.Values.{read_value}
 use Rattle.values.specs.Types.{width_of}
 use Rattle.memory.specs.Memory.{read_le}
-use Rattle.conversions.specs.declared.Converted.{Converted}
+use Rattle.values.specs.declared.Value.{Value}
+use Rattle.std.specs.Prelude.{Option}
 use Rattle.conversions.specs.Conversions.{result_as, to_type, converted}
 use Rattle.conversions.specs.Data.{settled, converting}
 use Rattle.commands.proofs.Attempts.{place-fits}
@@ -39,5 +40,5 @@ returns c = let a = c.args in
     was-tried a.d.now a.destination _ a.source _ a.to a.from _ c.either_beyond.ensures c.width_of.ensures
     c.width_of-2.ensures (converted a.from a.to (read_le a.d.now a.source (width_of a.from))) c.if-either_beyond.false _ _
     (c.settle.ensures
-    ∙ ap (λ (x : Converted). settled a.to a.d.now a.destination (result_as a.to x))
+    ∙ ap (λ (x : Option Value). settled a.to a.d.now a.destination (result_as a.to x))
     (c.convert.ensures ∙ ap (to_type a.to) c.read_value-v.ensures))

@@ -1,5 +1,5 @@
 -- `conversions::digits_of` meets its contract: the two cases are those of the definition. Assumes nothing.
-use Rattle.std.proofs.Common.{◌-◌, arith, eq-eqb, ne_eqb}
+use Rattle.std.proofs.Common.{arith, eq-eqb, ne_eqb}
 use Rattle.conversions.specs.Digits.{digits_in}
 use Rattle.conversions.proofs.digits_of.Goals as goal
 

@@ -7,6 +7,6 @@ pub returns-then-size-p : goal.returns-then-size-p
 unfolding beyond
 returns-then-size-p c = rw (lt-ltb _ _ c.if-size-p.true)
 
-pub returns : goal.returns
+pub returns-else-size-p : goal.returns-else-size-p
 unfolding beyond
-returns c = rw (le-ltb _ _ c.if-size-p.false)
+returns-else-size-p c = rw (le-ltb _ _ c.if-size-p.false)

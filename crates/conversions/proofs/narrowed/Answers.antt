@@ -5,7 +5,7 @@ use lib.Ieee as Ieee
 use denote.Floats.{passes}
 use Rattle.conversions.specs.Conversions.{narrow}
 use Rattle.conversions.specs.Digits.{digits_in}
-use Rattle.std.proofs.Common.{ℕ, ◌-◌, ◌*◌, ◌^◌, leb, sym, ap, ◌∙◌, arith}
+use Rattle.std.proofs.Common.{ℕ, ◌*◌, ◌^◌, leb, sym, ap, ◌∙◌, arith}
 use Rattle.values.proofs.Floats.{differs, not-differs, zero_by_zero}
 use Rattle.conversions.proofs.Whole as Whole
 use Rattle.conversions.proofs.narrowed.Goals as goal

@@ -1,5 +1,5 @@
 -- `conversions::nearest_by_half` meets its contract: the three outcomes, by how the remainder compares with the half. Assumes nothing.
-use Rattle.std.proofs.Common.{◌-◌, arith}
+use Rattle.std.proofs.Common.{arith}
 use Rattle.conversions.proofs.Rounding as Rounding
 use Rattle.conversions.proofs.nearest_by_half.Goals as goal
 

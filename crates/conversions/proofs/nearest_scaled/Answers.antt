@@ -1,5 +1,5 @@
 -- `conversions::nearest_scaled` meets its contract: a power of two goes into the number or out of the divisor. Assumes nothing.
-use Rattle.std.proofs.Common.{◌-◌, sym, ◌∙◌, le_of_lt, mod-eq_of_lt}
+use Rattle.std.proofs.Common.{sym, ◌∙◌, le_of_lt, mod-eq_of_lt}
 use Rattle.conversions.proofs.Rounding as Rounding
 use Rattle.conversions.proofs.nearest_scaled.Goals as goal
 

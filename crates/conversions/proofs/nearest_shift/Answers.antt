@@ -2,13 +2,15 @@
 use lib.Ieee.Nearest.{closest}
 use lib.Pow.{pow-lt}
 use Rattle.std.proofs.Common.{◌≡◌, ℕ, ◌-◌, ◌*◌, ◌^◌, ◌<◌, sym, ap, ◌∙◌, subst, arith, pow_pos}
+use Rattle.values.proofs.Widths.{shifted}
 use Rattle.conversions.proofs.Rounding as Rounding
 use Rattle.conversions.proofs.nearest_shift.Goals as goal
 
 pub nearest_by_half-requires : goal.nearest_by_half-requires
 nearest_by_half-requires c = let a = c.args in
     let h : a.k - 1 < 63 = omega arith in
-    (subst (λ (x : ℕ). 0 < x) (sym c.power.ensures) (pow_pos (a.k - 1)), subst (λ (x : ℕ). x < 2 ^ 63) (sym c.power.ensures) (pow-lt h))
+    let e = shifted (a.k - 1) (omega arith) in
+    (subst (λ (x : ℕ). 0 < x) (sym e) (pow_pos (a.k - 1)), subst (λ (x : ℕ). x < 2 ^ 63) (sym e) (pow-lt h))
 
 pub returns-then-k-eq0 : goal.returns-then-k-eq0
 returns-then-k-eq0 c = let a = c.args in
@@ -18,7 +20,7 @@ returns-then-k-eq0 c = let a = c.args in
 pub returns-then-k-lt64 : goal.returns-then-k-lt64
 returns-then-k-lt64 c = let a = c.args in
     let h : 0 < a.k = omega arith in
-    c.nearest_by_half.ensures ∙ ap (λ (x : ℕ). closest a.m x) (ap (λ (x : ℕ). x * 2) c.power.ensures ∙ Rounding.double a.k h)
+    c.nearest_by_half.ensures ∙ ap (λ (x : ℕ). closest a.m x) (ap (λ (x : ℕ). x * 2) (shifted (a.k - 1) (omega arith)) ∙ Rounding.double a.k h)
 
 pub returns-then-m-gt9223372036854775808 : goal.returns-then-m-gt9223372036854775808
 returns-then-m-gt9223372036854775808 c = sym (ap (λ (x : ℕ). closest c.args.m (2 ^ x)) c.if-k-eq64.true ∙ Rounding.at-64-up c.args.m c.if-m-gt9223372036854775808.true c.ranges.m.fits)

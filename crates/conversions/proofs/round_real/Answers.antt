@@ -1,7 +1,7 @@
 -- `conversions::round_real` meets its contract: the float of the pattern. Assumes nothing.
 use lib.Ieee.{binary32}
 use Rattle.conversions.proofs.Single as Single
-use Rattle.std.proofs.Common.{◌-◌, ◌*◌, ◌^◌}
+use Rattle.std.proofs.Common.{◌*◌, ◌^◌}
 use Rattle.conversions.proofs.round_real.Goals as goal
 
 pub float_from_bits-result : goal.float_from_bits-result

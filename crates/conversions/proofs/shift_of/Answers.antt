@@ -1,6 +1,6 @@
 -- `conversions::shift_of` meets its contract: the two cases are those of the definition. Assumes nothing.
 use Rattle.conversions.specs.Digits.{shift_in}
-use Rattle.std.proofs.Common.{◌-◌, refl, arith}
+use Rattle.std.proofs.Common.{refl, arith}
 use Rattle.conversions.proofs.shift_of.Goals as goal
 
 pub returns-then-e-eq0 : goal.returns-then-e-eq0

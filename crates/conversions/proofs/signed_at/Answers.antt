@@ -4,7 +4,7 @@ use Rattle.std.proofs.Common.{ℕ, ◌-◌, ◌^◌, ◌<◌, ◌≤◌, true, f
 use Rattle.values.specs.declared.Value.TheVariants.{Signed}
 use Rattle.values.proofs.Signs.{read64}
 use Rattle.values.proofs.Widths as Widths
-use Rattle.conversions.specs.declared.Converted.TheVariants.{Gives}
+use Rattle.std.specs.Prelude.{Some}
 use Rattle.conversions.proofs.Whole as Whole
 use Rattle.conversions.proofs.signed_at.Goals as goal
 
@@ -22,7 +22,7 @@ pub returns-then-n-half : goal.returns-then-n-half
 returns-then-n-half c = let h = c.half_of-half.ensures in
     let n = c.args.n in
     let p : 0 < n = omega arith in
-    ap (λ (z : ℤ). Gives (Signed z)) (read64 c.below_zero.result c.below_zero.type_inv ∙ c.below_zero.ensures)
+    ap (λ (z : ℤ). Some (Signed z)) (read64 c.below_zero.result c.below_zero.type_inv ∙ c.below_zero.ensures)
     ∙ Whole.below-held c.args.w n p (subst (λ (x : ℕ). n - 1 < x) h c.if-n-half.true)
     ∙ Whole.held_same true true true c.args.negative c.args.w n n refl (sym c.if-negative.true) refl
 
@@ -37,7 +37,7 @@ pub returns-then-n-half-2 : goal.returns-then-n-half-2
 returns-then-n-half-2 c = let h = c.half_of-half.ensures in
     let n = c.args.n in
     let l : n < 2 ^ 63 = omega (arith, h, Widths.half_le c.args.w c.requires.1) in
-    ap (λ (z : ℤ). Gives (Signed z)) (to_z_pos w64 l)
+    ap (λ (z : ℤ). Some (Signed z)) (to_z_pos w64 l)
     ∙ Whole.above-held c.args.w n (subst (λ (x : ℕ). n < x) h c.if-n-half-2.true)
     ∙ Whole.held_same true true false c.args.negative c.args.w n n refl (sym c.if-negative.false) refl
 

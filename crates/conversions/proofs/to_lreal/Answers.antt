@@ -4,7 +4,7 @@ use lib.Ieee as Ieee
 use Rattle.conversions.specs.Conversions.{to_lreal}
 use Rattle.values.proofs.Floats.{zero_by_zero}
 use Rattle.values.proofs.Signs.{read64}
-use Rattle.std.proofs.Common.{◌-◌, sym, ap, ◌∙◌}
+use Rattle.std.proofs.Common.{sym, ap, ◌∙◌}
 use Rattle.conversions.proofs.to_lreal.Goals as goal
 
 pub returns-in-Bool : goal.returns-in-Bool

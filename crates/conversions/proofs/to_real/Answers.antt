@@ -3,7 +3,7 @@ use lib.Ieee.{binary32}
 use lib.Ieee as Ieee
 use lib.Signed.{lt_z}
 use Rattle.conversions.specs.Conversions.{to_real}
-use Rattle.std.proofs.Common.{ℕ, ◌-◌, ◌*◌, ◌^◌, false, ℤ, pos, nat_abs, sym, ap, ◌∙◌, w64, to_z, of_z}
+use Rattle.std.proofs.Common.{ℕ, ◌*◌, ◌^◌, false, ℤ, pos, nat_abs, sym, ap, ◌∙◌, w64, to_z, of_z}
 use Rattle.values.proofs.Floats.{zero_by_zero}
 use Rattle.values.proofs.Signs.{read64}
 use Rattle.conversions.proofs.Whole as Whole
@@ -18,7 +18,7 @@ unfolding to_real
 returns-in-Signed c = let z = c.in-Signed.z in
     let r = read64 z c.in-Signed.known_told-1-own.given.0.1 in
     c.whole_real.ensures
-    ∙ ap (λ (n : ℕ). Ieee.round binary32 (lt_z (to_z w64 (of_z w64 z)) (pos 0)) (n * 2 ^ 1074) (2 ^ 1074)) c.magnitude.ensures
+    ∙ ap (λ (n : ℕ). Ieee.round binary32 (lt_z (to_z w64 (of_z w64 z)) (pos 0)) (n * 2 ^ 1074) (2 ^ 1074)) c.unsigned_abs.ensures.value
     ∙ ap (λ (y : ℤ). Ieee.round binary32 (lt_z y (pos 0)) (nat_abs y * 2 ^ 1074) (2 ^ 1074)) r
     ∙ Whole.whole_scaled (lt_z z (pos 0)) (nat_abs z)
     ∙ Whole.of_int_is binary32 z

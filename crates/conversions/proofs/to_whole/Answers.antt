@@ -1,7 +1,7 @@
 -- `conversions::to_whole` meets its contract: each kind is a clause of the definition; a REAL is widened first, which keeps its value. Assumes nothing.
 use lib.Signed.{lt_z}
 use Rattle.conversions.specs.Conversions.{to_whole, held_in, with_sign, nearest_whole}
-use Rattle.std.proofs.Common.{ℕ, ◌-◌, ℤ, pos, nat_abs, sym, ap, ◌∙◌, w64, to_z, of_z}
+use Rattle.std.proofs.Common.{ℕ, ℤ, pos, nat_abs, sym, ap, ◌∙◌, w64, to_z, of_z}
 use Rattle.values.proofs.Signs.{read64}
 use Rattle.conversions.proofs.Whole as Whole
 use Rattle.conversions.proofs.to_whole.Goals as goal
@@ -15,7 +15,7 @@ unfolding to_whole
 returns-in-Signed c = let z = c.in-Signed.z in
     let r = read64 z c.in-Signed.known_told-1-own.given.0.1 in
     c.held_at.ensures
-    ∙ ap (λ (n : ℕ). held_in c.args.signed c.args.w (with_sign (lt_z (to_z w64 (of_z w64 z)) (pos 0)) n)) c.magnitude.ensures
+    ∙ ap (λ (n : ℕ). held_in c.args.signed c.args.w (with_sign (lt_z (to_z w64 (of_z w64 z)) (pos 0)) n)) c.unsigned_abs.ensures.value
     ∙ ap (λ (y : ℤ). held_in c.args.signed c.args.w (with_sign (lt_z y (pos 0)) (nat_abs y))) r
     ∙ ap (held_in c.args.signed c.args.w) (Whole.sign-and-size z)
     ∙ sym (ap (to_whole c.args.signed c.args.w) c.in-Signed.is)

@@ -6,5 +6,5 @@ use Rattle.cycles.proofs.each_other.Goals as goal
 pub returns-then-reads_from : goal.returns-then-reads_from
 returns-then-reads_from c = both-skip (sym c.reads_from.ensures ∙ c.if-reads_from.true) c.reads_from-then-reads_from.ensures
 
-pub returns : goal.returns
-returns c = both-stop _ (sym c.reads_from.ensures ∙ c.if-reads_from.false)
+pub returns-else-reads_from : goal.returns-else-reads_from
+returns-else-reads_from c = c.if-reads_from.false ∙ both-stop _ (sym c.reads_from.ensures ∙ c.if-reads_from.false)

@@ -6,5 +6,5 @@ use Rattle.cycles.proofs.passes.Goals as goal
 pub returns-then-reads : goal.returns-then-reads
 returns-then-reads c = both-skip (sym c.reads.ensures ∙ c.if-reads.true) c.writes.ensures
 
-pub returns : goal.returns
-returns c = both-stop _ (sym c.reads.ensures ∙ c.if-reads.false)
+pub returns-else-reads : goal.returns-else-reads
+returns-else-reads c = c.if-reads.false ∙ both-stop _ (sym c.reads.ensures ∙ c.if-reads.false)

@@ -1,5 +1,4 @@
 -- Each variant's outcome is the definition's.
-use borrow.Author.Rules.{rules}
 use Rattle.execution.proofs.outcome.Goals as goal
 
 pub returns-in-Done : goal.returns-in-Done

@@ -9,6 +9,6 @@ pub returns-then-byte-lt-FIRST_WRITING : goal.returns-then-byte-lt-FIRST_WRITING
 unfolding kind_letter
 returns-then-byte-lt-FIRST_WRITING c = sym (pick_true _ _ _ (lt-ltb _ _ c.if-byte-lt-FIRST_WRITING.true))
 
-pub returns : goal.returns
+pub returns-else-byte-lt-FIRST_WRITING : goal.returns-else-byte-lt-FIRST_WRITING
 unfolding kind_letter
-returns c = sym (pick-false _ _ _ (le-ltb _ _ c.if-byte-lt-FIRST_WRITING.false))
+returns-else-byte-lt-FIRST_WRITING c = sym (pick-false _ _ _ (le-ltb _ _ c.if-byte-lt-FIRST_WRITING.false))

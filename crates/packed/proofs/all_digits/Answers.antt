@@ -8,27 +8,24 @@ use Rattle.packed.proofs.Decimal as Decimal
 use Rattle.packed.specs.Packed.{digits_below}
 use Rattle.packed.proofs.all_digits.Goals as goal
 
-pub loop-i-init : goal.loop-i-init
-loop-i-init c = let e : c.args.d ≡ c.args.d - 0 = omega arith in
-    (omega arith, ap (λ (k : ℕ). digits_below 16 10 k c.args.p) e)
+pub loop-init : goal.loop-init
+loop-init c = let e : c.args.d ≡ c.args.d - 0 = omega arith in
+    ap (λ (k : ℕ). digits_below 16 10 k c.args.p) e
 
 pub returns-then-rest-gt9 : goal.returns-then-rest-gt9
-returns-then-rest-gt9 c = let l = c.loop-i in
+returns-then-rest-gt9 c = let l = c.loop in
     let a = c.args in
-    let h : l.i < a.d = omega arith in
-    sym (l.invariant.1 ∙ Decimal.step-below 16 10 a.d l.i l.rest h ∙ ap (λ (b : Bool). b && digits_below 16 10 (a.d - (l.i + 1)) (l.rest / 16)) (le-ltb (l.rest % 16) 10 c.if-rest-gt9.true))
+    let h : l.counter < a.d = omega arith in
+    sym (l.invariant ∙ Decimal.step-below 16 10 a.d l.counter l.rest h ∙ ap (λ (b : Bool). b && digits_below 16 10 (a.d - (l.counter + 1)) (l.rest / 16)) (le-ltb (l.rest % 16) 10 c.if-rest-gt9.true))
 
-pub overflow_add-i : goal.overflow_add-i
-overflow_add-i c = record { fits = omega arith }
-
-pub loop-i-preserved : goal.loop-i-preserved
-loop-i-preserved c = let l = c.loop-i in
+pub loop-preserved : goal.loop-preserved
+loop-preserved c = let l = c.loop in
     let a = c.args in
-    let h : l.i < a.d = omega arith in
+    let h : l.counter < a.d = omega arith in
     let g : l.rest % 16 < 10 = omega arith in
-    (omega arith, l.invariant.1 ∙ Decimal.step-below 16 10 a.d l.i l.rest h ∙ ap (λ (b : Bool). b && digits_below 16 10 (a.d - (l.i + 1)) (l.rest / 16)) (lt-ltb (l.rest % 16) 10 g))
+    l.invariant ∙ Decimal.step-below 16 10 a.d l.counter l.rest h ∙ ap (λ (b : Bool). b && digits_below 16 10 (a.d - (l.counter + 1)) (l.rest / 16)) (lt-ltb (l.rest % 16) 10 g)
 
 pub returns : goal.returns
-returns c = let l = c.loop-i in
+returns c = let l = c.loop in
     let a = c.args in
-    sym (l.invariant.1 ∙ Decimal.none_below 16 10 a.d l.i l.rest (omega arith))
+    sym (l.invariant ∙ Decimal.none_below 16 10 a.d l.counter l.rest (omega arith))

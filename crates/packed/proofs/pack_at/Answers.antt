@@ -5,7 +5,8 @@ use lib.ListN.{length}
 use Rattle.values.specs.Types.{width_of}
 use Rattle.values.proofs.Reading.{width_small}
 use Rattle.memory.specs.Memory.{read_le}
-use Rattle.conversions.specs.declared.Converted.{Converted}
+use Rattle.values.specs.declared.Value.{Value}
+use Rattle.std.specs.Prelude.{Option}
 use Rattle.conversions.specs.Conversions.{result_as}
 use Rattle.packed.specs.Packed.{packed_at, packed}
 use Rattle.conversions.specs.Data.{settled}
@@ -46,5 +47,5 @@ returns c = let a = c.args in
     was-tried a.d.now a.destination _ a.source _ a.t a.t _ c.either_beyond.ensures w w
     (packed a.t (read_le a.d.now a.source (width_of a.t))) c.if-either_beyond.false _ _
     (c.settle.ensures
-    ∙ ap (λ (x : Converted). settled a.t a.d.now a.destination (result_as a.t x))
+    ∙ ap (λ (x : Option Value). settled a.t a.d.now a.destination (result_as a.t x))
     (c.to_packed.ensures ∙ ap (packed_at c.width_of-w.result) c.load-n.ensures.0 ∙ ap (λ (n : ℕ). packed_at n (read_le a.d.now a.source n)) w))

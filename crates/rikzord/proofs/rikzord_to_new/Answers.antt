@@ -1,10 +1,11 @@
 -- `rikzord::rikzord_to_new` meets its contract: what the converter answers, the length where it is not refused. Assumes nothing.
-use borrow.Author.Rules.{rules}
+use mathlib.Core.Path.{refl}
+use Rattle.verdict.proofs.Refusals.{refused}
 use Rattle.forms.proofs.Laws.{lent-refused, lent-granted}
 use Rattle.rikzord.proofs.rikzord_to_new.Goals as goal
 
-pub returns-then-converted-ne0 : goal.returns-then-converted-ne0
-returns-then-converted-ne0 c = lent-refused _ _ _ _ c.to_new-converted.ensures c.if-converted-ne0.true
+pub returns-in-Ok : goal.returns-in-Ok
+returns-in-Ok c = lent-granted _ _ _ _ c.in-Ok.ensures refl
 
-pub returns : goal.returns
-returns c = lent-granted _ _ _ _ c.to_new-converted.ensures c.if-converted-ne0.false
+pub returns-in-Err : goal.returns-in-Err
+returns-in-Err c = rw c.number.ensures.0 (lent-refused _ _ _ _ c.in-Err.ensures (refused _))
