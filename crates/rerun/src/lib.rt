@@ -4,6 +4,7 @@
 #![tactic(auto)]
 
 ghost use Rattle.std.specs.Prelude.{◌≡◌, true, [], ◌+◌, ◌<◌, length};
+ghost use Rattle.verdict.specs.Refusals.{number_of};
 ghost use Rattle.memory.specs.Memory.{total};
 ghost use Rattle.protocol.specs.Step.{copy};
 ghost use Rattle.protocol.specs.Variables.{writes_of};
@@ -21,6 +22,7 @@ use runner::RunAnswer;
 use states::{CoreTask, Held};
 use takings::{WRITINGS, is_due, named_core};
 use taskset::Layout;
+use verdict::Refusal;
 
 // Bytes of the largest data buffer.
 const LARGEST_BUFFER: usize = 16384;
@@ -145,10 +147,10 @@ fn take(
 // ---- the list
 
 // What a refused call answers: a table of no cores.
-fn without_table(number: u8) -> RunAnswer
-    ensures { result ≡ answer_of number (table_of 0 0) }
+fn without_table(refusal: Refusal) -> RunAnswer
+    ensures { result ≡ answer_of (number_of refusal) (table_of 0 0) }
 {
-    machine::answer(number, machine::idle_table(0, 0))
+    machine::answer(refusal.number(), machine::idle_table(0, 0))
 }
 
 // What a call answers that took the whole list: the table now, with the semaphore of the fresh state.
@@ -197,15 +199,14 @@ fn rerun_in(
     let n = layout.cores;
     let first = layout.first;
     let end = first + records::VARIABLE_RECORD * layout.variables;
-    let mut i = 0;
-    while i < list.len() {
-        let b = list[i] as usize;
+    for item in list {
+        let b = *item as usize;
         let k = named_core(b);
         if n <= k {
-            return without_table(verdict::NOT_PRODUCED);
+            return without_table(Refusal::NotProduced);
         }
         if !is_due(b, cores[k], tasks[k].count) {
-            return without_table(verdict::NOT_PRODUCED);
+            return without_table(Refusal::NotProduced);
         }
         cores[k] = take(
             b,
@@ -221,9 +222,8 @@ fn rerun_in(
             buffer,
             shared,
         );
-        i += 1;
     }
-    reran(s, cores, places, offsets, i)
+    reran(s, cores, places, offsets, list.len())
 }
 
 // ---- the call
@@ -293,11 +293,11 @@ pub fn rerun(
 {
     let layout = match machine::load_lent(Profile::Full, file, buffer.len(), shared.len(), true) {
         Ok(layout) => layout,
-        Err(refusal) => return without_table(refusal.number()),
+        Err(refusal) => return without_table(refusal),
     };
     let traces = match traces::load_trace(file, trace) {
         Ok(traces) => traces,
-        Err(refusal) => return without_table(refusal.number()),
+        Err(refusal) => return without_table(refusal),
     };
     let tasks = states::core_tasks(file, trace, layout, traces);
     rerun_judged(file, trace, layout, tasks, list, buffer, shared)

@@ -269,12 +269,13 @@ pub fn rikzord_code_window(
 ) -> u8
     ensures { window_at result place.new ≡ window_call file.now (length buffer.now) Code core start count place.old }
 {
-    let found = window::find_window(Shown::Code, core, start, count, file, buffer.len());
-    if found.refusal != 0 {
-        return found.refusal;
+    match window::find_window(Shown::Code, core, start, count, file, buffer.len()) {
+        Ok(stretch) => {
+            *place = stretch.from;
+            0
+        }
+        Err(refusal) => refusal.number(),
     }
-    *place = found.from;
-    0
 }
 
 // Where `count` bytes of a core's data from `start` on stand in the data buffer.
@@ -288,12 +289,13 @@ pub fn rikzord_data_window(
 ) -> u8
     ensures { window_at result place.new ≡ window_call file.now (length buffer.now) Data core start count place.old }
 {
-    let found = window::find_window(Shown::Data, core, start, count, file, buffer.len());
-    if found.refusal != 0 {
-        return found.refusal;
+    match window::find_window(Shown::Data, core, start, count, file, buffer.len()) {
+        Ok(stretch) => {
+            *place = stretch.from;
+            0
+        }
+        Err(refusal) => refusal.number(),
     }
-    *place = found.from;
-    0
 }
 
 // ---- beside the machine: what a task will take, before loading it

@@ -23,8 +23,7 @@ use Rattle.taskset.specs.declared.CoreLayout.{CoreLayout}
 use Rattle.taskset.proofs.Accepted.{core-facts, base-start, length-listed, listed_at}
 use Rattle.window.specs.declared.Shown.{Shown}
 use Rattle.window.specs.declared.Shown.TheVariants.{Code, Data}
-use Rattle.window.specs.declared.Found.{Found}
-use Rattle.window.specs.Window.{shown_of, place_in, inside, window_refusal, window_of, window_found, window_at, window_call}
+use Rattle.window.specs.Window.{shown_of, place_in, inside, window_refusal, window_of, Found, window_found, window_at, window_call}
 
 -- ---- places
 

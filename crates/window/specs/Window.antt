@@ -1,9 +1,11 @@
 -- Document 02, 2.14: the memory window. "Given which of the two, a core, a start and a length, show that stretch of the task file or of the data
 -- memory itself." In order: what can be shown of a core, and where it stands; the refusal; the window. Not here: where the stretch stands as a
 -- place in memory, which the contract of `window` says of pointers.
-use Rattle.std.specs.Prelude.{ℕ, ◌+◌, Bool, List, [], length, get_or, ltb, leb, eqb}
+use Rattle.std.specs.Prelude.{ℕ, ◌+◌, Bool, List, [], Result, Ok, Err, length, get_or, ltb, leb, eqb}
 use Rattle.verdict.specs.Numbers.{bad_lengths, outside_window}
 use Rattle.verdict.specs.Verdict.{pick, both, next, unless}
+use Rattle.verdict.specs.Refusals.{number_of}
+use Rattle.verdict.specs.declared.Refusal.{Refusal}
 use Rattle.memory.specs.Memory.{total, split, part}
 use Rattle.records.specs.File.{cores}
 use Rattle.taskset.specs.Judge.{judge, code_of}
@@ -13,7 +15,7 @@ use Rattle.taskset.specs.declared.CoreLayout.{CoreLayout}
 use Rattle.window.specs.declared.Shown.{Shown}
 use Rattle.window.specs.declared.Shown.TheVariants.{Code, Data}
 use Rattle.window.specs.declared.Place.{Place}
-use Rattle.window.specs.declared.Found.{Found}
+use Rattle.window.specs.declared.Stretch.{Stretch}
 
 -- ---- what can be shown
 
@@ -45,12 +47,22 @@ window_refusal f buffer shown k start count =
 unfoldable pub window_of : List ℕ → List ℕ → Shown → ℕ → ℕ → ℕ → List ℕ
 window_of f d shown k start count = pick (eqb (window_refusal f (length d) shown k start count) 0) (part (shown_of shown f d k) start count) []
 
--- its number and its ends
+-- its number and its ends; zeros for the ends where it is refused
+pub record Found : Type 0 where
+  pub refusal : ℕ
+  pub from : ℕ
+  pub to : ℕ
+
 unfoldable pub window_found : List ℕ → ℕ → Shown → ℕ → ℕ → ℕ → Found
 window_found f buffer shown k start count =
     pick (eqb (window_refusal f buffer shown k start count) 0)
     (record { refusal = 0; from = (place_in f shown k).base + start; to = (place_in f shown k).base + start + count })
     (record { refusal = window_refusal f buffer shown k start count; from = 0; to = 0 })
+
+-- an answer of the code in these terms
+abbrev pub found_as : Result Stretch Refusal → Found
+found_as (Ok s) = record { refusal = 0; from = s.from; to = s.to }
+found_as (Err r) = record { refusal = number_of r; from = 0; to = 0 }
 
 -- over C: the number, and the place at which the stretch begins in the file or in the data buffer; a refused call leaves the place
 pub record WindowAt : Type 0 where

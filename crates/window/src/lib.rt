@@ -3,11 +3,13 @@
 #![tactic(auto)]
 
 ghost use Rattle.std.specs.Prelude.{◌≡◌, ◌+◌, ◌<◌, length};
+ghost use Rattle.verdict.specs.Refusals.{refusal_of};
 ghost use Rattle.taskset.specs.Layout.{layout_of, core_layout};
 ghost use Rattle.window.specs.declared.Shown.TheVariants.{Code, Data};
-ghost use Rattle.window.specs.Window.{shown_place, window_refusal, window_found, window_of};
+ghost use Rattle.window.specs.Window.{shown_place, window_refusal, found_as, window_found, window_of};
 
 use taskset::Layout;
+use verdict::Refusal;
 
 // Which of a core's two memories is shown.
 #[derive(Clone, Copy)]
@@ -23,10 +25,9 @@ pub struct Place {
     pub size: usize,
 }
 
-// What a window is found to be: the refusal number, and where its stretch begins and ends; zeros where it is refused.
+// Where a stretch of the file or of the data buffer begins and ends.
 #[derive(Clone, Copy)]
-pub struct Found {
-    pub refusal: u8,
+pub struct Stretch {
     pub from: usize,
     pub to: usize,
 }
@@ -48,17 +49,6 @@ fn place_of(shown: Shown, file: &[u8], layout: Layout, k: usize) -> Place
     }
 }
 
-// No stretch, and why.
-fn no_stretch(number: u8) -> Found
-    ensures { result ≡ record { refusal = number; from = 0; to = 0 } }
-{
-    Found {
-        refusal: number,
-        from: 0,
-        to: 0,
-    }
-}
-
 // Judges a window, once for all calls. The length is compared with what is left after the start, since their sum could wrap.
 pub fn find_window(
     shown: Shown,
@@ -67,37 +57,33 @@ pub fn find_window(
     count: usize,
     file: &[u8],
     buffer: usize,
-) -> Found
-    ensures { result ≡ window_found file.now buffer shown core start count }
+) -> Result<Stretch, Refusal>
+    ensures { found_as result ≡ window_found file.now buffer shown core start count }
 {
-    let layout = match file_loading::load_file(file) {
-        Ok(layout) => layout,
-        Err(refusal) => return no_stretch(refusal.number()),
-    };
+    let layout = file_loading::load_file(file)?;
     if buffer != file_loading::sum_of_sizes(file, layout) {
-        return no_stretch(verdict::BAD_LENGTHS);
+        return Err(Refusal::BadLengths);
     }
     let k = core as usize;
     if layout.cores <= k {
-        return no_stretch(verdict::OUTSIDE_WINDOW);
+        return Err(Refusal::OutsideWindow);
     }
     let place = place_of(shown, file, layout, k);
     if place.size < start {
-        return no_stretch(verdict::OUTSIDE_WINDOW);
+        return Err(Refusal::OutsideWindow);
     }
     if place.size - start < count {
-        return no_stretch(verdict::OUTSIDE_WINDOW);
+        return Err(Refusal::OutsideWindow);
     }
     let from = place.base + start;
-    Found {
-        refusal: 0,
+    Ok(Stretch {
         from,
         to: from + count,
-    }
+    })
 }
 
-// The refusal number of a window: the file's, 21 for a data buffer that is not the sum of the data sizes, 34 for no such core or for a stretch that
-// leaves the core's code or data; 0 where it is shown.
+// A window is refused as its file is, with 21 for a data buffer that is not the sum of the data sizes, with 34 for no such core or for a stretch that
+// leaves the core's code or data.
 pub fn check_window(
     shown: Shown,
     core: u8,
@@ -105,11 +91,21 @@ pub fn check_window(
     count: usize,
     file: &[u8],
     buffer: &[u8],
-) -> u8
-    ensures { result ≡ window_refusal file.now (length buffer.now) shown core start count }
+) -> Result<(), Refusal>
+    ensures { refusal_of result ≡ window_refusal file.now (length buffer.now) shown core start count }
 {
-    let found = find_window(shown, core, start, count, file, buffer.len());
-    found.refusal
+    find_window(shown, core, start, count, file, buffer.len())?;
+    Ok(())
+}
+
+// What is shown of a window: an empty stretch where it is refused.
+fn shown_stretch(found: Result<Stretch, Refusal>) -> Stretch
+    ensures { (result.from ≡ (found_as found).from) × (result.to ≡ (found_as found).to) }
+{
+    match found {
+        Ok(stretch) => stretch,
+        Err(_) => Stretch { from: 0, to: 0 },
+    }
 }
 
 // The stretch itself; an empty one where it is refused.
@@ -128,8 +124,9 @@ pub fn window<'a>(
         × (result.ref_ptr.1 ≡ buffer.entry.ref_ptr.1 + (window_found file.now (length buffer.now) shown core start count).from)) }
 {
     let found = find_window(shown, core, start, count, file, buffer.len());
-    let from = found.from;
-    let to = found.to;
+    let stretch = shown_stretch(found);
+    let from = stretch.from;
+    let to = stretch.to;
     match shown {
         Shown::Code => &file[from..to],
         Shown::Data => &buffer[from..to],

@@ -25,7 +25,8 @@ fn case<'a>(
     file: &'a [u8],
     buffer: &'a [u8],
 ) -> Result<()> {
-    let number = window::check_window(shown, core, start, count, file, buffer);
+    let judged = window::check_window(shown, core, start, count, file, buffer);
+    let number = verdict::refusal_of(judged);
     print!(rt; "{label}: {number} [")?;
     writer(rt).write_all(window::window(shown, core, start, count, file, buffer))?;
     println!(rt; "]")

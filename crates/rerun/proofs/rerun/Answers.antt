@@ -1,5 +1,5 @@
 -- `rerun::rerun` meets its contract: file, lent memory and trace are judged, then the list. Assumes nothing.
-use mathlib.Core.Path.{refl, sym, ◌∙◌}
+use mathlib.Core.Path.{refl}
 use native.Mathlib.Omega.{arith}
 use Rattle.verdict.proofs.Refusals.{refused}
 use Rattle.code.specs.declared.Profile.TheVariants.{Full}
@@ -13,17 +13,14 @@ pub returns-in-Err : goal.returns-in-Err
 returns-in-Err c = let a = c.args in
     rerun-refused a.file.now a.trace.now a.list.now a.buffer.now a.shared.now _
     (refused-loaded a.file.now a.trace.now a.list.now a.buffer.now a.shared.now
-    (c.number.ensures.0 ∙ fresh-number Full a.file.now a.buffer.now a.shared.now _ c.in-Err.ensures.0) (λ e. refused _ (sym c.number.ensures.0 ∙ e)))
-    (λ e. refused _ (sym c.number.ensures.0 ∙ e)) c.without_table.ensures
+    (fresh-number Full a.file.now a.buffer.now a.shared.now _ c.in-Err.ensures.0) (refused _)) (refused _) c.without_table.ensures
 
 pub returns-in-Err-load_trace : goal.returns-in-Err-load_trace
 returns-in-Err-load_trace c = let a = c.args in
     let lent = lent-to Full a.file.now a.buffer.now a.shared.now _ _ c.in-Ok.ensures in
     rerun-refused a.file.now a.trace.now a.list.now a.buffer.now a.shared.now _
     (refused-trace a.file.now a.trace.now a.list.now a.buffer.now a.shared.now lent.accepted lent.fits
-    (c.number-in-Err-load_trace.ensures.0 ∙ trace-judged a.file.now a.trace.now _ c.in-Err-load_trace.ensures)
-    (λ e. refused _ (sym c.number-in-Err-load_trace.ensures.0 ∙ e)))
-    (λ e. refused _ (sym c.number-in-Err-load_trace.ensures.0 ∙ e)) c.without_table-in-Err-load_trace.ensures
+    (trace-judged a.file.now a.trace.now _ c.in-Err-load_trace.ensures) (refused _)) (refused _) c.without_table-in-Err-load_trace.ensures
 
 pub core_tasks-tasks-requires : goal.core_tasks-tasks-requires
 core_tasks-tasks-requires c = let a = c.args in
