@@ -8,4 +8,4 @@ pub returns-in-Ok : goal.returns-in-Ok
 returns-in-Ok c = lent-granted _ _ _ _ c.in-Ok.ensures refl
 
 pub returns-in-Err : goal.returns-in-Err
-returns-in-Err c = lent-refused _ _ _ _ c.in-Err.ensures (refused _)
+returns-in-Err c = rw c.number.ensures.0 (lent-refused _ _ _ _ c.in-Err.ensures (refused _))
