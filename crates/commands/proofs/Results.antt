@@ -6,15 +6,15 @@ use Rattle.std.proofs.Common.{inl}
 use mathlib.Core.Path.{◌≡◌, refl, sym, ◌∙◌, ap, subst}
 use native.Mathlib.Omega.{arith}
 use lib.Dec.{eqb}
-use borrow.Author.Tests.{eqb-true, ne_eqb}
+use borrow.Author.Tests.{eqb-true}
 use Rattle.verdict.specs.Verdict.{pick, both, within}
-use Rattle.verdict.proofs.Verdict.{absurd-bool, pick_true, pick-false, by-pick, inside, outside, inside-true}
+use Rattle.verdict.proofs.Verdict.{absurd-bool, both_true, both-not, pick_true, pick-false, by-pick, inside, outside, inside-true}
 use Rattle.memory.specs.Memory.{read_le}
 use Rattle.values.specs.Types.{width_of, takes}
 use Rattle.values.specs.Width.{Width}
 use Rattle.values.specs.Commands.{result_type, result_width, second_width, zero_divisor}
 use Rattle.values.proofs.Types.{width-ok, last-type}
-use Rattle.values.proofs.Commands.{taken-type, zero-outside, zero-inside}
+use Rattle.values.proofs.Commands.{taken-type, zero-inside}
 
 -- a type byte belongs to a command up to NE
 pub taken-command : (code t : ℕ) → takes code t ≡ true → code ≤ 37
@@ -44,15 +44,13 @@ module _ (code t : ℕ) where
   unfolding result_width result_type width_of
   known_width g = by-pick (λ (k : ℕ). Width (width_of k)) (within 32 37 code) 0 t (λ e. inl refl) (λ e. width-ok t (taken-type code t g))
 
-  -- only DIV has a zero divisor
-  pub no_divisor : (q : ℕ) → (code ≡ 19 → ⊥) → false ≡ zero_divisor code t q
+  -- only DIV of a whole-number type has a zero divisor
+  pub no_divisor : (q : ℕ) → (code ≡ 19 → 1 ≤ t → t ≤ 8 → ⊥) → false ≡ zero_divisor code t q
   unfolding zero_divisor
-  no_divisor q n = sym (ap (λ (c : Bool). both c (both (within 1 8 t) (eqb q 0))) (ne_eqb code 19 n))
+  no_divisor q h =
+      sym (both-not (eqb code 19) (both (within 1 8 t) (eqb q 0)) (λ c e. let i = inside-true 1 8 t (both_true _ _ e).0 in h (eqb-true code 19 c) i.0 i.1))
 
   module _ (key : code ≡ 19) where
-    pub whole_divisor : (q : ℕ) → (1 ≤ t → t ≤ 8 → ⊥) → false ≡ zero_divisor code t q
-    whole_divisor q h = zero-outside t q h ∙ ap (λ (c : ℕ). zero_divisor c t q) (sym key)
-
     pub divisor_place : (b n w : ℕ) → w ≡ width_of t → b + second_width code t ≤ n → b + w ≤ n
     unfolding second_width pick
     divisor_place b n w e h = rw (e) (subst (λ (c : ℕ). b + second_width c t ≤ n) key h)

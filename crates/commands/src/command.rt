@@ -54,19 +54,14 @@ fn zero_divisor(op: u8, t: u8, d: &[u8], at: usize) -> bool
     requires { (takes op t ≡ true) × (at + second_width op t ≤ length d.now) }
     ensures { result ≡ zero_divisor op t (read_le d.now at (second_width op t)) }
 {
-    if op != 19 {
-        return false;
+    if op == 19 && 1 <= t && t <= 8 {
+        memory::load(d, at, values::width_of(t)) == 0
+    } else {
+        false
     }
-    if t < 1 {
-        return false;
-    }
-    if 8 < t {
-        return false;
-    }
-    memory::load(d, at, values::width_of(t)) == 0
 }
 
-// The pattern of the result at type t.
+// The pattern of the result at type t, whose sources are read by it.
 #[inline(always)]
 fn pattern_in<C: Command>(d: &[u8], t: u8, a: usize, b: usize) -> u64
     requires { (takes C.CODE t ≡ true) × (a + width_of t ≤ length d.now) × (b + second_width C.CODE t ≤ length d.now) × (zero_divisor C.CODE t (read_le d.now b (second_width C.CODE t)) ≡ false) }
@@ -82,7 +77,7 @@ fn pattern_in<C: Command>(d: &[u8], t: u8, a: usize, b: usize) -> u64
     )
 }
 
-// The same, by an arm with a constant for each type: where t is constant, the compiler keeps that arm alone.
+// The same, by an arm with a constant for each type: where t is constant, the compiler keeps that arm alone. Of a body that reads by the type that it is given it does not (docs/PERFORMANCE.md).
 fn pattern<C: Command>(d: &[u8], t: u8, a: usize, b: usize) -> u64
     requires { (takes C.CODE t ≡ true) × (a + width_of t ≤ length d.now) × (b + second_width C.CODE t ≤ length d.now) × (zero_divisor C.CODE t (read_le d.now b (second_width C.CODE t)) ≡ false) }
     ensures { result ≡ command C.CODE t (read_le d.now a (width_of t)) (read_le d.now b (second_width C.CODE t)) }

@@ -10,8 +10,12 @@ use native.Mathlib.Omega.{arith}
 use borrow.Author.Tests.{not-true}
 use lib.ListN.{length, get_or, set, length-set}
 use lib.Seq.{get_or-set_same, set-set, set-get_or}
+use Rattle.std.specs.Prelude.{Result, Ok, Err}
+use Rattle.verdict.specs.Faults.{bit_of, fault_bit}
+use Rattle.verdict.specs.declared.Fault.{Fault as Fault_of}
 use Rattle.verdict.proofs.Verdict.{both_true}
 use Rattle.memory.specs.Memory.{byte, part, split, total}
+use Rattle.processor.specs.Typed.{outcome_of}
 use Rattle.protocol.specs.declared.Registers.{Registers}
 use Rattle.protocol.specs.declared.Outcome.{Outcome}
 use Rattle.protocol.specs.declared.Outcome.TheVariants.{Fault as Failed, Next as Onward, Call as Calls, Return as Returns}
@@ -34,7 +38,7 @@ use Rattle.steps.proofs.Given.{limit-low}
 use Rattle.steps.proofs.Does.{does-wait}
 use Rattle.order.specs.Order.{steps_on, Stretches, Waits}
 use Rattle.runner.specs.Runs.{all_below}
-use Rattle.runner.specs.Running.{executing_at, reached_of, reached_at, RunningAt, RunStands, CarriesRun, Reaches}
+use Rattle.runner.specs.Running.{faulted_by, executing_at, reached_of, reached_at, RunningAt, RunStands, CarriesRun, Reaches}
 use Rattle.runner.specs.declared.Reached.{Reached}
 use Rattle.order.proofs.Stretches.{step_in_lem, on-stretch}
 use Rattle.runner.proofs.Running.{below_at}
@@ -129,6 +133,16 @@ module _ {f t order : List ℕ} {k from : ℕ} {before : Registers} {p₀ o₀ d
   pub reaches-ended : {r : Registers} → y ≡ cycle_ended r → KeepsRest before r → CarriesRun f t order k from before p₀ o₀ d₀ i (cycle_ended r) places offsets d
       → Reaches f t order k from before p₀ o₀ d₀ x places offsets d
   reaches-ended {r} q h w = reaches q (keeps-ended h) w (λ m. absurd (omega (arith, sym (ended-mode r) ∙ m)))
+
+-- what a typed command answers that did not end well
+pub record Stopped {A : Type 0} (next : ℕ) (p : Result A Fault_of) (r : Registers) : Type 0 where
+  pub bit : ℕ
+  pub failed : outcome_of next p ≡ Failed bit
+  pub marked : faulted_by (fault_bit p) r ≡ faulted bit r
+
+pub stopped_by_lem : {A : Type 0} (next : ℕ) (p : Result A Fault_of) (r : Registers) → ((a : A) → p ≡ Ok a → ⊥) → Stopped next p r
+stopped_by_lem next (Ok a) r n = absurd (n a refl)
+stopped_by_lem next (Err f) r n = record { bit = bit_of f; failed = refl; marked = refl }
 
 -- what holds of the run under way
 module _ {f t order : List ℕ} {from i k : ℕ} {before r : Registers} {p₀ o₀ d₀ places offsets d : List ℕ} (s : RunStands f t order from k before p₀ o₀ d₀)

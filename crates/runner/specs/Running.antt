@@ -1,10 +1,11 @@
 -- Where a run stands between two of its steps, and what its parts promise of it. In order: a place of execution, and of an exchange; the invariant;
 -- steps that carry a run on.
 use Rattle.std.specs.Prelude.{◌≡◌, true, List, ℕ, suc, ◌+◌, ◌≤◌, ◌<◌, length, get_or, set, take, drop}
+use Rattle.std.proofs.Math.Option.{Option, none, some}
 use Rattle.memory.specs.Memory.{splice, total}
 use Rattle.protocol.specs.declared.Registers.{Registers}
 use Rattle.protocol.specs.Modes.{executing}
-use Rattle.protocol.specs.Registers.{advanced}
+use Rattle.protocol.specs.Registers.{advanced, faulted}
 use Rattle.protocol.specs.State.{Semaphore, State}
 use Rattle.protocol.specs.Step.{run, takings, order_list}
 use Rattle.runner.specs.declared.Reached.{Reached}
@@ -35,6 +36,11 @@ executing_at r counter offset depth count = record {
   flags = r.flags;
   time = r.time;
 }
+
+-- the registers r after a fault, if there is one
+abbrev pub faulted_by : Option ℕ → Registers → Registers
+faulted_by none r = r
+faulted_by (some bit) r = faulted bit r
 
 -- what a stretch of instructions hands over of the registers r that it leaves, and these again, for a core that had the registers r before
 abbrev pub reached_of : ℕ → Registers → Reached

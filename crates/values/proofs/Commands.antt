@@ -2,7 +2,7 @@
 use Rattle.std.proofs.Common.{◌≡◌, ℕ, suc, ◌-◌, ◌^◌, ◌<◌, ◌≤◌, Bool, true, false, eqb, ltb, List, [], ◌∷◌, ℤ, pos, negsuc, sym, refl, ap, ◌∙◌, subst, arith, ltb-false, ltb-true, eqb-true, leb-true}
 use lib.ListN.{get_or-eq_default}
 use Rattle.verdict.specs.Verdict.{pick, both, within}
-use Rattle.verdict.proofs.Verdict.{absurd-bool, by-pick, both_true, both-not, inside, inside-true}
+use Rattle.verdict.proofs.Verdict.{absurd-bool, by-pick, both_true, inside, inside-true}
 use Rattle.memory.specs.Memory.{read_le}
 use Rattle.values.specs.Types.{width_of, takes}
 use Rattle.values.specs.Width.{signed, eq_z}
@@ -46,11 +46,6 @@ by_zero_lem p q =
     (λ d h. signed-zero 64 q h) (λ d h. h) (λ d h. refl) (λ d h. refl) (λ d h. absurd (d refl))
 
 -- ---- the test for a zero divisor
-
-pub zero-outside : (t q : ℕ) → (1 ≤ t → t ≤ 8 → ⊥) → false ≡ zero_divisor 19 t q
-unfolding zero_divisor
-zero-outside t q h =
-    sym (both-not (within 1 8 t) (eqb q 0) (λ c e. let i = inside-true 1 8 t c in h i.0 i.1))
 
 module _ (t w : ℕ) (e : w ≡ width_of t) where
   second-whole : second_width 19 t ≡ w

@@ -17,7 +17,7 @@ pub typed-requires-in_default : goal.typed-requires-in_default
 unfolding takes pick NoneOf has_arm
 typed-requires-in_default c =
     let n = c.command_and_type-number in
-    let last : n.result ≡ 603 = last_arm c.requires.1 c.requires.0 n.result n.ensures.0 n.ensures.1 c.in_default.in_default-own.rest in
+    let last : n.result ≡ 603 = search last_arm in
     let e : c.args.op ≡ 37 = omega (arith, n.ensures.0) in
     (omega (arith, n.ensures.1), refl, subst (λ (code : ℕ). Inside code c.args.o c.args.d.now) e (sym c.typed_beyond.ensures ∙ c.if-typed_beyond.false))
 
@@ -25,6 +25,6 @@ pub returns-in_default : goal.returns-in_default
 unfolding takes pick NoneOf has_arm
 returns-in_default c =
     let n = c.command_and_type-number in
-    let last : n.result ≡ 603 = last_arm c.requires.1 c.requires.0 n.result n.ensures.0 n.ensures.1 c.in_default.in_default-own.rest in
+    let last : n.result ≡ 603 = search last_arm in
     let e : c.args.op ≡ 37 = omega (arith, n.ensures.0) in
     c.typed-in_default.ensures ∙ ap (λ (code : ℕ). attempted code c.args.o c.args.d.now) (sym e)

@@ -1,6 +1,7 @@
 -- `commands::command::pattern_in` meets its contract: the sources are read by the type, and the laws of the command give the rest. Assumes nothing.
 use Rattle.std.proofs.Common.{refl}
 use Rattle.memory.specs.Memory.{read_le}
+use Rattle.values.specs.Types.{width_of}
 use Rattle.values.specs.Values.{stored, read_value}
 use Rattle.values.specs.Commands.{result_width, second_width, command}
 use Rattle.values.proofs.Types.{width-ok}
@@ -33,5 +34,6 @@ pattern_of-requires g c = rw (c.result_width.ensures) (width_room _)
 pub returns : goal.returns
 unfolding command stored result_width read_value
 returns g c =
+    let p = read_le c.args.d.now c.args.a (width_of c.args.t) in
     let q = read_le c.args.d.now c.args.b (second_width g.C.Command.CODE c.args.t) in
-    rw (c.pattern_of.ensures, c.apply.ensures, c.width_of.ensures, c.read_value.ensures, c.read.ensures, g.met.C.Command.second_is c.args.t, c.result_width.ensures, c.CODE.ensures, g.met.C.Command.gives_is c.args.t _ q) refl
+    rw (c.pattern_of.ensures, c.apply.ensures, c.width_of.ensures, c.read_value.ensures, c.read.ensures, g.met.C.Command.second_is c.args.t, c.result_width.ensures, c.CODE.ensures, g.met.C.Command.gives_is c.args.t p q) refl
