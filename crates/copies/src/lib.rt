@@ -29,10 +29,8 @@ fn move_singly(d: &mut [u8], to: usize, from: usize, n: usize)
     requires { (to + n ≤ length d.old) × (from + n ≤ length d.old) × Disjoint to from n }
     ensures { d.new ≡ splice d.old to (part d.old from n) }
 {
-    let mut i = 0;
-    while i < n {
+    for i in 0..n {
         d[to + i] = d[from + i];
-        i += 1;
     }
 }
 
@@ -54,7 +52,7 @@ pub fn rikzord_copy_by_bytes(d: &mut [u8], to: usize, from: usize, n: usize) -> 
     if !fits(d.len(), to, from, n) {
         return 1;
     }
-    if n <= memory::distance(to, from) {
+    if n <= to.abs_diff(from) {
         move_singly(d, to, from, n);
     } else {
         memory::move_through(d, to, from, n);

@@ -16,7 +16,6 @@ ghost use Rattle.runner.specs.Executing.{ExecutionGiven, Executes};
 
 use commands::Performed;
 use execution::TYPED;
-use memory::least;
 use order::{STRETCH, execution_ahead, stays};
 use protocol::{ADDRESS, DIVISOR, EXECUTING, LIMIT, Outcome, Registers};
 use runner::{Reached, Single};
@@ -27,10 +26,7 @@ fn take_entry(entries: &mut [u16; 64], k: usize, depth: u8) -> u16
     requires { (k < 4) × (depth < 16) }
     ensures { (result ≡ get_or entries.old (16 * k + depth) 0) × (entries.new ≡ set entries.old (16 * k + depth) 0) }
 {
-    let at = 16 * k + depth as usize;
-    let value = entries[at];
-    entries[at] = 0;
-    value
+    std::mem::take(&mut entries[16 * k + depth as usize])
 }
 
 fn set_entry(entries: &mut [u16; 64], k: usize, depth: u8, value: u16)
@@ -93,10 +89,8 @@ pub fn reached_at(r: Registers, x: Reached) -> Registers
         offset: x.offset,
         depth: x.depth,
         count: x.count,
-        exchange: r.exchange,
-        cycles: r.cycles,
         flags: x.flags,
-        time: r.time,
+        ..r
     }
 }
 
@@ -105,7 +99,7 @@ fn stretch_end(order: &[u8], from: usize, left: usize, k: usize) -> usize
     requires { (steps_on order.now from k ≡ true) × (0 < left) × (k < 4) }
     ensures { (from < result) × Stretches order.now from (min left 256) k (result - from) }
 {
-    from + execution_ahead(order, from, least(left, STRETCH), k)
+    from + execution_ahead(order, from, left.min(STRETCH), k)
 }
 
 // The instructions of core k with the registers `before`, from step `from` of the order on, for as long as it executes and the order stays
@@ -134,8 +128,7 @@ pub fn run_core(
     let mut counter = before.counter;
     let mut offset = before.offset;
     let mut depth = before.depth;
-    let mut step = from;
-    while step < end {
+    for step in from..end {
         let r = placed_at(before, counter, offset, depth, step - from);
         let op = instructions::command_of(counter, k, c, file, trace);
         if execution::has_three(op) {
@@ -164,9 +157,8 @@ pub fn run_core(
                 }
             }
         }
-        step += 1;
     }
-    reach(step, placed_at(before, counter, offset, depth, step - from))
+    reach(end, placed_at(before, counter, offset, depth, end - from))
 }
 
 // ---- a single instruction

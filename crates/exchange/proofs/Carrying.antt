@@ -12,14 +12,16 @@ use Rattle.memory.proofs.Laws.{length-splice, length_part, part-splice-same}
 use Rattle.protocol.specs.State.{Move}
 use Rattle.protocol.specs.Step.{copy}
 use Rattle.protocol.specs.Variables.{Variable, local, span, moves_of}
-use Rattle.records.specs.File.{cores, data_size}
+use Rattle.records.specs.File.{cores, data_size, variables, record_place}
 use Rattle.taskset.specs.Task.{variables_of}
 use Rattle.exchange.specs.declared.Cursor.{Cursor}
 use Rattle.exchange.specs.Exchange.{has_bit, At}
-use Rattle.exchange.specs.Laid.{Laid, exchange_bytes}
-use Rattle.exchange.specs.Carried.{Lies, Tells, BytesCarried}
+use Rattle.exchange.specs.Laid.{Laid, exchange_bytes, takes_part, RecordAt}
+use Rattle.exchange.specs.Carried.{Lies, Tells, BytesCarried, AllCarried}
 use Rattle.exchange.proofs.Cursors.{at-stretch, local_at}
-use Rattle.exchange.proofs.Stretches.{copy-append, copy-span, record-shared, record-local}
+use Rattle.exchange.proofs.Stretches.{copy-append, copy-span, Copied, copied_none, copied-named, copied-unnamed, copied_all, record-shared, record-local}
+use Rattle.exchange.proofs.Records.{first-place, place-next}
+use mathlib.Core.Bool.{true, false}
 
 -- ---- a word: out to another list and in again
 
@@ -92,6 +94,36 @@ module _ (f : List ℕ) (bit source target x count : ℕ) (src dst₀ : List ℕ
             ap₂ (λ (u : List Move) (v : List ℕ). copy (take (left - n) u) src v) (sym (drop-drop n (x + (count - left)) (bytes_of from to))) (own from to p q)
             ∙ sym (copy-append (take n l) (take (left - n) (drop n l)) src dst)
             ∙ ap (λ (u : List Move). copy u src dst) (sym (take-add n (left - n) l) ∙ ap (λ (m : ℕ). take m l) e)
+
+-- ---- all bytes: those of the records before place p are copied, and made `dst` of dst₀
+
+module _ (f : List ℕ) (bit source target : ℕ) (src dst₀ : List ℕ) where
+  pub record CarriedTo (p : ℕ) (dst : List ℕ) : Type 0 where
+    pub place : RecordAt f p
+    pub copied : (from to : Variable → ℕ) → Tells f source from → Tells f target to → Copied f bit from to src dst₀ p dst
+    pub long : length dst ≡ length dst₀
+
+  pub carried_none : {p : ℕ} → p ≡ record_place f 0 → CarriedTo p dst₀
+  carried_none e = record { place = first-place f e; copied = λ from to s t. copied_none f bit from to src dst₀ e; long = refl }
+
+  module _ {p : ℕ} {dst : List ℕ} (w : CarriedTo p dst) (h : p < record_place f (variables f)) where
+    pub carried-named : {dst' : List ℕ} {a b n : ℕ} → takes_part f bit p ≡ true → a ≡ word f (p + source) → b ≡ word f (p + target) → n ≡ byte f (p + 2) → a + n ≤ length src
+        → dst' ≡ splice dst b (part src a n) → CarriedTo (p + 12) dst'
+    carried-named {dst'} {a} {b} {n} e ea eb en inside z = record {
+      place = place-next f w.place h;
+      copied = λ from to s t. copied-named f bit from to src dst₀ (w.copied from to s t) h e (ea ∙ sym (s p)) (eb ∙ sym (t p)) en inside z;
+      long = ap length z ∙ length-splice dst b (part src a n) ∙ w.long;
+    }
+
+    pub carried-unnamed : {dst' : List ℕ} → takes_part f bit p ≡ false → dst' ≡ dst → CarriedTo (p + 12) dst'
+    carried-unnamed e z = record {
+      place = place-next f w.place h;
+      copied = λ from to s t. copied-unnamed f bit from to src dst₀ (w.copied from to s t) h e z;
+      long = ap length z ∙ w.long;
+    }
+
+  pub carried_all : {p : ℕ} {dst : List ℕ} → CarriedTo p dst → record_place f (variables f) ≤ p → AllCarried f bit source target src dst₀ dst
+  carried_all w h from to s t = copied_all f bit from to src dst₀ (w.copied from to s t) h
 
 -- ---- the sides
 

@@ -1,6 +1,6 @@
 -- Laws of the records in a file. In order: places; the variables from a record on; a search that passes records; the bytes of
 -- an exchange. Assumes nothing.
-use mathlib.Core.Path.{◌≡◌, refl, ap, ap₂, ◌∙◌}
+use mathlib.Core.Path.{◌≡◌, refl, ap, ap₂, subst, ◌∙◌}
 use mathlib.Core.Bool.{Bool, true, false}
 use mathlib.Core.List.{List, [], ◌∷◌}
 use Prim.Native.Nat.{ℕ, zero, suc, ◌+◌, ◌*◌, ◌-◌, ◌≤◌, ◌<◌}
@@ -74,6 +74,12 @@ module _ (f : List ℕ) where
         go i a b false t =
             let n : (i ≡ s.place.index → ⊥) = eqb-false i s.place.index t in
             s.unnamed i a (omega (arith, s.place.is, place_of f i, place_of f s.place.index))
+
+    -- the search is through
+    pub passed-end : {p q end : ℕ} → Passed f bit p q → end ≡ record_place f (variables f) → end ≤ q → Passed f bit p end
+    passed-end {p} {q} {end} s e h =
+        let last : q ≡ end = omega (arith, e, s.place.is, s.place.inside, place_of f s.place.index, place_of f (variables f)) in
+        subst (Passed f bit p) last s
 
     module _ (from to : Variable → ℕ) where
       skip : (n i : ℕ) → i + n ≤ variables f → ((j : ℕ) → i ≤ j → j < i + n → takes_part f bit (record_place f j) ≡ false)

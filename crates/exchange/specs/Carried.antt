@@ -23,3 +23,9 @@ Tells f offset begin = (p : ℕ) → begin (variable_in f p) ≡ word f (p + off
 abbrev pub BytesCarried : List ℕ → ℕ → ℕ → ℕ → ℕ → ℕ → List ℕ → List ℕ → List ℕ → Type 0
 BytesCarried f bit source target x count src dst dst' =
     (from to : Variable → ℕ) → Tells f source from → Tells f target to → dst' ≡ copy (take count (drop x (moves_of (has_bit bit) from to (variables_of f)))) src dst
+
+-- ---- the copy of all its bytes
+
+abbrev pub AllCarried : List ℕ → ℕ → ℕ → ℕ → List ℕ → List ℕ → List ℕ → Type 0
+AllCarried f bit source target src dst dst' =
+    (from to : Variable → ℕ) → Tells f source from → Tells f target to → dst' ≡ copy (moves_of (has_bit bit) from to (variables_of f)) src dst

@@ -13,7 +13,7 @@ ghost use Rattle.records.specs.File.{cores, data_size, variables, record_place};
 ghost use Rattle.taskset.specs.Task.{variables_of};
 ghost use Rattle.exchange.specs.Exchange.{At};
 ghost use Rattle.exchange.specs.Laid.{Laid, takes_part, exchange_bytes, RecordAt, Passed};
-ghost use Rattle.exchange.specs.Carried.{Lies, BytesCarried};
+ghost use Rattle.exchange.specs.Carried.{Lies, BytesCarried, AllCarried};
 
 // The variable's record in the file, and the byte within the variable.
 #[derive(Clone, Copy)]
@@ -43,14 +43,12 @@ fn seek(file: &[u8], from: usize, end: usize, bit: usize) -> usize
     requires { Laid file.now × (end ≡ record_place file.now (variables file.now)) × (bit < 8) × RecordAt file.now from }
     ensures { Passed file.now bit from result × (result < end → takes_part file.now bit result ≡ true) }
 {
-    let mut place = from;
-    while place < end {
+    for place in (from..end).step_by(records::VARIABLE_RECORD) {
         if named(file, place, bit) {
             return place;
         }
-        place += records::VARIABLE_RECORD;
     }
-    place
+    end
 }
 
 // ---- the cursor
@@ -93,10 +91,8 @@ pub fn locate(file: &[u8], first: usize, end: usize, bit: usize, x: u16) -> Curs
     ensures { At file.now bit x result }
 {
     let mut cursor = start(file, first, end, bit);
-    let mut i: u16 = 0;
-    while i < x {
+    for i in 0..x {
         cursor = onward(file, end, bit, i, cursor);
-        i += 1;
     }
     cursor
 }
@@ -108,12 +104,10 @@ pub fn bytes(file: &[u8], first: usize, end: usize, bit: usize) -> usize
     ensures { (result ≡ exchange_bytes file.now bit) × (result ≤ 512) }
 {
     let mut total: usize = 0;
-    let mut place = first;
-    while place < end {
+    for place in (first..end).step_by(records::VARIABLE_RECORD) {
         if named(file, place, bit) {
             total += file[place + WIDTH] as usize;
         }
-        place += records::VARIABLE_RECORD;
     }
     total
 }
@@ -154,16 +148,6 @@ pub fn publish(file: &[u8], k: usize, x: u16, cursor: Cursor, d: &[u8], shared: 
 }
 
 // ---- the copy of a stretch of bytes, a variable at a time
-
-// The smaller of two numbers.
-fn smaller(a: usize, b: usize) -> usize
-    ensures { (result ≤ a) × (result ≤ b) × ((0 < a) → (0 < b) → 0 < result) }
-{
-    if a < b {
-        return a;
-    }
-    b
-}
 
 // Eight bytes in one move.
 fn copy_word(dst: &mut [u8], to: usize, src: &[u8], from: usize)
@@ -210,7 +194,7 @@ fn carry(
     let mut left = count;
     while 0 < left {
         let width = file[place + WIDTH] as usize;
-        let n = smaller(width - byte, left);
+        let n = (width - byte).min(left);
         let from = byte_place(file, place + source, byte);
         let to = byte_place(file, place + target, byte);
         copy_bytes(dst, to, src, from, n);
@@ -278,21 +262,37 @@ pub fn publish_bytes(
 
 // ---- the copy of all bytes, a variable at a time
 
+// All bytes of the exchange of this bit, from src to dst, as `carry` copies a stretch of them.
+fn carry_all(
+    file: &[u8],
+    first: usize,
+    end: usize,
+    bit: usize,
+    source: usize,
+    target: usize,
+    src: &[u8],
+    dst: &mut [u8],
+)
+    requires { Laid file.now × (first ≡ record_place file.now 0) × (end ≡ record_place file.now (variables file.now)) × (bit < 8) × (source ≤ 10) × (target ≤ 10)
+        × Lies file.now bit source (length src.now) × Lies file.now bit target (length dst.old) }
+    ensures { AllCarried file.now bit source target src.now dst.old dst.new }
+{
+    for place in (first..end).step_by(records::VARIABLE_RECORD) {
+        if named(file, place, bit) {
+            let from = code::word(file, place + source) as usize;
+            let to = code::word(file, place + target) as usize;
+            memory::copy(dst, to, src, from, file[place + WIDTH] as usize);
+        }
+    }
+}
+
 // Core k's reading, whole.
 pub fn bring_all(file: &[u8], first: usize, end: usize, k: usize, d: &mut [u8], shared: &[u8])
     requires { Laid file.now × (k < cores file.now) × (first ≡ record_place file.now 0) × (end ≡ record_place file.now (variables file.now))
         × (length d.old ≡ data_size file.now k) × (length shared.now ≡ 1024) }
     ensures { d.new ≡ copy (reads_of (variables_of file.now) k) shared.now d.old }
 {
-    let mut place = first;
-    while place < end {
-        if named(file, place, 4 + k) {
-            let from = code::word(file, place) as usize;
-            let to = code::word(file, place + LOCAL + 2 * k) as usize;
-            memory::copy(d, to, shared, from, file[place + WIDTH] as usize);
-        }
-        place += records::VARIABLE_RECORD;
-    }
+    carry_all(file, first, end, 4 + k, 0, LOCAL + 2 * k, shared, d);
 }
 
 // Core k's writing, whole.
@@ -301,13 +301,5 @@ pub fn publish_all(file: &[u8], first: usize, end: usize, k: usize, d: &[u8], sh
         × (length d.now ≡ data_size file.now k) × (length shared.old ≡ 1024) }
     ensures { shared.new ≡ copy (writes_of (variables_of file.now) k) d.now shared.old }
 {
-    let mut place = first;
-    while place < end {
-        if named(file, place, k) {
-            let from = code::word(file, place + LOCAL + 2 * k) as usize;
-            let to = code::word(file, place) as usize;
-            memory::copy(shared, to, d, from, file[place + WIDTH] as usize);
-        }
-        place += records::VARIABLE_RECORD;
-    }
+    carry_all(file, first, end, k, LOCAL + 2 * k, 0, d, shared);
 }

@@ -38,12 +38,10 @@ fn places_start(code: &[u8], marks: &[u8], r: Registers, places: &[u16; 64], k: 
     if !starts_at(code, marks, r.counter) {
         return false;
     }
-    let mut i: usize = 0;
-    while i < STACK_ENTRIES {
+    for i in 0..STACK_ENTRIES {
         if !starts_at(code, marks, places[STACK_ENTRIES * k + i]) {
             return false;
         }
-        i += 1;
     }
     true
 }
@@ -64,10 +62,8 @@ fn walked(r: Registers, places: &[u16; 64], k: usize) -> u32
     if r.depth == 0 {
         return sum;
     }
-    let mut i: usize = 0;
-    while i < STACK_ENTRIES {
-        sum = sum + bytes_before(places[STACK_ENTRIES * k + i]);
-        i += 1;
+    for i in 0..STACK_ENTRIES {
+        sum += bytes_before(places[STACK_ENTRIES * k + i]);
     }
     sum
 }
@@ -101,12 +97,10 @@ fn offsets_fit(size: usize, r: Registers, offsets: &[u16; 64], k: usize) -> bool
     if !below(r.offset, size) {
         return false;
     }
-    let mut i: usize = 0;
-    while i < STACK_ENTRIES {
+    for i in 0..STACK_ENTRIES {
         if !below(offsets[STACK_ENTRIES * k + i], size) {
             return false;
         }
-        i += 1;
     }
     true
 }
@@ -141,13 +135,11 @@ pub fn freed_fit(r: Registers, places: &[u16; 64], offsets: &[u16; 64], k: usize
     requires { k < 4 }
     ensures { result ≡ freed_fit r (entry places.now k) (entry offsets.now k) }
 {
-    let mut i: usize = 0;
-    while i < STACK_ENTRIES {
+    for i in 0..STACK_ENTRIES {
         let at = STACK_ENTRIES * k + i;
         if !entry_freed(r.depth, i, places[at], offsets[at]) {
             return false;
         }
-        i += 1;
     }
     true
 }

@@ -122,8 +122,7 @@ fn line_fit(file: &[u8], trace: &[u8], tasks: [CoreTask; 4], n: usize, s: Held) 
     if LINE < waiting {
         return false;
     }
-    let mut i: usize = 0;
-    while i < waiting {
+    for i in 0..waiting {
         let k = m.line[i];
         if semaphore::in_line(m, i + 1, k) {
             return false;
@@ -135,7 +134,6 @@ fn line_fit(file: &[u8], trace: &[u8], tasks: [CoreTask; 4], n: usize, s: Held) 
         if !may_wait(tasks[core].count, s.cores[core]) {
             return false;
         }
-        i += 1;
     }
     true
 }
@@ -151,12 +149,10 @@ fn state_refusal(file: &[u8], trace: &[u8], tasks: [CoreTask; 4], n: usize, s: H
     if n < s.semaphore.holder as usize {
         return verdict::UNFIT_STATE;
     }
-    let mut k: usize = 0;
-    while k < n {
+    for k in 0..n {
         if !core_fit(file, trace, tasks[k], s, k) {
             return verdict::UNFIT_STATE;
         }
-        k += 1;
     }
     if !line_fit(file, trace, tasks, n, s) {
         return verdict::UNFIT_STATE;

@@ -9,7 +9,6 @@ ghost use Rattle.memory.specs.Memory.{splice, flat};
 ghost use Rattle.listing.specs.Listing.{decimal, column, core_line, core_lines, kind_letter, taking_text, head, listing, refused_text, long_text};
 ghost use Rattle.listing.specs.Writers.{text_left, text_call};
 
-use memory::least;
 use protocol::Registers;
 use states::{Held, table_of};
 
@@ -90,7 +89,7 @@ fn write_lines(out: &mut [u8], at: usize, s: Held, n: usize) -> usize
     ensures { (out.new ≡ splice out.old at (core_lines 0 (take n s.cores))) × (result ≡ at + length (core_lines 0 (take n s.cores))) × (result ≤ at + 120) }
 {
     let cores = table_of(s);
-    let lines = least(n, CORES);
+    let lines = n.min(CORES);
     let mut next = at;
     let mut k = 0;
     while k < lines {
@@ -126,7 +125,7 @@ fn write_takings(out: &mut [u8], at: usize, list: &[u8], taken: usize) -> usize
     ensures { (out.new ≡ splice out.old at (flat (map taking_text (take taken list.now))))
         × (result ≡ at + length (flat (map taking_text (take taken list.now)))) × (result ≡ at + 3 * min taken (length list.now)) }
 {
-    let takings = least(taken, list.len());
+    let takings = taken.min(list.len());
     let mut next = at;
     let mut i = 0;
     while i < takings {
@@ -163,7 +162,7 @@ pub fn write_listing(s: Held, n: usize, list: &[u8], taken: usize, out: &mut [u8
     if out.len() <= before {
         return Written::Refused(verdict::BAD_LENGTHS);
     }
-    let takings = least(taken, list.len());
+    let takings = taken.min(list.len());
     if (out.len() - before - 1) / 3 < takings {
         return Written::Refused(verdict::BAD_LENGTHS);
     }

@@ -4,7 +4,7 @@ use mathlib.Core.Path.{◌≡◌, refl, sym, ap, ap₂, ◌∙◌}
 use mathlib.Core.Logic.{◌≢◌}
 use mathlib.Core.Bool.{Bool, true, false}
 use mathlib.Core.List.{List, [], ◌∷◌}
-use Prim.Native.Nat.{ℕ, zero, suc, ◌+◌, ◌-◌, ◌≤◌, ◌<◌}
+use Prim.Native.Nat.{ℕ, zero, suc, ◌+◌, ◌≤◌, ◌<◌}
 use native.Mathlib.Omega.{arith}
 use native.Mathlib.Numerals.{add-one}
 use borrow.Author.Tests.{lt-ltb, le-ltb, eq-eqb, ne_eqb, ltb-true, eqb-true, le-leb}
@@ -23,7 +23,7 @@ use Rattle.code.specs.declared.Profile.TheVariants.{Full}
 use Rattle.taskset.specs.Judge.{judge_for, judge}
 use Rattle.taskset.specs.Layout.{layout_of, load_for, load_of}
 use Rattle.taskset.specs.Trace.{trace_refusal}
-use Rattle.taskset.specs.Task.{listed, sizes_of}
+use Rattle.taskset.specs.Task.{sizes_of}
 use Rattle.taskset.specs.Starts.{start_shared, start_buffer}
 use Rattle.taskset.proofs.Accepted.{length-buffer, length-shared}
 use Rattle.taskset.proofs.Loading.{file-judged-for, file-judged, file-accepted-for, file-laid-for}

@@ -18,7 +18,7 @@ use Rattle.states.specs.Set.{AcceptedSet}
 use Rattle.states.specs.Preparing.{held_refusal}
 use Rattle.states.proofs.Accepted.{accepted-set}
 use Rattle.states.proofs.Exactly.{fit-accepted}
-use Rattle.table.specs.declared.Moving.{Moving}
+use Rattle.std.proofs.Common.{Option}
 use Rattle.table.specs.Table.{next_moving}
 use Rattle.table.specs.Next.{NextCore}
 use Rattle.table.proofs.Next.{next-core}
@@ -68,7 +68,7 @@ module _ (f t : List ℕ) (h : Held) (given : ℕ) where
   unfolding next_call
   next-refused r e n = says (Refused r) (ap Refused e ∙ sym (pick-false _ _ _ (ne_eqb _ _ (λ w. n (e ∙ w)))))
 
-  pub next-granted : (m : Moving) → next_refusal f t h given ≡ 0 → m ≡ next_moving f t h given → (Found m ≡ next_call f t h given) × (next_says (Found m) ≡ next_said f t h given)
+  pub next-granted : (m : Option ℕ) → next_refusal f t h given ≡ 0 → m ≡ next_moving f t h given → (Found m ≡ next_call f t h given) × (next_says (Found m) ≡ next_said f t h given)
   unfolding next_call
   next-granted m e q = says (Found m) (ap Found q ∙ sym (pick_true _ _ _ (eq-eqb _ _ e)))
 

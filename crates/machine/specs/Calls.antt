@@ -1,6 +1,6 @@
 -- Each public call for every input: its refusal number, in the order file, 21, 22, 23, 20, or what it does. A refused call changes nothing.
 -- In order: refusals; the fresh state; a run; a step; the next core to move.
-use Rattle.std.specs.Prelude.{ℕ, Bool, true, List, [], ◌∷◌, length, replicate, ltb, leb, eqb}
+use Rattle.std.specs.Prelude.{ℕ, Bool, true, List, [], ◌∷◌, length, replicate, ltb, leb, eqb, Option, Some, None}
 use Rattle.verdict.specs.Numbers.{no_such_core, bad_lengths}
 use Rattle.verdict.specs.Verdict.{pick, both, next, unless}
 use Rattle.memory.specs.Memory.{total}
@@ -20,8 +20,6 @@ use Rattle.states.specs.Machine.{state_of, held_after, data_of}
 use Rattle.states.specs.Preparing.{held_refusal}
 use Rattle.runner.specs.declared.RunAnswer.{RunAnswer}
 use Rattle.runner.specs.Runs.{all_below, Left, left_as, ran_call}
-use Rattle.table.specs.declared.Moving.{Moving}
-use Rattle.table.specs.declared.Moving.TheVariants.{Core, Nothing}
 use Rattle.table.specs.Table.{next_moving}
 use Rattle.machine.specs.declared.Next.{Next}
 use Rattle.machine.specs.declared.Next.TheVariants.{Refused, Found}
@@ -129,9 +127,9 @@ pub record Says : Type 0 where
   pub named : List ℕ
 
 -- each case of the answer: a refusal names no core and says nothing of the table; "none" names no core and is no refusal
-abbrev pub cores_named : Moving → List ℕ
-cores_named (Core k) = k ∷ []
-cores_named Nothing = []
+abbrev pub cores_named : Option ℕ → List ℕ
+cores_named (Some k) = k ∷ []
+cores_named None = []
 
 abbrev pub next_says : Next → Says
 next_says (Refused r) = record { number = r; named = [] }

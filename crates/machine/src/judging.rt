@@ -59,14 +59,10 @@ fn all_below(order: &[u8], n: usize) -> bool
     ensures { result ≡ all_below n order.now }
 {
     let mut most: u8 = 0;
-    let mut i = 0;
-    while i < order.len() {
-        if most < order[i] {
-            most = order[i];
-        }
-        i += 1;
+    for core in order {
+        most = most.max(*core);
     }
-    if order.len() == 0 {
+    if order.is_empty() {
         return true;
     }
     (most as usize) < n

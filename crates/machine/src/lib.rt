@@ -15,7 +15,6 @@ pub use fresh_state::{fresh, fresh_for, fresh_judged, idle_table};
 pub use judging::{Judgement, judge_call, load_lent};
 use runner::RunAnswer;
 use states::Held;
-use table::Moving;
 
 // Bytes of shared memory.
 pub const SHARED: usize = 1024;
@@ -65,7 +64,7 @@ pub fn buffer_size(file: &[u8]) -> usize
 #[derive(Clone, Copy)]
 pub enum Next {
     Refused(u8),
-    Found(Moving),
+    Found(Option<u8>),
 }
 
 // The first core after a given one, round the ring and that one last, whose step would change something.

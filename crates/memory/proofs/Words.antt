@@ -66,6 +66,11 @@ moved-turn d e to from n i w h l a q =
     ∙ ap (splice e (to + (i + w))) (elsewhere d (part d (from + i) w) to from n i w a h (length_part d (from + i) w (omega arith)))
     ∙ copied-turn d e d to from n i w h l q
 
+-- the same where the next index is named otherwise
+pub moved-on : (d e : List ℕ) (to from n i w j : ℕ) → j ≡ i + w → j ≤ n → from + n ≤ length d → Disjoint to from n → e ≡ splice d (to + i) (part d (from + i) w)
+    → splice e (to + j) (part e (from + j) (n - j)) ≡ splice d (to + i) (part d (from + i) (n - i))
+moved-on d e to from n i w j p h l a q = rw p (moved-turn d e to from n i w (omega arith) l a q)
+
 -- ---- how far apart
 
 -- stretches whose places lie n apart share none of n bytes

@@ -1,17 +1,14 @@
 // Lent bytes: numbers of any width up to eight bytes, low byte first, and copies.
 #![tactic(auto)]
 
-ghost use Rattle.std.specs.Prelude.{◌≡◌, ◌+◌, ◌-◌, ◌^◌, ◌≤◌, ◌<◌, min, length, get_or, replicate};
+ghost use Rattle.std.specs.Prelude.{◌≡◌, ◌+◌, ◌-◌, ◌^◌, ◌≤◌, ◌<◌, length, get_or, replicate};
 ghost use Rattle.memory.specs.Memory.{splice, part, Disjoint, bytes_le, read_le};
 
 // The byte at `place`, 0 past the end. Total readers serve the judging of files and traces; a step reads by `load`.
 pub fn byte_at(s: &[u8], place: usize) -> u8
     ensures { result ≡ get_or s.now place 0 }
 {
-    if place < s.len() {
-        return s[place];
-    }
-    0
+    s.get(place).copied().unwrap_or(0)
 }
 
 // The 16-bit number at `place`; a byte past the end counts as 0.
@@ -32,11 +29,8 @@ pub fn load(d: &[u8], place: usize, width: usize) -> u64
     ensures { (result ≡ read_le d.now place width) × (result < 256 ^ width) }
 {
     let mut v: u64 = 0;
-    let mut i = width;
-    while 0 < i {
-        i -= 1;
-        let b = d[place + i] as u64;
-        v = v * 256 + b;
+    for b in d[place..place + width].iter().rev() {
+        v = v * 256 + u64::from(*b);
     }
     v
 }
@@ -47,11 +41,9 @@ pub fn store(d: &mut [u8], place: usize, width: usize, value: u64)
     ensures { d.new ≡ splice d.old place (bytes_le width value) }
 {
     let mut rest = value;
-    let mut i = 0;
-    while i < width {
-        d[place + i] = (rest % 256) as u8;
-        rest = rest / 256;
-        i += 1;
+    for b in &mut d[place..place + width] {
+        *b = (rest % 256) as u8;
+        rest /= 256;
     }
 }
 
@@ -60,24 +52,10 @@ pub fn copy(dst: &mut [u8], to: usize, src: &[u8], from: usize, n: usize)
     requires { (to + n ≤ length dst.old) × (from + n ≤ length src.now) }
     ensures { dst.new ≡ splice dst.old to (part src.now from n) }
 {
-    let mut i = 0;
-    while i < n {
-        dst[to + i] = src[from + i];
-        i += 1;
-    }
+    dst[to..to + n].copy_from_slice(&src[from..from + n]);
 }
 
 // ---- copies within one buffer, as if all bytes were read first
-
-// How far two places lie apart.
-pub fn distance(a: usize, b: usize) -> usize
-    ensures { result ≡ (a - b) + (b - a) }
-{
-    if a <= b {
-        return b - a;
-    }
-    a - b
-}
 
 // One word of eight bytes.
 fn move_word(d: &mut [u8], to: usize, from: usize)
@@ -94,14 +72,12 @@ pub fn move_words(d: &mut [u8], to: usize, from: usize, n: usize)
     requires { (to + n ≤ length d.old) × (from + n ≤ length d.old) × Disjoint to from n }
     ensures { d.new ≡ splice d.old to (part d.old from n) }
 {
-    let mut i = 0;
-    while 8 <= n - i {
-        move_word(d, to + i, from + i);
-        i += 8;
+    let words = n / 8;
+    for i in 0..words {
+        move_word(d, to + 8 * i, from + 8 * i);
     }
-    while i < n {
+    for i in 8 * words..n {
         d[to + i] = d[from + i];
-        i += 1;
     }
 }
 
@@ -123,7 +99,7 @@ pub fn copy_within(d: &mut [u8], to: usize, from: usize, n: usize)
     requires { (to + n ≤ length d.old) × (from + n ≤ length d.old) × (n ≤ 4096) }
     ensures { d.new ≡ splice d.old to (part d.old from n) }
 {
-    if n <= distance(to, from) {
+    if n <= to.abs_diff(from) {
         move_words(d, to, from, n);
     } else {
         move_through(d, to, from, n);
@@ -134,19 +110,5 @@ pub fn copy_within(d: &mut [u8], to: usize, from: usize, n: usize)
 pub fn zero(d: &mut [u8])
     ensures { d.new ≡ replicate (length d.old) 0 }
 {
-    let mut i = 0;
-    while i < d.len() {
-        d[i] = 0;
-        i += 1;
-    }
-}
-
-// The lesser of two numbers.
-pub fn least(a: usize, b: usize) -> usize
-    ensures { result ≡ min a b }
-{
-    if a < b {
-        return a;
-    }
-    b
+    d.fill(0);
 }

@@ -8,7 +8,6 @@ ghost use Rattle.steps.specs.Bytes.{Ahead};
 ghost use Rattle.semaphore.specs.Line.{Lined, semaphore_of};
 ghost use Rattle.order.specs.Order.{steps_on, AllOn, Stretches, Waits};
 
-use memory::least;
 use protocol::Registers;
 use semaphore::Line;
 use states::CoreTask;
@@ -50,18 +49,17 @@ fn stretch(order: &[u8], i: usize, most: usize, k: usize) -> usize
     requires { (i ≤ length order.now) × (k < 4) }
     ensures { Stretches order.now i most k result }
 {
-    let room = least(order.len() - i, most);
+    let room = (order.len() - i).min(most);
     let mut m: usize = 0;
     while eight_on(order, i + m, room - m, k) {
         m += 8;
     }
-    while m < room {
+    for m in m..room {
         if order[i + m] as usize != k {
             return m;
         }
-        m += 1;
     }
-    m
+    room
 }
 
 // How many of the steps from i on are of core k, with the registers r and the task c, and copy bytes of its exchange that leave one; 0 where the next
@@ -82,16 +80,13 @@ pub fn past_waiting(file: &[u8], order: &[u8], i: usize, line: Line) -> usize
     requires { (i ≤ length order.now) × ((j : ℕ) → j < length order.now → get_or order.now j 0 < cores file.now) × (cores file.now ≤ 4) × Lined line }
     ensures { (i ≤ result) × (result ≤ length order.now) × Waits order.now (semaphore_of line.semaphore) i result }
 {
-    let n = order.len();
-    let mut j = i;
-    while j < n {
+    for j in i..order.len() {
         let k = core_at(file, order, j);
         if !semaphore::waits(line, k) {
             return j;
         }
-        j += 1;
     }
-    j
+    order.len()
 }
 
 // Steps that are looked at ahead: so many that the look at them costs a step little, and so few that little is lost where the core leaves mode 2 before.

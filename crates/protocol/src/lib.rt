@@ -69,11 +69,12 @@ pub enum Outcome {
 pub fn read_acquired(r: Registers, time: u32) -> Registers
     ensures { result ≡ read_acquired time r }
 {
-    let mut s = r;
-    s.mode = READING;
-    s.exchange = 0;
-    s.time = time;
-    s
+    Registers {
+        mode: READING,
+        exchange: 0,
+        time,
+        ..r
+    }
 }
 
 // One byte of an exchange is copied, and bytes are left.
@@ -81,33 +82,36 @@ pub fn byte_copied(r: Registers) -> Registers
     requires { r.exchange < 65535 }
     ensures { result ≡ byte_copied r }
 {
-    let mut s = r;
-    s.exchange = r.exchange + 1;
-    s
+    Registers {
+        exchange: r.exchange + 1,
+        ..r
+    }
 }
 
 // Mode 1 to 2: the reading releases the semaphore, and execution begins.
 pub fn read_released(r: Registers) -> Registers
     ensures { result ≡ read_released r }
 {
-    let mut s = r;
-    s.mode = EXECUTING;
-    s.counter = 0;
-    s.offset = 0;
-    s.depth = 0;
-    s.count = 0;
-    s.exchange = 0;
-    s
+    Registers {
+        mode: EXECUTING,
+        counter: 0,
+        offset: 0,
+        depth: 0,
+        count: 0,
+        exchange: 0,
+        ..r
+    }
 }
 
 // Mode 3 to 4: the semaphore is taken for a writing.
 pub fn write_acquired(r: Registers) -> Registers
     ensures { result ≡ write_acquired r }
 {
-    let mut s = r;
-    s.mode = WRITING;
-    s.exchange = 0;
-    s
+    Registers {
+        mode: WRITING,
+        exchange: 0,
+        ..r
+    }
 }
 
 // Mode 4 to 0: the writing releases the semaphore, and the cycle is over.
@@ -115,12 +119,13 @@ pub fn write_released(r: Registers) -> Registers
     requires { r.cycles < 65535 }
     ensures { result ≡ write_released r }
 {
-    let mut s = r;
-    s.mode = BETWEEN;
-    s.exchange = 0;
-    s.cycles = r.cycles + 1;
-    s.flags = r.flags & !(1u8 << COLD_START);
-    s
+    Registers {
+        mode: BETWEEN,
+        exchange: 0,
+        cycles: r.cycles + 1,
+        flags: r.flags & !(1u8 << COLD_START),
+        ..r
+    }
 }
 
 // What an instruction leaves is written field by field, as in the definitions: a copy of the whole would copy the bytes between the fields too.

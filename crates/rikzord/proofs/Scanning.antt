@@ -23,7 +23,7 @@ use Rattle.states.specs.declared.Held.{Held}
 use Rattle.states.specs.declared.CoreTask.{CoreTask}
 use Rattle.states.specs.Machine.{no_registers}
 use Rattle.states.specs.Tasks.{core_task, task_at}
-use Rattle.table.specs.declared.Moving.TheVariants.{Core as moving}
+use Rattle.std.proofs.Common.{Some}
 use Rattle.table.specs.Table.{can_move, can_move_at, round_from, first_moving, next_moving}
 use Rattle.machine.specs.Calls.{next_refusal}
 use Rattle.snapshot.specs.declared.CoreRecord.{CoreRecord}
@@ -83,7 +83,7 @@ module _ (f t : List ℕ) (ys : List CoreRecord) (p : Semaphore) (given : ℕ) (
       ap (λ (p : ℕ). pick (record_moves ring p (record_at ys p)) p (scan_from ys ring m (i + 1))) (place_is i)
       ∙ ap (λ (b : Bool). pick b k (scan_from ys ring m (i + 1))) (record-moves k l)
       ∙ ap (pick (can_move_at f t state k) k) (scans m (i + 1) ∙ ap (λ (j : ℕ). core_number (first_moving (can_move_at f t state) (listed (round_from (cores f) given) m j))) (add-one (i + 1)))
-      ∙ sym (pick-ap core_number (can_move_at f t state k) (moving k) rest)
+      ∙ sym (pick-ap core_number (can_move_at f t state k) (Some k) rest)
 
   pub scan-is : scanned ys ring ≡ core_number (next_moving f t state given)
   unfolding next_moving

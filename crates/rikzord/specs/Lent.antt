@@ -1,11 +1,9 @@
 -- The lent forms of the machine's calls: the core table is a lent list of records, and the semaphore a lent record beside it. Each call is the
 -- one on a snapshot of the table (crate snapshot, specs/Snapshot); of a call that isn't refused the table's records are written back.
 -- In order: a table copied out; what a call leaves; the calls; the next core to move. Not here: calls one after another (crate lent_calls).
-use Rattle.std.specs.Prelude.{ℕ, zero, suc, ◌+◌, List, length, get_or, set, eqb}
+use Rattle.std.specs.Prelude.{ℕ, zero, suc, ◌+◌, List, length, get_or, set, eqb, Option, Some, None}
 use Rattle.verdict.specs.Verdict.{pick}
 use Rattle.semaphore.specs.declared.Semaphore.{Semaphore}
-use Rattle.table.specs.declared.Moving.{Moving}
-use Rattle.table.specs.declared.Moving.TheVariants.{Core as moving, Nothing}
 use Rattle.table.specs.Table.{next_moving}
 use Rattle.machine.specs.Calls.{next_refusal}
 use Rattle.code.specs.declared.Profile.{Profile}
@@ -85,9 +83,9 @@ abbrev pub scanned : List CoreRecord → Ring → ℕ
 scanned ys r = scan_from ys r r.cores 0
 
 -- its number for C: 255 stands for none
-abbrev pub core_number : Moving → ℕ
-core_number (moving k) = k
-core_number Nothing = 255
+abbrev pub core_number : Option ℕ → ℕ
+core_number (Some k) = k
+core_number None = 255
 
 -- the call: what the one by value answers (crate machine, specs/Calls) of the state that the table holds
 unfoldable pub next_lent : List ℕ → List ℕ → List CoreRecord → Semaphore → ℕ → ℕ → Answered

@@ -31,20 +31,16 @@ use window::Shown;
 fn get_or(t: &[CoreRecord], i: usize, other: CoreRecord) -> CoreRecord
     ensures { result ≡ get_or t.now i other }
 {
-    if t.len() <= i {
-        return other;
-    }
-    t[i]
+    *t.get(i).unwrap_or(&other)
 }
 
-// Record i of a table is set; past its end nothing changes.
+// Record i of a table is set; past its end nothing changes. By a test: of `get_mut` the library says nothing about the table afterwards.
 fn put_or(t: &mut [CoreRecord], i: usize, c: CoreRecord)
     ensures { t.new ≡ set t.old i c }
 {
-    if t.len() <= i {
-        return;
+    if i < t.len() {
+        t[i] = c;
     }
-    t[i] = c;
 }
 
 // The table copied out.
@@ -65,10 +61,8 @@ fn scan(t: &[CoreRecord], r: Ring) -> u8
     ensures { result ≡ scanned t.now r }
 {
     let none = snapshot::no_record();
-    let mut i: u8 = 0;
-    while i < r.cores {
+    for i in 0..r.cores {
         let k = snapshot::place_after(r, i);
-        i += 1;
         let c = get_or(t, k as usize, none);
         if snapshot::moves(r, k, c) {
             return k;

@@ -5,7 +5,6 @@ use super::state_words::{GIVEN, LEFT, USUAL, state_in_words};
 use machine::Next;
 use runner::RunAnswer;
 use states::Held;
-use table::Moving;
 
 // Where a refused call changed a byte of lent memory or the state, or an accepted one left another state than the case says.
 const CHANGED: u8 = 99;
@@ -75,8 +74,8 @@ pub fn next_says(file: &[u8], trace: &[u8], s: Held, given: u8) -> u8 {
     match next {
         Next::Refused(number) => number,
         Next::Found(moving) => match moving {
-            Moving::Core(k) => CORE + k % 100,
-            Moving::Nothing => NONE,
+            Some(k) => CORE + k % 100,
+            None => NONE,
         },
     }
 }

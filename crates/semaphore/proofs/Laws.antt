@@ -8,6 +8,10 @@ use Prim.Native.Nat.{ℕ, zero, suc, ◌+◌, ◌-◌, ◌≤◌, ◌<◌}
 use native.Mathlib.Numerals.{add-one}
 use native.Mathlib.Omega.{arith}
 use borrow.Author.Tests.{eq-eqb, ne_eqb}
+use Rattle.std.proofs.Common.{◌==◌, ◌||◌}
+use Rattle.std.proofs.lemmas.Slice.{between_is}
+use Rattle.std.proofs.lemmas.List.{take_all, take-take}
+use Rattle.std.specs.List.{list_any}
 use lib.Dec.{eqb, eqb→eq}
 use lib.ListN.{length, get_or, set, take, drop, length-take, length-drop, length-append, drop_of_length-le}
 use lib.Seq.{drop-cons, get_or-take}
@@ -27,13 +31,31 @@ module _ (l : List ℕ) (w i : ℕ) where
   pub line-end : w ≤ i → drop i (take w l) ≡ []
   line-end h = drop_of_length-le (take w l) {i = i} (omega (arith, length-take w l))
 
-  pub line-past : length l ≤ i → drop i (take w l) ≡ []
-  line-past h = drop_of_length-le (take w l) {i = i} (omega (arith, length-take w l))
-
   pub line-entry : i < w → i < length l → drop i (take w l) ≡ get_or l i 0 ∷ drop (i + 1) (take w l)
   line-entry a b =
       drop-cons (take w l) i 0 (omega (arith, length-take w l))
       ∙ rw (add-one i, get_or-take w l i 0 a)
+
+-- the test that goes through the line
+pub found-in_line : (k : ℕ) (xs : List ℕ) → list_any (λ x. x == k) xs ≡ in_line k xs
+unfolding pick
+found-in_line k [] = refl
+found-in_line k (x ∷ xs) = go (x == k) (found-in_line k xs)
+  where
+    go : (b : Bool) → list_any (λ y. y == k) xs ≡ in_line k xs → (b || list_any (λ y. y == k) xs) ≡ pick b true (in_line k xs)
+    go true e = refl
+    go false e = e
+
+-- from an entry on, where the line has n entries
+module _ (l : List ℕ) (w n i k : ℕ) (m : n ≡ length (take w l)) where
+  pub found-from : list_any (λ x. x == k) (take (n - i) (drop i l)) ≡ in_line k (drop i (take w l))
+  found-from = ap (list_any (λ x. x == k)) (between_is l i n ∙ ap (drop i) same) ∙ found-in_line k (drop i (take w l))
+    where
+      same : take n l ≡ take w l
+      same = sym (take-take n w l (omega (arith, length-take w l))) ∙ take_all n (take w l) (omega arith)
+
+  pub found-none : n ≤ i → false ≡ in_line k (drop i (take w l))
+  found-none h = rw (drop_of_length-le (take w l) {i = i} (omega arith)) refl
 
 -- ---- whose turn it is
 

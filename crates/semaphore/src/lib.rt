@@ -15,7 +15,7 @@ pub struct Semaphore {
     pub line: [u8; 4],
 }
 
-const ENTRIES: usize = 4; // of a line
+const ENTRIES: u8 = 4; // of a line
 
 // ---- a caller's semaphore
 
@@ -23,17 +23,8 @@ const ENTRIES: usize = 4; // of a line
 pub fn in_line(m: Semaphore, from: usize, k: u8) -> bool
     ensures { result ≡ in_line k (drop from (semaphore_of m).line) }
 {
-    let mut i = from;
-    while i < ENTRIES {
-        if m.waiting as usize <= i {
-            return false;
-        }
-        if m.line[i] == k {
-            return true;
-        }
-        i += 1;
-    }
-    false
+    let waiting = usize::from(cores_in_line(m));
+    from < waiting && m.line[from..waiting].contains(&k)
 }
 
 // Core k may take the semaphore: it is free, and the line is empty or k is the first in it.
@@ -73,10 +64,7 @@ pub struct Line {
 fn cores_in_line(m: Semaphore) -> u8
     ensures { result ≡ length (semaphore_of m).line }
 {
-    if m.waiting < 4 {
-        return m.waiting;
-    }
-    4
+    m.waiting.min(ENTRIES)
 }
 
 pub fn line_of(m: Semaphore) -> Line
@@ -127,13 +115,9 @@ pub fn acquired(x: Line, k: usize) -> Line
     ensures { result ≡ line_of (acquired_by k (semaphore_of x.semaphore)) }
 {
     let m = x.semaphore;
-    let mut waiting = m.waiting;
-    if waiting != 0 {
-        waiting -= 1;
-    }
     let semaphore = Semaphore {
         holder: k as u8 + 1,
-        waiting,
+        waiting: m.waiting.saturating_sub(1),
         line: [m.line[1], m.line[2], m.line[3], 0],
     };
     let mut standing = x.standing;
@@ -149,13 +133,11 @@ pub fn released(x: Line) -> Line
     requires { Lined x }
     ensures { result ≡ line_of (released_by (semaphore_of x.semaphore)) }
 {
-    let mut semaphore = x.semaphore;
-    semaphore.holder = 0;
-    let standing = x.standing;
-    Line {
-        semaphore,
-        standing,
-    }
+    let semaphore = Semaphore {
+        holder: 0,
+        ..x.semaphore
+    };
+    Line { semaphore, ..x }
 }
 
 // Core k, which does not stand in line, joins at its end.
@@ -168,9 +150,9 @@ pub fn joined(x: Line, k: usize) -> Line
     let at = m.waiting as usize;
     line[at] = k as u8;
     let semaphore = Semaphore {
-        holder: m.holder,
         waiting: m.waiting + 1,
         line,
+        ..m
     };
     let mut standing = x.standing;
     standing[k] = true;

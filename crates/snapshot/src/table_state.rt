@@ -54,11 +54,7 @@ fn copy_entries(dst: &mut [u16], to: usize, src: &[u16], from: usize, n: usize)
     requires { (to + n ≤ length dst.old) × (from + n ≤ length src.now) }
     ensures { dst.new ≡ splice dst.old to (part src.now from n) }
 {
-    let mut i = 0;
-    while i < n {
-        dst[to + i] = src[from + i];
-        i += 1;
-    }
+    dst[to..to + n].copy_from_slice(&src[from..from + n]);
 }
 
 // The entries of four call stacks, end to end.
@@ -87,45 +83,29 @@ fn stack_of(all: [u16; 64], k: usize) -> [u16; 16]
 fn table_places(t: Table) -> [u16; 64]
     ensures { result ≡ held_places t }
 {
-    let a = t.cores[0];
-    let b = t.cores[1];
-    let c = t.cores[2];
-    let d = t.cores[3];
-    let pa = a.places;
-    let pb = b.places;
-    let pc = c.places;
-    let pd = d.places;
-    join(pa, pb, pc, pd)
+    let [a, b, c, d] = t.cores;
+    join(a.places, b.places, c.places, d.places)
 }
 
 // The data offsets that go with them.
 fn table_offsets(t: Table) -> [u16; 64]
     ensures { result ≡ held_offsets t }
 {
-    let a = t.cores[0];
-    let b = t.cores[1];
-    let c = t.cores[2];
-    let d = t.cores[3];
-    let oa = a.offsets;
-    let ob = b.offsets;
-    let oc = c.offsets;
-    let od = d.offsets;
-    join(oa, ob, oc, od)
+    let [a, b, c, d] = t.cores;
+    join(a.offsets, b.offsets, c.offsets, d.offsets)
 }
 
 // The state that a table holds.
 pub fn state_of(t: Table, semaphore: Semaphore) -> Held
     ensures { result ≡ held t semaphore }
 {
-    let a = t.cores[0];
-    let b = t.cores[1];
-    let c = t.cores[2];
-    let d = t.cores[3];
-    let ra = registers_in(a);
-    let rb = registers_in(b);
-    let rc = registers_in(c);
-    let rd = registers_in(d);
-    let cores = [ra, rb, rc, rd];
+    let [a, b, c, d] = t.cores;
+    let cores = [
+        registers_in(a),
+        registers_in(b),
+        registers_in(c),
+        registers_in(d),
+    ];
     let places = table_places(t);
     let offsets = table_offsets(t);
     Held {
@@ -142,12 +122,7 @@ fn core_of(s: Held, k: usize) -> CoreRecord
     requires { k < 4 }
     ensures { result ≡ core_of s k }
 {
-    let registers = s.cores[k];
-    let all_places = s.places;
-    let all_offsets = s.offsets;
-    let places = stack_of(all_places, k);
-    let offsets = stack_of(all_offsets, k);
-    record_of(registers, places, offsets)
+    record_of(s.cores[k], stack_of(s.places, k), stack_of(s.offsets, k))
 }
 
 // Record k after a call that is not refused and leaves the state s.
@@ -182,10 +157,7 @@ pub fn accepted(t: Table, s: Held) -> After
 pub fn unchanged(t: Table, semaphore: Semaphore, number: u8) -> After
     ensures { result ≡ refused_of t semaphore number }
 {
-    let a = t.cores[0];
-    let b = t.cores[1];
-    let c = t.cores[2];
-    let d = t.cores[3];
+    let [a, b, c, d] = t.cores;
     After {
         refusal: number,
         a,

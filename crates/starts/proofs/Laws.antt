@@ -37,19 +37,19 @@ pub record Pairing (f : List ℕ) (q n : ℕ) (d₀ d : List ℕ) (at i : ℕ) :
   pub size : length d ≡ length d₀
   pub rest : with_pairs f at (n - i) d ≡ with_pairs f q n d₀
 
-pub pairing-none : (f : List ℕ) (q n : ℕ) (d : List ℕ) → Pairing f q n d d q 0
-pairing-none f q n d = record { here = omega arith; upto = omega arith; size = refl; rest = ap (λ (m : ℕ). with_pairs f q m d) (let e : n - 0 ≡ n = omega arith in e) }
+pub pairing-none : (f : List ℕ) (q n : ℕ) (d : List ℕ) (at : ℕ) → at ≡ q → Pairing f q n d d at 0
+pairing-none f q n d at e = record { here = omega arith; upto = omega arith; size = refl; rest = ap₂ (λ (p m : ℕ). with_pairs f p m d) e (let k : n - 0 ≡ n = omega arith in k) }
 
 module _ (f : List ℕ) (q n : ℕ) (d₀ d : List ℕ) (at i : ℕ) (x : Pairing f q n d₀ d at i) where
-  pub pairing-more : (place b : ℕ) → i < n → place ≡ word f at → b ≡ byte f (at + 2) → Pairing f q n d₀ (set d place b) (at + 3) (i + 1)
+  pub pairing-more : (place b next : ℕ) → next ≡ at + 3 → i < n → place ≡ word f at → b ≡ byte f (at + 2) → Pairing f q n d₀ (set d place b) next (i + 1)
   unfolding with_pairs
-  pairing-more place b h e g =
+  pairing-more place b next t h e g =
       let s : n - i ≡ suc (n - (i + 1)) = omega arith in
       record {
         here = omega (arith, x.here);
         upto = omega arith;
         size = length-set d place b ∙ x.size;
-        rest = ap₂ (λ (p v : ℕ). with_pairs f (at + 3) (n - (i + 1)) (set d p v)) e g ∙ sym (ap (λ (m : ℕ). with_pairs f at m d) s) ∙ x.rest;
+        rest = ap (λ (p : ℕ). with_pairs f p (n - (i + 1)) (set d place b)) t ∙ ap₂ (λ (p v : ℕ). with_pairs f (at + 3) (n - (i + 1)) (set d p v)) e g ∙ sym (ap (λ (m : ℕ). with_pairs f at m d) s) ∙ x.rest;
       }
 
   pub pairing-inside : (place : ℕ) → i < n → place ≡ word f at → ((j : ℕ) → j < n → word f (q + 3 * j) < length d₀) → place < length d
@@ -280,9 +280,9 @@ module _ (f : List ℕ) (accepted : judge f ≡ 0) (m : ℕ) (s₀ s : List ℕ)
     pub buffer-fits : b + local w v + v.width ≤ total (sizes_of f)
     buffer-fits = omega (arith, base-is, local-is, local_fits, base-end f (writer_of v) writer-known)
 
-    pub publishing-more : (s' buffer : List ℕ) → buffer ≡ start_buffer f → s' ≡ splice s v.place (part buffer (b + local w v) v.width) → Publishing f m s₀ s' (p + 12) (i + 1)
+    pub publishing-more : (s' buffer : List ℕ) (next : ℕ) → next ≡ p + 12 → buffer ≡ start_buffer f → s' ≡ splice s v.place (part buffer (b + local w v) v.width) → Publishing f m s₀ s' next (i + 1)
     unfolding with_written listed
-    publishing-more s' buffer filled copied =
+    publishing-more s' buffer next step filled copied =
         let n : m - i ≡ suc (m - (i + 1)) = omega arith in
         record {
           all = x.all;

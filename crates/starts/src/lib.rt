@@ -20,13 +20,10 @@ fn write_pairs(f: &[u8], q: usize, n: usize, d: &mut [u8])
     requires { (q + 3 * n ≤ length f.now) × ((i : ℕ) → i < n → word f.now (q + 3 * i) < length d.old) }
     ensures { d.new ≡ with_pairs f.now q n d.old }
 {
-    let mut at = q;
-    let mut i = 0;
-    while i < n {
+    for i in 0..n {
+        let at = q + 3 * i;
         let place = memory::word_at(f, at);
         d[place] = f[at + 2];
-        at += 3;
-        i += 1;
     }
 }
 
@@ -38,14 +35,12 @@ fn write_data(f: &[u8], buffer: &mut [u8])
     let n = memory::byte_at(f, 4) as usize;
     let mut p = file_loading::code_place(f, n);
     let mut a = 0;
-    let mut k = 0;
-    while k < n {
+    for k in 0..n {
         let e = a + memory::word_at(f, 5 + 6 * k);
         let count = memory::word_at(f, p);
         write_pairs(f, p + 2, count, &mut buffer[a..e]);
         p = p + 2 + 3 * count;
         a = e;
-        k += 1;
     }
 }
 
@@ -82,16 +77,12 @@ fn write_shared(f: &[u8], layout: Layout, buffer: &[u8], shared: &mut [u8])
     requires { (judge f.now ≡ 0) × (layout ≡ layout_of f.now) × (buffer.now ≡ start_buffer f.now) × (length shared.old ≡ 1024) }
     ensures { shared.new ≡ with_written (start_data f.now) (variables_of f.now) shared.old }
 {
-    let m = layout.variables;
-    let mut p = layout.first;
-    let mut i = 0;
-    while i < m {
+    for i in 0..layout.variables {
+        let p = layout.first + records::VARIABLE_RECORD * i;
         let w = writer(f, p);
         let from = base_of(f, layout, w) + records::local_place(f, p, w) as usize;
         let to = records::shared_place(f, p) as usize;
         memory::copy(shared, to, buffer, from, records::width(f, p) as usize);
-        p += records::VARIABLE_RECORD;
-        i += 1;
     }
 }
 

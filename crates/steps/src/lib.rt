@@ -46,11 +46,7 @@ fn clear(d: &mut [u8], n: usize)
     requires { n ≤ length d.old }
     ensures { d.new ≡ splice d.old 0 (replicate n 0) }
 {
-    let mut i = 0;
-    while i < n {
-        d[i] = 0;
-        i += 1;
-    }
+    d[..n].fill(0);
 }
 
 // The input bytes of the record of this cycle go to the first data bytes; its time is the answer. A trace of no bytes means time 0 and zeros.

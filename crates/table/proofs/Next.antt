@@ -30,7 +30,7 @@ use Rattle.states.proofs.Line.{left-records}
 use Rattle.states.proofs.Executes.{executes}
 use Rattle.table.specs.Table.{served_or_joins, can_move_in, can_move, can_move_at, round_from, next_moving}
 use Rattle.table.specs.Next.{FirstToMove, AtRest, DoneAt, Done, NextCore}
-use Rattle.table.specs.declared.Moving.TheVariants.{Core, Nothing}
+use Rattle.std.proofs.Common.{Some, None}
 use Rattle.table.proofs.Moves.{Seen, moving-changes, changing-moves, resting-stays, staying-rests, step-seen}
 use Rattle.table.proofs.Ring.{found, none_found, all-passed, distance-to, round-inside, given-last}
 
@@ -60,7 +60,7 @@ module _ (f t : List ℕ) (h : Held) (d sh : List ℕ) (ok : AcceptedSet f t) (f
   -- ---- the first
 
   module _ (given : ℕ) (g : given < cores f) where
-    first-core : (j : ℕ) → next_moving f t h given ≡ Core j → FirstToMove (task_of f t) (cores f) whole given j
+    first-core : (j : ℕ) → next_moving f t h given ≡ Some j → FirstToMove (task_of f t) (cores f) whole given j
     unfolding next_moving
     first-core j e =
         let x = found (can_move_at f t h) (round_from (cores f) given) (cores f) 1 j e in
@@ -78,13 +78,13 @@ module _ (f t : List ℕ) (h : Held) (d sh : List ℕ) (ok : AcceptedSet f t) (f
 
     -- ---- none
 
-    none_rest : next_moving f t h given ≡ Nothing → AtRest (task_of f t) (cores f) whole
+    none_rest : next_moving f t h given ≡ None → AtRest (task_of f t) (cores f) whole
     unfolding next_moving
     none_rest e k l =
         let x = distance-to (cores f) given k g l in
         resting-stays (seen k l) (rw x.there at (none_found (can_move_at f t h) (round_from (cores f) given) (cores f) 1 e x.distance x.least (omega (arith, x.most))))
 
-    rest-none : AtRest (task_of f t) (cores f) whole → next_moving f t h given ≡ Nothing
+    rest-none : AtRest (task_of f t) (cores f) whole → next_moving f t h given ≡ None
     unfolding next_moving
     rest-none s =
         all-passed (can_move_at f t h) (round_from (cores f) given) (cores f) 1

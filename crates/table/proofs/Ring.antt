@@ -11,7 +11,7 @@ use Rattle.verdict.specs.Verdict.{pick}
 use Rattle.verdict.proofs.Verdict.{pick_true, pick-false}
 use Rattle.taskset.specs.Task.{listed}
 use Rattle.table.specs.Table.{round_from, first_moving}
-use Rattle.table.specs.declared.Moving.TheVariants.{Core, Nothing}
+use Rattle.std.proofs.Common.{Some, None}
 
 -- ---- what an answer says
 
@@ -41,29 +41,29 @@ module _ (moving : ℕ → Bool) (g : ℕ → ℕ) where
           let n : (i ≡ e → ⊥) = eqb-false i e q in
           x.passed e (omega arith) b
 
-  pub found : (m i j : ℕ) → first_moving moving (listed g m i) ≡ Core j → Found m i j
+  pub found : (m i j : ℕ) → first_moving moving (listed g m i) ≡ Some j → Found m i j
   unfolding listed pick
   found zero i j e = absurd (let z : ◌≡◌ {A = ℕ} 0 1 = cc in omega arith)
   found (suc m) i j e = go (found m (suc i) j) (moving (g i)) refl
     where
-      go : (first_moving moving (listed g m (suc i)) ≡ Core j → Found m (suc i) j) → (b : Bool) → moving (g i) ≡ b → Found (suc m) i j
+      go : (first_moving moving (listed g m (suc i)) ≡ Some j → Found m (suc i) j) → (b : Bool) → moving (g i) ≡ b → Found (suc m) i j
       go rest true q = record {
         number = i;
         from = omega arith;
         below = omega arith;
-        is = let z : Core (g i) ≡ Core j = sym (pick_true _ _ _ q) ∙ e in cc;
+        is = let z : Some (g i) ≡ Some j = sym (pick_true _ _ _ q) ∙ e in cc;
         can = q;
         passed = λ d a b. absurd (let z : ⊥ = omega arith in z);
       }
       go rest false q = later m i j q (rest (sym (pick-false _ _ _ q) ∙ e))
 
-  pub none_found : (m i : ℕ) → first_moving moving (listed g m i) ≡ Nothing → (e : ℕ) → i ≤ e → e < i + m → moving (g e) ≡ false
+  pub none_found : (m i : ℕ) → first_moving moving (listed g m i) ≡ None → (e : ℕ) → i ≤ e → e < i + m → moving (g e) ≡ false
   unfolding listed
   none_found zero i n e a b = absurd (let z : ⊥ = omega arith in z)
   none_found (suc m) i n e a b = go (λ x h. none_found m (suc i) x e h (omega arith)) (moving (g i)) refl
     where
-      go : (first_moving moving (listed g m (suc i)) ≡ Nothing → i < e → moving (g e) ≡ false) → (c : Bool) → moving (g i) ≡ c → moving (g e) ≡ false
-      go rest true q = absurd (let x : Core (g i) ≡ Nothing = sym (pick_true _ _ _ q) ∙ n in let z : ◌≡◌ {A = ℕ} 0 1 = cc in omega arith)
+      go : (first_moving moving (listed g m (suc i)) ≡ None → i < e → moving (g e) ≡ false) → (c : Bool) → moving (g i) ≡ c → moving (g e) ≡ false
+      go rest true q = absurd (let x : Some (g i) ≡ None = sym (pick_true _ _ _ q) ∙ n in let z : ◌≡◌ {A = ℕ} 0 1 = cc in omega arith)
       go rest false q = next (eqb i e) refl
         where
           next : (c : Bool) → eqb i e ≡ c → moving (g e) ≡ false
@@ -72,7 +72,7 @@ module _ (moving : ℕ → Bool) (g : ℕ → ℕ) where
               let d : (i ≡ e → ⊥) = eqb-false i e p in
               rest (sym (pick-false _ _ _ q) ∙ n) (omega arith)
 
-  pub all-passed : (m i : ℕ) → ((e : ℕ) → i ≤ e → e < i + m → moving (g e) ≡ false) → first_moving moving (listed g m i) ≡ Nothing
+  pub all-passed : (m i : ℕ) → ((e : ℕ) → i ≤ e → e < i + m → moving (g e) ≡ false) → first_moving moving (listed g m i) ≡ None
   unfolding listed
   all-passed zero i h = refl
   all-passed (suc m) i h = pick-false _ _ _ (h i (omega arith) (omega arith)) ∙ all-passed m (suc i) (λ e a b. h e (omega arith) (omega arith))
@@ -84,7 +84,7 @@ module _ (moving : ℕ → Bool) (g : ℕ → ℕ) where
     pub to : i ≤ n + 1
     pub rest : first_moving moving (listed g n 1) ≡ first_moving moving (listed g (n + 1 - i) i)
 
-  one_more : (n i : ℕ) → i ≤ n → first_moving moving (listed g (n + 1 - i) i) ≡ pick (moving (g i)) (Core (g i)) (first_moving moving (listed g (n + 1 - (i + 1)) (i + 1)))
+  one_more : (n i : ℕ) → i ≤ n → first_moving moving (listed g (n + 1 - i) i) ≡ pick (moving (g i)) (Some (g i)) (first_moving moving (listed g (n + 1 - (i + 1)) (i + 1)))
   unfolding listed
   one_more n i h =
       let e : n + 1 - i ≡ suc (n + 1 - (i + 1)) = omega arith in
@@ -97,10 +97,10 @@ module _ (moving : ℕ → Bool) (g : ℕ → ℕ) where
   pub looking-more : (n i : ℕ) → Looking n i → i ≤ n → moving (g i) ≡ false → Looking n (i + 1)
   looking-more n i x h q = record { from = omega (arith, x.from); to = omega arith; rest = x.rest ∙ one_more n i h ∙ pick-false _ _ _ q }
 
-  pub looking-stop : (n i : ℕ) → Looking n i → i ≤ n → moving (g i) ≡ true → Core (g i) ≡ first_moving moving (listed g n 1)
+  pub looking-stop : (n i : ℕ) → Looking n i → i ≤ n → moving (g i) ≡ true → Some (g i) ≡ first_moving moving (listed g n 1)
   looking-stop n i x h q = sym (x.rest ∙ one_more n i h ∙ pick_true _ _ _ q)
 
-  pub looking-end : (n i : ℕ) → Looking n i → n < i → Nothing ≡ first_moving moving (listed g n 1)
+  pub looking-end : (n i : ℕ) → Looking n i → n < i → None ≡ first_moving moving (listed g n 1)
   unfolding listed
   looking-end n i x h = let e : n + 1 - i ≡ 0 = omega arith in sym (x.rest ∙ rw e)
 

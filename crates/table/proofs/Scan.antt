@@ -15,7 +15,7 @@ use Rattle.states.specs.declared.CoreTask.{CoreTask}
 use Rattle.states.specs.declared.Held.{Held}
 use Rattle.states.proofs.Tasks.{tasks-at}
 use Rattle.table.specs.Table.{can_move, can_move_at, round_from, next_moving}
-use Rattle.table.specs.declared.Moving.TheVariants.{Core, Nothing}
+use Rattle.std.proofs.Common.{Some, None}
 use Rattle.table.proofs.Ring.{Looking, looking-more, looking-stop, looking-end, round-inside}
 
 -- the cores from number i after the given one on are still to be looked at
@@ -35,13 +35,13 @@ module _ (f t : List ℕ) (s : Held) (tasks : List CoreTask) (n given : ℕ) (p 
         let count : (get_or tasks ((given + i) % n) no_task).count ≡ record_count f t ((given + i) % n) = ap (λ (c : CoreTask). c.count) (tasks-at f t p.0 tasks p.1 _ l) in
         rw (← p.2, ← count) e
 
-    pub scan-named : b ≡ true → Core ((given + i) % n) ≡ next_moving f t s given
+    pub scan-named : b ≡ true → Some ((given + i) % n) ≡ next_moving f t s given
     unfolding next_moving
     scan-named q = rw p.2 (looking-stop (can_move_at f t s) (round_from (cores f) given) (cores f) i w (omega (arith, p.2)) (sym answered ∙ q))
 
     pub scan-more : b ≡ false → Scanning f t s given (i + 1)
     scan-more q = looking-more (can_move_at f t s) (round_from (cores f) given) (cores f) i w (omega (arith, p.2)) (sym answered ∙ q)
 
-  pub scan-none : (i : ℕ) → Scanning f t s given i → n < i → Nothing ≡ next_moving f t s given
+  pub scan-none : (i : ℕ) → Scanning f t s given i → n < i → None ≡ next_moving f t s given
   unfolding next_moving
   scan-none i w h = looking-end (can_move_at f t s) (round_from (cores f) given) (cores f) i w (omega (arith, p.2))

@@ -1,6 +1,6 @@
 -- What the answer on the next core to move says of steps. Read with document 01, "One step of a core" (crate protocol, specs/Step) and the
 -- core table (specs/Table). `next-core` of proofs/Next proves `NextCore` of every fit state.
-use Rattle.std.specs.Prelude.{◌≡◌, ◌≢◌, ◌⊎◌, ◌↔◌, true, List, ℕ, ◌≤◌, ◌<◌}
+use Rattle.std.specs.Prelude.{◌≡◌, ◌≢◌, ◌⊎◌, ◌↔◌, true, List, ℕ, ◌≤◌, ◌<◌, Some, None}
 use Rattle.protocol.specs.Modes.{between_cycles, stopped}
 use Rattle.protocol.specs.State.{State, Task, core, mode}
 use Rattle.protocol.specs.Step.{step}
@@ -9,7 +9,6 @@ use Rattle.taskset.specs.Trace.{record_count}
 use Rattle.states.specs.Task.{task_of}
 use Rattle.states.specs.declared.Held.{Held}
 use Rattle.table.specs.Table.{can_move_at, round_from, next_moving}
-use Rattle.table.specs.declared.Moving.TheVariants.{Core, Nothing}
 
 -- Of n cores, j is the first after the given one, round the ring and that one last, whose step changes the state s
 pub record FirstToMove (t : Task) (n : ℕ) (s : State) (given j : ℕ) : Type 0 where
@@ -41,8 +40,8 @@ pub record NextCore (f t : List ℕ) (h : Held) (s : State) (given : ℕ) : Type
   -- A core counts as moving exactly if its step changes something.
   pub moves-exactly : (k : ℕ) → k < cores f → (can_move_at f t h k ≡ true) ↔ (step (task_of f t) k s ≢ s)
   -- A core that is named is the first.
-  pub next-is-first : (j : ℕ) → next_moving f t h given ≡ Core j → FirstToMove (task_of f t) (cores f) s given j
+  pub next-is-first : (j : ℕ) → next_moving f t h given ≡ Some j → FirstToMove (task_of f t) (cores f) s given j
   -- "None" says that no step changes anything, and that every core is stopped or out of records: these three are the same.
-  pub none-means-rest : (next_moving f t h given ≡ Nothing) ↔ AtRest (task_of f t) (cores f) s
-  pub none-means-done : (next_moving f t h given ≡ Nothing) ↔ Done f t s
+  pub none-means-rest : (next_moving f t h given ≡ None) ↔ AtRest (task_of f t) (cores f) s
+  pub none-means-done : (next_moving f t h given ≡ None) ↔ Done f t s
   pub rest-means-done : AtRest (task_of f t) (cores f) s ↔ Done f t s

@@ -1,6 +1,6 @@
 -- Document 01, the core table: "the next core to move is the first after a given one, round the ring and that one last, whose step would
 -- change something". In order: whether a core can move, by its mode; the order round the ring; the first core that moves.
-use Rattle.std.specs.Prelude.{ℕ, ◌+◌, ◌%◌, Bool, not, List, [], ◌∷◌, ltb, eqb, get_or}
+use Rattle.std.specs.Prelude.{ℕ, ◌+◌, ◌%◌, Option, Some, None, Bool, not, List, [], ◌∷◌, ltb, eqb, get_or}
 use Rattle.protocol.specs.Modes.{between_cycles, waiting_to_write, stopped}
 use Rattle.verdict.specs.Verdict.{pick, both, either}
 use Rattle.protocol.specs.declared.Registers.{Registers}
@@ -12,8 +12,6 @@ use Rattle.taskset.specs.Task.{listed}
 use Rattle.taskset.specs.Trace.{record_count}
 use Rattle.states.specs.declared.Held.{Held}
 use Rattle.states.specs.Machine.{no_registers}
-use Rattle.table.specs.declared.Moving.{Moving}
-use Rattle.table.specs.declared.Moving.TheVariants.{Core, Nothing}
 
 -- ---- a core
 
@@ -41,10 +39,10 @@ abbrev pub round_from : ℕ → ℕ → ℕ → ℕ
 round_from n given i = (given + i) % n
 
 -- the first core of a list that moves
-abbrev pub first_moving : (ℕ → Bool) → List ℕ → Moving
-first_moving moving [] = Nothing
-first_moving moving (k ∷ ks) = pick (moving k) (Core k) (first_moving moving ks)
+abbrev pub first_moving : (ℕ → Bool) → List ℕ → Option ℕ
+first_moving moving [] = None
+first_moving moving (k ∷ ks) = pick (moving k) (Some k) (first_moving moving ks)
 
 -- the cores from the first after the given one to the given one itself
-unfoldable pub next_moving : List ℕ → List ℕ → Held → ℕ → Moving
+unfoldable pub next_moving : List ℕ → List ℕ → Held → ℕ → Option ℕ
 next_moving f t s given = first_moving (can_move_at f t s) (listed (round_from (cores f) given) (cores f) 1)

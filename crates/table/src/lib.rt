@@ -12,13 +12,6 @@ use protocol::Registers;
 use semaphore::Semaphore;
 use states::{CoreTask, Held};
 
-// The core that moves next; none, where every core is stopped or out of records.
-#[derive(Clone, Copy)]
-pub enum Moving {
-    Core(u8),
-    Nothing,
-}
-
 // A step of core k that would have the semaphore changes something: it is its turn, or it is not in line yet.
 fn goes_on(m: Semaphore, k: u8) -> bool
     ensures { result ≡ served_or_joins (semaphore_of m) k }
@@ -45,7 +38,7 @@ pub fn can_move(count: usize, m: Semaphore, k: u8, r: Registers) -> bool
     r.mode < protocol::STOPPED
 }
 
-// The first core after `given`, round the ring and `given` last, whose step would change something.
+// The first core after `given`, round the ring and `given` last, whose step would change something; none, where every core is stopped or out of records.
 pub fn next_moving(
     file: &[u8],
     trace: &[u8],
@@ -53,18 +46,16 @@ pub fn next_moving(
     n: usize,
     s: Held,
     given: u8,
-) -> Moving
+) -> Option<u8>
     requires { AcceptedSet file.now trace.now × (tasks ≡ tasks_of file.now trace.now) × (n ≡ cores file.now) × (given < n) }
     ensures { result ≡ next_moving file.now trace.now s given }
 {
     let m = s.semaphore;
-    let mut i: usize = 1;
-    while i <= n {
+    for i in 1..=n {
         let k = (given as usize + i) % n;
         if can_move(tasks[k].count, m, k as u8, s.cores[k]) {
-            return Moving::Core(k as u8);
+            return Some(k as u8);
         }
-        i += 1;
     }
-    Moving::Nothing
+    None
 }

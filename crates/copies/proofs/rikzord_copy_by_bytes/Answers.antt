@@ -10,13 +10,13 @@ returns-then-not-fits c = unfit _ _ _ _ (sym c.fits.ensures ∙ c.if-not-fits.tr
 
 pub move_singly-requires : goal.move_singly-requires
 move_singly-requires c = let l = fitting _ _ _ _ (sym c.fits.ensures ∙ c.if-not-fits.false) in
-    (l.0, l.1, disjoint-by _ _ _ (omega (arith, c.distance.ensures)))
+    (l.0, l.1, disjoint-by _ _ _ (omega (arith, c.abs_diff.ensures)))
 
 pub move_through-requires : goal.move_through-requires
 move_through-requires c = fitting _ _ _ _ (sym c.fits.ensures ∙ c.if-not-fits.false)
 
-pub returns-then-n-distance : goal.returns-then-n-distance
-returns-then-n-distance c = fit _ _ _ _ _ (sym c.fits.ensures ∙ c.if-not-fits.false) c.move_singly.ensures
+pub returns-then-n-abs_diff : goal.returns-then-n-abs_diff
+returns-then-n-abs_diff c = fit _ _ _ _ _ (sym c.fits.ensures ∙ c.if-not-fits.false) c.move_singly.ensures
 
-pub returns-else-n-distance : goal.returns-else-n-distance
-returns-else-n-distance c = fit _ _ _ _ _ (sym c.fits.ensures ∙ c.if-not-fits.false) c.move_through.ensures
+pub returns-else-n-abs_diff : goal.returns-else-n-abs_diff
+returns-else-n-abs_diff c = fit _ _ _ _ _ (sym c.fits.ensures ∙ c.if-not-fits.false) c.move_through.ensures

@@ -1,6 +1,5 @@
 -- `core_runs::run_alone` meets its contract. The invariant: the instructions so far are steps of core k. Assumes nothing.
 use mathlib.Core.Path.{refl}
-use Prim.Native.Nat.{◌-◌}
 use native.Mathlib.Omega.{arith}
 use Rattle.runner.specs.Running.{reached_at}
 use Rattle.runner.proofs.Executing.{steps-alone, executes-none, executes-on, executing-on, executing-count, executing-length, executes-alone, standing-alone, left_less}

@@ -1,5 +1,4 @@
 -- `core_runs::run_alone` meets its contract. The invariant: the instructions so far are steps of core k. Assumes nothing.
-use Prim.Native.Nat.{◌-◌}
 use Rattle.runner.specs.Executing.{Executes}
 use Rattle.runner.proofs.Executing.{left_of}
 use Rattle.core_runs.proofs.run_alone.Given as goal

@@ -4,7 +4,4 @@ use Rattle.runner.specs.Running.{executing_at, CarriesRun}
 use Rattle.core_runs.proofs.run_core.Given as goal
 
 abbrev pub invariant-loop-step : goal.invariant-loop-step
-invariant-loop-step l = (l.from ≤ l.step) × (l.step ≤ l.end) × CarriesRun l.file l.trace l.order l.k l.from l.before l.initial.places l.initial.offsets l.initial.buffer l.step (executing_at l.before l.counter l.offset l.depth (l.before.count + (l.step - l.from))) l.places l.offsets l.buffer
-
-abbrev pub decreases-loop-step : goal.decreases-loop-step
-decreases-loop-step l = l.end - l.step
+invariant-loop-step l = (l.from ≤ l.step) × CarriesRun l.file l.trace l.order l.k l.from l.before l.initial.places l.initial.offsets l.initial.buffer l.step (executing_at l.before l.counter l.offset l.depth (l.before.count + (l.step - l.from))) l.places l.offsets l.buffer

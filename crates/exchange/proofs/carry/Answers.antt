@@ -53,7 +53,7 @@ pub copy_bytes-requires : goal.copy_bytes-requires
 copy_bytes-requires c = let p = c.requires in
     let w = c.loop-left.invariant in
     let l = left-some _ _ _ _ _ _ _ _ w c.loop-left-test.true p.6 in
-    let n = c.smaller-n.ensures.0 in
+    let n = c.min-n.ensures in
     let chosen = at-chosen _ _ w.at l in (
       omega (arith, n, chosen.1, w.long, c.byte_place-to.ensures, p.8 _ (at_place _ _ w.at l) (at_before _ _ w.at l) chosen.0),
       omega (arith, n, chosen.1, c.byte_place-from.ensures, p.7 _ (at_place _ _ w.at l) (at_before _ _ w.at l) chosen.0),
@@ -63,10 +63,10 @@ pub overflow_add-byte : goal.overflow_add-byte
 overflow_add-byte c = let p = c.requires in
     let w = c.loop-left.invariant in
     let l = left-some _ _ _ _ _ _ _ _ w c.loop-left-test.true p.6 in
-    omega (arith, c.smaller-n.ensures.0, (at-chosen _ _ w.at l).1, c.type_inv.file (c.loop-left.place + 2))
+    omega (arith, c.min-n.ensures, (at-chosen _ _ w.at l).1, c.type_inv.file (c.loop-left.place + 2))
 
 pub overflow_sub-left : goal.overflow_sub-left
-overflow_sub-left c = omega (arith, c.smaller-n.ensures.1)
+overflow_sub-left c = omega (arith, c.min-n.ensures)
 
 pub overflow_add-place-then-byte-width : goal.overflow_add-place-then-byte-width
 overflow_add-place-then-byte-width c = let p = c.requires in
@@ -83,17 +83,17 @@ pub loop-left-smaller-then-byte-width : goal.loop-left-smaller-then-byte-width
 loop-left-smaller-then-byte-width c = let p = c.requires in
     let w = c.loop-left.invariant in
     let l = left-some _ _ _ _ _ _ _ _ w c.loop-left-test.true p.6 in
-    omega (arith, c.smaller-n.ensures.1, c.smaller-n.ensures.2 (omega (arith, (at-chosen _ _ w.at l).1)) c.loop-left-test.true)
+    omega (arith, c.min-n.ensures, (at-chosen _ _ w.at l).1, c.loop-left-test.true)
 
 pub loop-left-preserved-then-byte-width : goal.loop-left-preserved-then-byte-width
 loop-left-preserved-then-byte-width c = let p = c.requires in
     let w = c.loop-left.invariant in
     let some = c.loop-left-test.true in
     let l = left-some _ _ _ _ _ _ _ _ w some p.6 in
-    let n = c.smaller-n.ensures.0 in
+    let n = c.min-n.ensures in
     let chosen = at-chosen _ _ w.at l in
     let side = p.7 _ (at_place _ _ w.at l) (at_before _ _ w.at l) chosen.0 in
-    under-on _ _ _ _ _ _ _ _ w some p.6 _ c.smaller-n.ensures.1 (omega (arith, n, chosen.1)) c.byte_place-from.ensures
+    under-on _ _ _ _ _ _ _ _ w some p.6 _ (omega (arith, n)) (omega (arith, n, chosen.1)) c.byte_place-from.ensures
     c.byte_place-to.ensures
     (omega (arith, n, chosen.1, c.byte_place-from.ensures, side)) c.copy_bytes.ensures
     (at-found _ _ p.0 _ (place-next _ (at_place _ _ w.at l) (at_before _ _ w.at l)) (at-whole _ _ w.at l _ c.if-byte-width.true) c.seek-place.ensures.0
@@ -103,17 +103,17 @@ pub loop-left-smaller : goal.loop-left-smaller
 loop-left-smaller c = let p = c.requires in
     let w = c.loop-left.invariant in
     let l = left-some _ _ _ _ _ _ _ _ w c.loop-left-test.true p.6 in
-    omega (arith, c.smaller-n.ensures.1, c.smaller-n.ensures.2 (omega (arith, (at-chosen _ _ w.at l).1)) c.loop-left-test.true)
+    omega (arith, c.min-n.ensures, (at-chosen _ _ w.at l).1, c.loop-left-test.true)
 
 pub loop-left-preserved : goal.loop-left-preserved
 loop-left-preserved c = let p = c.requires in
     let w = c.loop-left.invariant in
     let some = c.loop-left-test.true in
     let l = left-some _ _ _ _ _ _ _ _ w some p.6 in
-    let n = c.smaller-n.ensures.0 in
+    let n = c.min-n.ensures in
     let chosen = at-chosen _ _ w.at l in
     let side = p.7 _ (at_place _ _ w.at l) (at_before _ _ w.at l) chosen.0 in
-    under-on _ _ _ _ _ _ _ _ w some p.6 _ c.smaller-n.ensures.1 (omega (arith, n, chosen.1)) c.byte_place-from.ensures c.byte_place-to.ensures
+    under-on _ _ _ _ _ _ _ _ w some p.6 _ (omega (arith, n)) (omega (arith, n, chosen.1)) c.byte_place-from.ensures c.byte_place-to.ensures
     (omega (arith, n, chosen.1, c.byte_place-from.ensures, side)) c.copy_bytes.ensures
     (at-within _ _ w.at l _ (omega (arith, n, chosen.1, c.if-byte-width.false)))
 

@@ -1,8 +1,7 @@
 -- `exchange::seek` meets its contract. The invariant: no record up to the place has the bit. Assumes nothing.
 use mathlib.Core.Path.{sym, ◌∙◌}
-use Prim.Native.Nat.{◌-◌}
 use native.Mathlib.Omega.{arith}
-use Rattle.exchange.proofs.Records.{record-there, passed_none, passed-more}
+use Rattle.exchange.proofs.Records.{record-there, passed_none, passed-more, passed-end}
 use Rattle.exchange.proofs.seek.Goals as goal
 
 pub loop-place-init : goal.loop-place-init
@@ -14,11 +13,13 @@ named-requires c = (record-there _ c.requires.0 c.loop-place.invariant.place (om
 pub returns-then-named : goal.returns-then-named
 returns-then-named c = (c.loop-place.invariant, λ h. sym c.named.ensures ∙ c.if-named.true)
 
-pub overflow_add-place : goal.overflow_add-place
-overflow_add-place c = omega (arith, record-there _ c.requires.0 c.loop-place.invariant.place (omega arith))
-
 pub loop-place-preserved : goal.loop-place-preserved
 loop-place-preserved c = passed-more _ _ c.loop-place.invariant (omega arith) (sym c.named.ensures ∙ c.if-named.false)
 
 pub returns : goal.returns
-returns c = (c.loop-place.invariant, λ h. absurd (let z : ⊥ = omega arith in z))
+returns c = (passed-end _ _ c.loop-place.invariant c.requires.1 c.loop-place-test.false, λ h. absurd (let z : ⊥ = omega arith in z))
+
+pub returns-else-named : goal.returns-else-named
+returns-else-named c =
+    let on = passed-more _ _ c.loop-place.invariant (omega arith) (sym c.named.ensures ∙ c.if-named.false) in
+    (passed-end _ _ on c.requires.1 (omega arith), λ h. absurd (let z : ⊥ = omega arith in z))

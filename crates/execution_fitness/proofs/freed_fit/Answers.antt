@@ -1,6 +1,5 @@
 -- Every entry passed is below the depth or 0.
 use mathlib.Core.Path.{sym, ◌∙◌}
-use Prim.Native.Nat.{◌-◌}
 use Rattle.states.specs.Fit.{freed_fit}
 use Rattle.states.proofs.Says.{passing-none, passing-more, passing-stop, passing-end}
 use Rattle.execution_fitness.proofs.freed_fit.Goals as goal

@@ -1,6 +1,5 @@
 -- Every entry passed lies below the data size.
 use mathlib.Core.Path.{sym, ◌∙◌}
-use Prim.Native.Nat.{◌-◌}
 use mathlib.Core.Path.{ap}
 use mathlib.Core.Bool.{not}
 use Rattle.states.specs.Fit.{offsets_fit}

@@ -1,6 +1,5 @@
 -- Every entry passed starts an instruction.
 use mathlib.Core.Path.{sym, ◌∙◌}
-use Prim.Native.Nat.{◌-◌}
 use mathlib.Core.Path.{ap}
 use mathlib.Core.Bool.{not}
 use Rattle.states.specs.Fit.{places_fit}

@@ -1,5 +1,4 @@
 -- Every entry passed starts an instruction.
-use Prim.Native.Nat.{◌-◌}
 use Rattle.code.specs.Code.{is_start}
 use Rattle.states.specs.Fit.{entry}
 use Rattle.states.proofs.Says.{Passing}
@@ -7,6 +6,3 @@ use Rattle.execution_fitness.proofs.places_start.Given as goal
 
 abbrev pub invariant-loop-i : goal.invariant-loop-i
 invariant-loop-i l = Passing (λ j. is_start l.code (entry l.places l.k j)) 16 l.i
-
-abbrev pub decreases-loop-i : goal.decreases-loop-i
-decreases-loop-i l = 16 - l.i

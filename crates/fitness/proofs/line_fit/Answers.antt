@@ -1,7 +1,6 @@
 -- The entries passed are fit, and those that are left decide. Assumes nothing.
 use mathlib.Core.Path.{◌≡◌, refl, sym, ap, ◌∙◌}
 use mathlib.Core.Bool.{not}
-use Prim.Native.Nat.{◌-◌}
 use native.Mathlib.Omega.{arith}
 use borrow.Author.Rules.{rules}
 use borrow.Author.Tests.{lt-ltb, le-ltb}
@@ -51,12 +50,6 @@ returns-then-not-may_wait c =
     (rejects _ (c.may_wait.ensures
     ∙ may-by _ _ _ _ _ (tasks-at _ _ c.requires.0 _ c.requires.1 _ (rw c.requires.2 at c.if-n-core.false)))
     (ap not c.if-not-may_wait.true))))
-
-pub overflow_add-i-in-loop-i : goal.overflow_add-i-in-loop-i
-overflow_add-i-in-loop-i c = record { fits = omega (arith, c.loop-i-test.true, c.loop-i.invariant.few) }
-
-pub loop-i-smaller : goal.loop-i-smaller
-loop-i-smaller c = omega (arith, c.loop-i-test.true)
 
 pub loop-i-preserved : goal.loop-i-preserved
 loop-i-preserved c =

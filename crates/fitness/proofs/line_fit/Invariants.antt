@@ -1,10 +1,6 @@
 -- The entries passed are fit, and those that are left decide. Assumes nothing.
-use Prim.Native.Nat.{◌-◌}
 use Rattle.states.proofs.Line.{Fitting}
 use Rattle.fitness.proofs.line_fit.Given as goal
 
 abbrev pub invariant-loop-i : goal.invariant-loop-i
 invariant-loop-i l = Fitting l.file l.trace l.s l.i
-
-abbrev pub decreases-loop-i : goal.decreases-loop-i
-decreases-loop-i l = l.waiting - l.i

@@ -1,6 +1,5 @@
 -- The table, the semaphore, and every core passed is fit; then the line.
 use mathlib.Core.Path.{sym, ◌∙◌}
-use Prim.Native.Nat.{◌-◌}
 use native.Mathlib.Omega.{arith}
 use borrow.Author.Tests.{le-leb, lt-leb, eq-eqb, ne_eqb}
 use Rattle.verdict.proofs.Verdict.{yes, no}

@@ -1,5 +1,4 @@
 -- The table, the semaphore, and every core passed is fit; then the line.
-use Prim.Native.Nat.{◌-◌}
 use Rattle.records.specs.File.{cores}
 use Rattle.states.specs.Fit.{fit_at}
 use Rattle.states.proofs.Says.{Passing}
@@ -7,6 +6,3 @@ use Rattle.fitness.proofs.state_refusal.Given as goal
 
 abbrev pub invariant-loop-k : goal.invariant-loop-k
 invariant-loop-k l = Passing (fit_at l.file l.trace l.s) (cores l.file) l.k
-
-abbrev pub decreases-loop-k : goal.decreases-loop-k
-decreases-loop-k l = l.n - l.k

@@ -17,13 +17,13 @@ returns-then-out-before c = let a = c.args in
 pub returns-then-out-before-2 : goal.returns-then-out-before-2
 returns-then-out-before-2 c = let a = c.args in
     text-short (listing a.n a.s (take a.taken a.list.now)) a.out.now
-    (omega (arith, length-listing a.n a.s a.list.now a.taken, c.write_head-before.ensures.1, c.if-out-before.false, c.least-takings.ensures, c.if-out-before-2.true))
+    (omega (arith, length-listing a.n a.s a.list.now a.taken, c.write_head-before.ensures.1, c.if-out-before.false, c.min-takings.ensures, c.if-out-before-2.true))
 
 pub write_takings-end-requires : goal.write_takings-end-requires
-write_takings-end-requires c = omega (arith, c.well_formed, c.write_head-before.ensures.1, c.write_head-from.ensures.1, c.if-out-before.false, c.least-takings.ensures, c.if-out-before-2.false)
+write_takings-end-requires c = omega (arith, c.well_formed, c.write_head-before.ensures.1, c.write_head-from.ensures.1, c.if-out-before.false, c.min-takings.ensures, c.if-out-before-2.false)
 
 pub put_byte-requires : goal.put_byte-requires
-put_byte-requires c = omega (arith, c.well_formed, c.write_takings-end.ensures.2, c.write_head-before.ensures.1, c.write_head-from.ensures.1, c.if-out-before.false, c.least-takings.ensures, c.if-out-before-2.false)
+put_byte-requires c = omega (arith, c.well_formed, c.write_takings-end.ensures.2, c.write_head-before.ensures.1, c.write_head-from.ensures.1, c.if-out-before.false, c.min-takings.ensures, c.if-out-before-2.false)
 
 pub returns : goal.returns
 returns c = let a = c.args in
@@ -35,5 +35,5 @@ returns c = let a = c.args in
     refl c.write_takings-end.ensures.0 c.write_takings-end.ensures.1)
     c.put_byte.ensures.0 c.put_byte.ensures.1 in
     text-written (listing a.n a.s l) a.out.now
-    (omega (arith, length-listing a.n a.s a.list.now a.taken, c.write_head-before.ensures.1, c.if-out-before.false, c.least-takings.ensures, c.if-out-before-2.false))
+    (omega (arith, length-listing a.n a.s a.list.now a.taken, c.write_head-before.ensures.1, c.if-out-before.false, c.min-takings.ensures, c.if-out-before-2.false))
     (w.1 ∙ zero-add _) w.0

@@ -1,20 +1,10 @@
--- `memory::copy` meets its contract. The invariant: what is left to copy makes of the buffer what the whole makes of it at entry.
--- Assumes nothing.
-use mathlib.Core.Path.{refl, sym, ◌∙◌}
-use native.Mathlib.Nat.{add-zero, sub-zero}
-use native.Mathlib.Omega.{arith}
-use lib.ListN.{length-set}
-use Rattle.memory.proofs.Turns.{copy-turn, copy_done}
+-- `memory::copy` meets its contract. Assumes nothing.
+use Rattle.std.proofs.Common.{arith, rules}
+use Rattle.memory.specs.Memory.{part}
+use Rattle.memory.proofs.Laws.{length_part}
+use Rattle.memory.proofs.Turns.{put_part}
 use Rattle.memory.proofs.copy.Goals as goal
 
-pub loop-i-init : goal.loop-i-init
-loop-i-init c = (omega arith, refl, simp (add-zero, sub-zero))
-
-pub loop-i-preserved : goal.loop-i-preserved
-loop-i-preserved c = (omega arith, simp length-set c.loop-i.invariant.1, copy-turn _ _ _ _ _ _ (omega arith) (omega arith) ∙ c.loop-i.invariant.2)
-
-pub shape_of-dst : goal.shape_of-dst
-shape_of-dst c = c.loop-i.invariant.1
-
 pub returns : goal.returns
-returns c = sym (copy_done _ _ _ _ _ _ (omega arith)) ∙ c.loop-i.invariant.2
+unfolding part
+returns c = put_part _ _ _ _ _ _ (omega arith) (search rules) (length_part c.args.src.now c.args.from c.args.n (omega arith)) (omega arith)

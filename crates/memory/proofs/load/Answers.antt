@@ -1,25 +1,21 @@
--- `memory::load` meets its contract. The invariant: v is the number in the bytes from i on.
--- Assumes nothing.
-use Prim.Native.Nat.{◌+◌, ◌-◌}
-use native.Mathlib.Omega.{arith}
-use Rattle.memory.proofs.Turns.{load-turn, load-start, load-done}
-use Rattle.memory.proofs.Number.{read_fits}
+-- `memory::load` meets its contract. Assumes nothing.
+use Rattle.std.proofs.Common.{refl, arith, rules}
+use Rattle.memory.specs.Memory.{part}
+use Rattle.memory.proofs.Turns.{load-start, load-turn, load-fits, load-done}
 use Rattle.memory.proofs.load.Goals as goal
 
-pub loop-i-init : goal.loop-i-init
-loop-i-init c = (omega arith, load-start _ _ _)
-
-pub overflow_cast-b : goal.overflow_cast-b
-overflow_cast-b c = omega (arith, c.type_inv.d (c.args.place + (c.loop-i.i - 1)))
+pub loop-b-init : goal.loop-b-init
+unfolding part
+loop-b-init c = load-start _ _ _ _ c.requires.0 (search rules)
 
 pub overflow_mul-v : goal.overflow_mul-v
-overflow_mul-v c = omega (arith, read_fits c.args.d.now (c.args.place + c.loop-i.i) (c.args.width - c.loop-i.i) 0 c.type_inv.d (omega arith) (omega arith))
+overflow_mul-v c = omega (arith, load-fits _ _ _ _ _ _ _ _ c.requires.0 c.requires.1 c.type_inv.d refl c.in-Some.ensures.steps c.loop-b.invariant)
 
 pub overflow_add-v : goal.overflow_add-v
-overflow_add-v c = rw c.loop-i.invariant.1.0 (read_fits _ _ _ _ c.type_inv.d (omega arith) (c.type_inv.d _).fits)
+overflow_add-v c = load-fits _ _ _ _ _ _ _ _ c.requires.0 c.requires.1 c.type_inv.d c.from.ensures c.in-Some.ensures.steps c.loop-b.invariant
 
-pub loop-i-preserved : goal.loop-i-preserved
-loop-i-preserved c = (omega arith, load-turn _ _ _ _ _ (omega arith) (omega arith) (omega arith) c.type_inv.d c.loop-i.invariant.1.0)
+pub loop-b-preserved : goal.loop-b-preserved
+loop-b-preserved c = load-turn _ _ _ _ _ _ _ _ c.requires.0 c.type_inv.d c.from.ensures c.in-Some.ensures.steps c.loop-b.invariant
 
 pub returns : goal.returns
-returns c = load-done _ _ _ _ _ (omega arith) c.loop-i.invariant.1.0 c.loop-i.invariant.1.1
+returns c = load-done _ _ _ _ _ c.in-None.ensures.steps.0 c.loop-b.invariant

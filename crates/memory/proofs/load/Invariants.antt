@@ -1,12 +1,8 @@
--- `memory::load` meets its contract. The invariant: v is the number in the bytes from i on.
--- Assumes nothing.
-use mathlib.Core.Path.{◌≡◌}
-use Prim.Native.Nat.{◌+◌, ◌-◌, ◌^◌, ◌≤◌, ◌<◌}
-use Rattle.memory.specs.Memory.{read_le}
+-- `memory::load` meets its contract. The invariant: v is the number in the bytes behind those that are left to read. Assumes nothing.
+use Rattle.std.specs.Iterator.Adapters.{rev_source}
+use Rattle.std.specs.Slice.Iter.{iter_rest}
+use Rattle.memory.proofs.Turns.{Reading}
 use Rattle.memory.proofs.load.Given as goal
 
-abbrev pub invariant-loop-i : goal.invariant-loop-i
-invariant-loop-i l = (l.i ≤ l.width) × ((l.v ≡ read_le l.d (l.place + l.i) (l.width - l.i)) × (l.v < 256 ^ (l.width - l.i)))
-
-abbrev pub decreases-loop-i : goal.decreases-loop-i
-decreases-loop-i l = l.i
+abbrev pub invariant-loop-b : goal.invariant-loop-b
+invariant-loop-b l = Reading l.d l.place l.width l.v (iter_rest (rev_source l.b-iterator))

@@ -1,13 +1,7 @@
--- `memory::store` meets its contract. The invariant: what is left to write makes of the buffer what the whole makes of it at entry.
--- Assumes nothing.
-use mathlib.Core.Path.{◌≡◌}
-use Prim.Native.Nat.{◌+◌, ◌-◌, ◌≤◌}
-use lib.ListN.{length}
-use Rattle.memory.specs.Memory.{splice, bytes_le}
+-- `memory::store` meets its contract. The invariant: the bytes written and those left to write are the number's. Assumes nothing.
+use Rattle.std.proofs.Common.{◌≡◌, ◌-◌, ◌++◌, length, take}
+use Rattle.memory.specs.Memory.{bytes_le}
 use Rattle.memory.proofs.store.Given as goal
 
-abbrev pub invariant-loop-i : goal.invariant-loop-i
-invariant-loop-i l = (l.i ≤ l.width) × (length l.d ≡ length l.initial.d) × (splice l.d (l.place + l.i) (bytes_le (l.width - l.i) l.rest) ≡ splice l.initial.d l.place (bytes_le l.width l.value))
-
-abbrev pub decreases-loop-i : goal.decreases-loop-i
-decreases-loop-i l = l.width - l.i
+abbrev pub invariant-loop-b : goal.invariant-loop-b
+invariant-loop-b l = (length l.b-items ≡ l.width) × (take l.b-index l.b-items ++ bytes_le (l.width - l.b-index) l.rest ≡ bytes_le l.width l.value)

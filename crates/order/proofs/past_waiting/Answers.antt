@@ -1,6 +1,6 @@
 -- `order::past_waiting` meets its contract. The invariant: the steps passed are of cores that wait. Assumes nothing.
-use mathlib.Core.Path.{sym, ap, ◌∙◌}
-use Prim.Native.Nat.{◌-◌}
+use lib.ListN.{length}
+use mathlib.Core.Path.{◌≡◌, sym, ap, ◌∙◌}
 use native.Mathlib.Omega.{arith}
 use Rattle.semaphore.specs.Line.{semaphore_of, waits_at}
 use Rattle.order.proofs.Stretches.{waits-none, waits-on}
@@ -18,12 +18,6 @@ waits-requires c = (c.requires.3, c.core_at-k.ensures.2)
 pub returns-then-not-waits : goal.returns-then-not-waits
 returns-then-not-waits c = c.loop-j.invariant
 
-pub overflow_add-j : goal.overflow_add-j
-overflow_add-j c = let good = c.well_formed in omega (arith, c.loop-j-test.true)
-
-pub loop-j-smaller : goal.loop-j-smaller
-loop-j-smaller c = omega (arith, c.loop-j-test.true)
-
 pub loop-j-preserved : goal.loop-j-preserved
 loop-j-preserved c = let given = c.args in
     let here = c.loop-j.invariant in (
@@ -34,4 +28,7 @@ loop-j-preserved c = let given = c.args in
     )
 
 pub returns : goal.returns
-returns c = c.loop-j.invariant
+returns c =
+    let all : c.loop-j.j ≡ length c.args.order.now = omega arith in
+    let here = c.loop-j.invariant in
+    (omega (arith, here.0), omega arith, rw (← all) here.2)

@@ -1,11 +1,13 @@
 -- `order::stretch` meets its contract. The invariant of both loops: the m steps looked at are of core k. Assumes nothing.
-use Prim.Native.Nat.{◌+◌, ◌-◌}
+use mathlib.Core.Path.{◌≡◌, subst}
+use Rattle.order.specs.Order.{AllOn}
+use Prim.Native.Nat.{◌+◌}
 use native.Mathlib.Omega.{arith}
 use Rattle.order.proofs.Stretches.{step_in_lem, first_on, all_none, all_more, all_one}
 use Rattle.order.proofs.stretch.Goals as goal
 
 pub loop-m-init : goal.loop-m-init
-loop-m-init c = let room = c.least-room.ensures in
+loop-m-init c = let room = c.min-room.ensures in
     (omega (arith, room), omega (arith, room, c.requires.0), omega arith, all_none c.args.order.now c.args.k c.args.i)
 
 pub overflow_add-i : goal.overflow_add-i
@@ -51,12 +53,6 @@ returns-then-order-i c = let given = c.args in
       some = λ e h. first_on given.order.now given.i given.k _ c.if-order-i.true e;
     }
 
-pub overflow_add-m-in-loop-m-2 : goal.overflow_add-m-in-loop-m-2
-overflow_add-m-in-loop-m-2 c = let v = c.loop-m-2.invariant in omega (arith, v.1, v.2)
-
-pub loop-m-2-smaller : goal.loop-m-2-smaller
-loop-m-2-smaller c = omega (arith, c.loop-m-2-test.true)
-
 pub loop-m-2-preserved : goal.loop-m-2-preserved
 loop-m-2-preserved c = let given = c.args in
     let v = c.loop-m-2.invariant in
@@ -64,11 +60,12 @@ loop-m-2-preserved c = let given = c.args in
 
 pub returns : goal.returns
 returns c = let given = c.args in
-    let room = c.least-room.ensures in
+    let room = c.min-room.ensures in
     let v = c.loop-m-2.invariant in
+    let all : c.loop-m-2.m ≡ c.min-room.result = omega (arith, v.2) in
     record {
-      few = omega (arith, v.0, v.2);
-      within = omega (arith, v.1, v.2);
-      all = v.3;
-      some = λ e h. omega (arith, room, c.loop-m-2-test.false, (step_in_lem given.order.now given.i given.k e).0);
+      few = omega (arith, v.0);
+      within = omega (arith, v.1);
+      all = subst (AllOn given.order.now given.k given.i) all v.3;
+      some = λ e h. omega (arith, room, (step_in_lem given.order.now given.i given.k e).0);
     }

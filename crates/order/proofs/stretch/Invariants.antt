@@ -12,6 +12,3 @@ decreases-loop-m l = l.room - l.m
 
 abbrev pub invariant-loop-m-2 : goal.invariant-loop-m-2
 invariant-loop-m-2 l = (l.room ≤ l.most) × (l.i + l.room ≤ length l.order) × (l.m ≤ l.room) × AllOn l.order l.k l.i l.m
-
-abbrev pub decreases-loop-m-2 : goal.decreases-loop-m-2
-decreases-loop-m-2 l = l.room - l.m

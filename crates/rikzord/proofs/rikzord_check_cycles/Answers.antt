@@ -1,6 +1,5 @@
 -- `rikzord::rikzord_check_cycles` meets its contract: both numbers are those of the answer. Assumes nothing.
 use mathlib.Core.Path.{ap, ◌∙◌}
-use borrow.Author.Rules.{rules}
 use Rattle.cycles.specs.Check.{lines_refusal, lines_byte}
 use Rattle.rikzord.proofs.rikzord_check_cycles.Goals as goal
 

@@ -1,6 +1,5 @@
 -- `rikzord::rikzord_code_window` meets its contract: the number and the place that the window is found to have. Assumes nothing.
 use lib.ListN.{length}
-use borrow.Author.Rules.{rules}
 use Rattle.window.specs.declared.Shown.TheVariants.{Code}
 use Rattle.window.proofs.Laws.{call-refused, call-shown}
 use Rattle.rikzord.proofs.rikzord_code_window.Goals as goal

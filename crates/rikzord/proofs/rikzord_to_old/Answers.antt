@@ -1,5 +1,4 @@
 -- `rikzord::rikzord_to_old` meets its contract: what the converter answers, the length where it is not refused. Assumes nothing.
-use borrow.Author.Rules.{rules}
 use Rattle.forms.proofs.Laws.{lent-refused, lent-granted}
 use Rattle.rikzord.proofs.rikzord_to_old.Goals as goal
 

@@ -5,6 +5,3 @@ use Rattle.rikzord.proofs.scan.Given as goal
 
 abbrev pub invariant-loop-i : goal.invariant-loop-i
 invariant-loop-i l = (l.i ≤ l.r.cores) × (scan_from l.t l.r (l.r.cores - l.i) l.i ≡ scanned l.t l.r)
-
-abbrev pub decreases-loop-i : goal.decreases-loop-i
-decreases-loop-i l = l.r.cores - l.i

@@ -1,5 +1,5 @@
 -- `Filling`: the data of the first k cores are written, and zeros follow. Assumes nothing.
-use Prim.Native.Nat.{ℕ, ◌+◌, ◌-◌, ◌*◌, ◌≤◌}
+use Prim.Native.Nat.{ℕ, ◌+◌, ◌*◌, ◌≤◌}
 use mathlib.Core.Path.{refl, sym, ap, ◌∙◌}
 use native.Mathlib.Omega.{arith}
 use lib.ListN.{length, length-replicate}
@@ -83,9 +83,6 @@ overflow_add-p-in-loop-k-2 c =
     let pairs-here : c.loop-k.p + 2 + 3 * c.word_at-count.result ≤ length c.args.f.now = pairs-there c.args.f.now _ _ _ _ c.loop-k.invariant c.requires.0 c.requires.1 _ _ _ c.byte_at-n.ensures
     c.loop-k-test.true (ap (λ (y : ℕ). c.loop-k.a + y) c.word_at.ensures.0) c.word_at-count.ensures.0 in
     omega (arith, pairs-here)
-
-pub overflow_add-k-in-loop-k : goal.overflow_add-k-in-loop-k
-overflow_add-k-in-loop-k c = omega (arith, (keeps-rules c.args.f.now c.requires.0).most-cores, c.byte_at-n.ensures)
 
 pub loop-k-preserved : goal.loop-k-preserved
 loop-k-preserved c = filling-more c.args.f.now _ _ _ _ c.loop-k.invariant c.requires.0 c.requires.1 _ _ _ c.byte_at-n.ensures

@@ -1,5 +1,6 @@
 -- `Publishing`: the variables before number i are written, and those left make of shared memory what all make of it at entry. Assumes nothing.
-use Prim.Native.Nat.{◌+◌, ◌-◌, ◌≤◌}
+use Prim.Native.Nat.{◌+◌, ◌*◌, ◌≤◌}
+use native.Mathlib.Nat.{add-zero}
 use mathlib.Core.Path.{sym, ap, ◌∙◌}
 use native.Mathlib.Omega.{arith}
 use lib.ListN.{length}
@@ -9,11 +10,11 @@ use Rattle.starts.proofs.Laws.{publishing-none, record-there, shared-fits, buffe
 use Rattle.starts.proofs.write_shared.Goals as goal
 
 pub loop-i-init : goal.loop-i-init
-loop-i-init c = publishing-none _ _ _ _ (ap (λ (l : Layout). l.variables) c.requires.1) (ap (λ (l : Layout). l.first) c.requires.1) c.requires.3
+loop-i-init c = publishing-none _ _ _ _ (ap (λ (l : Layout). l.variables) c.requires.1) (add-zero _ ∙ ap (λ (l : Layout). l.first) c.requires.1) c.requires.3
 
 pub writer-w-requires : goal.writer-w-requires
 writer-w-requires c =
-    let record-here : c.loop-i.p + 12 ≤ length c.args.f.now = record-there c.args.f.now c.requires.0 _ _ _ _ _ c.loop-i.invariant c.loop-i-test.true in
+    let record-here : c.args.layout.first + 12 * c.loop-i.i + 12 ≤ length c.args.f.now = record-there c.args.f.now c.requires.0 _ _ _ _ _ c.loop-i.invariant c.loop-i-test.true in
     record-here
 
 pub base_of-requires : goal.base_of-requires
@@ -21,7 +22,7 @@ base_of-requires c = (c.requires.1, c.writer-w.ensures.1)
 
 pub local_place-requires : goal.local_place-requires
 local_place-requires c =
-    let record-here : c.loop-i.p + 12 ≤ length c.args.f.now = record-there c.args.f.now c.requires.0 _ _ _ _ _ c.loop-i.invariant c.loop-i-test.true in
+    let record-here : c.args.layout.first + 12 * c.loop-i.i + 12 ≤ length c.args.f.now = record-there c.args.f.now c.requires.0 _ _ _ _ _ c.loop-i.invariant c.loop-i-test.true in
     (record-here, c.writer-w.ensures.1)
 
 pub overflow_add-from : goal.overflow_add-from
@@ -37,12 +38,12 @@ overflow_add-from c = let f = c.args.f.now in
 
 pub shared_place-to-requires : goal.shared_place-to-requires
 shared_place-to-requires c =
-    let record-here : c.loop-i.p + 12 ≤ length c.args.f.now = record-there c.args.f.now c.requires.0 _ _ _ _ _ c.loop-i.invariant c.loop-i-test.true in
+    let record-here : c.args.layout.first + 12 * c.loop-i.i + 12 ≤ length c.args.f.now = record-there c.args.f.now c.requires.0 _ _ _ _ _ c.loop-i.invariant c.loop-i-test.true in
     record-here
 
 pub width-requires : goal.width-requires
 width-requires c =
-    let record-here : c.loop-i.p + 12 ≤ length c.args.f.now = record-there c.args.f.now c.requires.0 _ _ _ _ _ c.loop-i.invariant c.loop-i-test.true in
+    let record-here : c.args.layout.first + 12 * c.loop-i.i + 12 ≤ length c.args.f.now = record-there c.args.f.now c.requires.0 _ _ _ _ _ c.loop-i.invariant c.loop-i-test.true in
     record-here
 
 pub copy-requires : goal.copy-requires
@@ -65,17 +66,9 @@ copy-requires c = let f = c.args.f.now in (
   ),
 )
 
-pub overflow_add-p : goal.overflow_add-p
-overflow_add-p c =
-    let record-here : c.loop-i.p + 12 ≤ length c.args.f.now = record-there c.args.f.now c.requires.0 _ _ _ _ _ c.loop-i.invariant c.loop-i-test.true in
-    omega (arith, record-here)
-
-pub overflow_add-i : goal.overflow_add-i
-overflow_add-i c = omega (arith, c.loop-i.invariant.all)
-
 pub loop-i-preserved : goal.loop-i-preserved
 loop-i-preserved c = publishing-more c.args.f.now c.requires.0 _ _ _ _ _ c.loop-i.invariant c.loop-i-test.true _ _ c.writer-w.ensures.0
-    c.base_of.ensures _ _ c.requires.2
+    c.base_of.ensures _ _ _ (omega arith) c.requires.2
     (copied-as _ _ _ _ _ _ _ _ _ _ c.copy.ensures c.shared_place-to.ensures
     c.local_place.ensures c.width.ensures)
 

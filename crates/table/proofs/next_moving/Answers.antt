@@ -1,5 +1,5 @@
--- The cores passed don't move; the first that does is the answer. The measure is what is left of the ring. Assumes nothing.
-use Prim.Native.Nat.{◌-◌}
+-- The cores passed don't move; the first that does is the answer. Assumes nothing.
+use Prim.Native.Nat.{◌+◌}
 use native.Mathlib.Omega.{arith}
 use Rattle.table.proofs.Ring.{looking-none}
 use Rattle.table.proofs.Scan.{inside-four, scan-named, scan-more, scan-none}
@@ -36,12 +36,15 @@ pub returns-then-can_move : goal.returns-then-can_move
 returns-then-can_move c = scan-named _ _ c.args.s _ _ _ c.requires c.loop-i.i _ c.loop-i.invariant (omega (arith, c.loop-i-test.true))
     c.can_move.ensures c.if-can_move.true
 
-pub overflow_add-i : goal.overflow_add-i
-overflow_add-i c = omega (arith, c.requires.0.few, c.requires.2)
-
 pub loop-i-preserved : goal.loop-i-preserved
 loop-i-preserved c = scan-more _ _ c.args.s _ _ _ c.requires c.loop-i.i _ c.loop-i.invariant (omega (arith, c.loop-i-test.true))
     c.can_move.ensures c.if-can_move.false
 
 pub returns : goal.returns
 returns c = scan-none _ _ c.args.s _ _ _ c.requires c.loop-i.i c.loop-i.invariant (omega (arith, c.loop-i-test.false))
+
+-- where the last core was looked at
+pub returns-else-can_move : goal.returns-else-can_move
+returns-else-can_move c =
+    let on = scan-more _ _ c.args.s _ _ _ c.requires c.loop-i.i _ c.loop-i.invariant (omega (arith, c.loop-i-test.true)) c.can_move.ensures c.if-can_move.false in
+    scan-none _ _ c.args.s _ _ _ c.requires (c.loop-i.i + 1) on (omega arith)

@@ -5,4 +5,4 @@ use Rattle.snapshot.proofs.table_state.core_of.Goals as goal
 
 pub returns : goal.returns
 unfolding core_of
-returns c = rw (c.record_of.ensures, c.stack_of-places.ensures, c.stack_of-offsets.ensures) refl
+returns c = rw (c.record_of.ensures, c.stack_of.ensures, c.stack_of-2.ensures) refl

@@ -5,4 +5,4 @@ use Rattle.snapshot.proofs.table_state.state_of.Goals as goal
 
 pub returns : goal.returns
 unfolding held
-returns c = rw (c.registers_in-ra.ensures, c.registers_in-rb.ensures, c.registers_in-rc.ensures, c.registers_in-rd.ensures, c.table_places-places.ensures, c.table_offsets-offsets.ensures) refl
+returns c = rw (c.registers_in.ensures, c.registers_in-2.ensures, c.registers_in-3.ensures, c.registers_in-4.ensures, c.table_places-places.ensures, c.table_offsets-offsets.ensures) refl
