@@ -1,4 +1,4 @@
-// SHL SHR ROL ROR, by a BYTE count.
+// SHL SHR ROL ROR, by a BYTE count. Each says its own operation, and that alone: all else is the trait's.
 #![tactic(auto, unfolding(values::specs::Commands::on_bits, values::specs::Commands::SHL, values::specs::Commands::SHR, values::specs::Commands::ROL, values::specs::Commands::ROR))]
 
 ghost use Rattle.std.specs.Prelude.{refl};

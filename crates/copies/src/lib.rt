@@ -34,7 +34,7 @@ fn move_singly(d: &mut [u8], to: usize, from: usize, n: usize)
     }
 }
 
-// As the machine does it: by words where the stretches share no byte. The answer is 0, or 1 where a stretch leaves the data.
+// As the machine does it: by words where the stretches share no byte. The answer is 0, or 1 where a stretch leaves the data, as C is given it.
 pub fn rikzord_copy_by_words(d: &mut [u8], to: usize, from: usize, n: usize) -> u8
     ensures { (result ≡ copy_answer (length d.old) to from n) × (d.new ≡ copied d.old to from n) }
 {

@@ -76,6 +76,7 @@ pub fn run_order(
     let mut cursor = aim;
     let mut taken: usize = 0;
     let n = order.len();
+    // no `for`: a stretch of steps is taken at once, and i goes on behind it
     let mut i: usize = 0;
     while i < n {
         let k = core_at(file, order, i);

@@ -5,7 +5,7 @@
 ghost use Rattle.std.specs.Prelude.{◌≡◌, ◌<◌};
 ghost use Rattle.protocol.specs.Registers.{read_acquired, byte_copied, read_released, write_acquired, write_released, advanced, called, returned, cycle_ended, faulted};
 
-// The modes of a core.
+// The modes of a core. Bytes, since a lent record in C's layout can hold any: one above 5 is refused, not ruled out.
 pub const BETWEEN: u8 = 0; // between two cycles
 
 pub const READING: u8 = 1; // in its reading exchange

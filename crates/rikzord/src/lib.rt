@@ -256,7 +256,7 @@ pub fn rikzord_check_cycles(file: &[u8], lines: &mut u8) -> u8
     verdict::refusal_of(answer)
 }
 
-// ---- the memory window: C gets the number and the place, since it can't be handed a part of a slice
+// ---- the memory window: C gets the number and the place, since it can't be handed a part of a slice, by a call for each memory
 
 // Where `count` bytes of a core's code from `start` on stand in the file.
 pub fn rikzord_code_window(
@@ -313,7 +313,7 @@ pub fn rikzord_takes(
     verdict::refusal_of(bounds::takes_to(file, lengths, counts, depths))
 }
 
-// ---- beside the machine: the two forms of a task set file
+// ---- beside the machine: the two forms of a task set file, a call into each for C
 
 // The file in the new form, with a count of 0 for each core, goes to the front of `out`, and its length to `length` (crate forms).
 pub fn rikzord_to_new(file: &[u8], out: &mut [u8], length: &mut usize) -> u8

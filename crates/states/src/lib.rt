@@ -14,7 +14,7 @@ use protocol::Registers;
 use semaphore::Semaphore;
 use taskset::{CoreLayout, Layout, TraceLayout};
 
-// The state of up to four cores. The call stack of core k is entries 16k to 16k + 15 of `places` and `offsets`.
+// The state of up to four cores. The call stack of core k is entries 16k to 16k + 15 of `places` and `offsets`: flat arrays beside the registers, so that a step moves none.
 #[derive(Clone, Copy, PartialEq, Eq)]
 pub struct Held {
     pub count: u8, // records of the core table

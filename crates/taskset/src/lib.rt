@@ -29,7 +29,7 @@ pub struct Layout {
     pub cores: usize,
     pub variables: usize,
     pub first: usize, // place of the first variable's record
-    pub core: [CoreLayout; 4],
+    pub core: [CoreLayout; 4], // the first `cores` count: memory is fixed
 }
 
 // All zeros.

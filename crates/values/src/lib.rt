@@ -41,7 +41,7 @@ pub fn width_of(t: u8) -> usize
     }
 }
 
-// What a value holds if it is of that kind; else false, 0 or NaN.
+// What a value holds if it is of that kind; else false, 0 or NaN. A function for each kind: one over all would need a trait with an impl for each.
 pub fn truth_in(v: Value) -> bool
     ensures { result ≡ truth_in v }
 {
@@ -87,7 +87,7 @@ pub fn lreal_in(v: Value) -> f64
     }
 }
 
-// The float of a pattern. Those above infinity's are NaN.
+// The float of a pattern. Those above infinity's are NaN. A function for each format: the library has no trait over `from_bits` of both.
 fn real_of(p: u32) -> f32
     ensures { result ≡ Ieee.of_bits binary32 p }
 {
