@@ -30,9 +30,19 @@ fn asked(setting: &[u8], line: &[u8], file: &[u8], trace: &[u8], order: &[u8]) {
     let core = byte_value(setting, line, GIVEN, b"step", 1);
     let known = spelt_right(setting, line);
     named(line);
-    let first = as_given(known, line, 1, verdict::refusal_of(machine::check_file(file)));
+    let first = as_given(
+        known,
+        line,
+        1,
+        verdict::refusal_of(machine::check_file(file)),
+    );
     let second = as_given(first, line, 2, fresh_says(setting, line, file));
-    let third = as_given(second, line, 3, verdict::refusal_of(machine::check_state(file, trace, before)));
+    let third = as_given(
+        second,
+        line,
+        3,
+        verdict::refusal_of(machine::check_state(file, trace, before)),
+    );
     let fourth = as_given(third, line, 4, run_says(setting, line, file, trace, order));
     let fifth = as_given(fourth, line, 5, step_says(setting, line, file, trace, core));
     let sixth = as_given(fifth, line, 6, next_says(file, trace, before, core));
