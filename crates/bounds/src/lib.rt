@@ -105,6 +105,7 @@ fn measure(code: &[u8]) -> Option<Numbers>
     ensures { MeasuredAs code.now result }
 {
     let starts = code_judging::starts(code);
+    // two arrays, as the laws of `Back` speak of lists of numbers
     let mut counts = zeros();
     let mut depths = zeros();
     let mut count: u32 = 0;

@@ -168,7 +168,7 @@ fn write_number(out: &mut [u8], number: u8) -> usize
     write_column(out, at, number as u16, LINE_FEED)
 }
 
-// The refusal with its number.
+// The refusal with its number: of any number, as `refused_text` has it.
 pub fn write_refused(number: u8, out: &mut [u8]) -> Result<usize, Refusal>
     ensures { text_left result out.new ≡ text_call (refused_text number) out.old }
 {

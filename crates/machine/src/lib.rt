@@ -49,7 +49,7 @@ pub fn check_state(file: &[u8], trace: &[u8], s: Held) -> Result<(), Refusal>
 
 // ---- lent memory
 
-// The bytes of the data buffer of a task set; none where the file is refused.
+// The bytes of the data buffer of a task set; none where the file is refused: a caller may ask before any check (`buffer_size` of specs/Calls).
 pub fn buffer_size(file: &[u8]) -> usize
     ensures { (result ≡ buffer_size file.now) × (result ≤ 16384) }
 {

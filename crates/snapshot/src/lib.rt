@@ -120,7 +120,8 @@ pub fn short_refusal(profile: Profile, file: &[u8]) -> Refusal
 
 // ---- the ring of cores, and the test of one record
 
-// What a scan of the table needs beside its records. Where the call is refused there are no cores to scan.
+// What a scan of the table needs beside its records. Where the call is refused there are no cores to scan. The refusal stands in it as a number, since
+// `found_in` answers for every ring, a refused one too (`ring_answer`).
 #[derive(Clone, Copy)]
 pub struct Ring {
     pub refusal: u8,
