@@ -4,7 +4,7 @@ use lib.ListN.{length}
 use Rattle.programs.proofs.lines.Given as goal
 
 abbrev pub invariant-loop-from : goal.invariant-loop-from
-invariant-loop-from l = l.from ≤ length l.text + 1
+invariant-loop-from g l = l.from ≤ length l.text + 1
 
 abbrev pub decreases-loop-from : goal.decreases-loop-from
-decreases-loop-from l = length l.text + 1 - l.from
+decreases-loop-from g l = length l.text + 1 - l.from

@@ -16,4 +16,4 @@ prefix n l p ys e h =
     sym (length-take-le n l (omega arith))
 
 pub slice_bounds-report-end : goal.slice_bounds-report-end
-slice_bounds-report-end c = prefix _ _ _ _ c.copy.ensures c.if-n-gt4096.false
+slice_bounds-report-end g c = prefix _ _ _ _ c.copy.ensures c.if-n-gt4096.false

@@ -6,7 +6,7 @@ use borrow.Author.Rules.{rules}
 use Rattle.samples.proofs.lines.Goals as goal
 
 pub loop-from-smaller : goal.loop-from-smaller
-loop-from-smaller c = omega (arith, c.loop-from-test.true, c.line_end-from.ensures.0, c.line_end-from.ensures.1 (omega (arith, c.loop-from-test.true)))
+loop-from-smaller g c = omega (arith, c.loop-from-test.true, c.line_end-from.ensures.0, c.line_end-from.ensures.1 (omega (arith, c.loop-from-test.true)))
 
 pub loop-from-preserved : goal.loop-from-preserved
-loop-from-preserved c = omega (arith, c.line_end-from.ensures.0)
+loop-from-preserved g c = omega (arith, c.line_end-from.ensures.0)

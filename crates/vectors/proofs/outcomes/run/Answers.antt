@@ -2,8 +2,8 @@
 use Rattle.std.proofs.Common.{sym, ◌∙◌, arith}
 use Rattle.vectors.proofs.outcomes.run.Goals as goal
 
-pub perform-requires : goal.perform-requires
-perform-requires c = record {
+pub perform-performed-requires : goal.perform-performed-requires
+perform-performed-requires c = record {
   taken = sym c.takes_type.ensures ∙ c.if-not-takes_type.false;
   to_low = omega arith;
   first-low = omega arith;
