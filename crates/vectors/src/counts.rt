@@ -6,9 +6,6 @@ use std::io;
 
 // Counts a whole line under its command's code byte.
 fn count(l: Line, compared: &mut [u64; 64], differed: &mut [u64; 64]) {
-    if l.comment {
-        return;
-    }
     let code = code_of(l.op);
     let k = (code % 64) as usize;
     compared[k] = compared[k].wrapping_add(1);
@@ -20,15 +17,17 @@ fn count(l: Line, compared: &mut [u64; 64], differed: &mut [u64; 64]) {
 // Counts the lines that end in s; the answer is what s has of the next one.
 pub fn count_lines(
     s: &[u8],
-    start: Line,
+    start: Option<Line>,
     compared: &mut [u64; 64],
     differed: &mut [u64; 64],
-) -> Line {
+) -> Option<Line> {
     let mut line = start;
     for c in s {
         if *c == b'\n' {
-            count(line, compared, differed);
-            line = fresh();
+            if let Some(l) = line {
+                count(l, compared, differed);
+            }
+            line = Some(fresh());
         } else {
             line = longer(line, *c);
         }

@@ -34,7 +34,7 @@ fn read_some(file: &mut File, buffer: &mut [u8]) -> usize
 fn count_file(rt: &impl Print, file: &mut File) -> io::Result<()> {
     let mut compared = [0u64; 64];
     let mut differed = [0u64; 64];
-    let mut line = fresh();
+    let mut line = Some(fresh());
     for _ in 0..READS {
         let mut buffer = [0u8; 4096];
         let n = read_some(file, &mut buffer);

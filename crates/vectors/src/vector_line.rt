@@ -2,7 +2,7 @@
 ghost use Rattle.std.specs.Prelude.{◌<◌};
 
 // What is known of a line `op type a b result` when some of it is read. A name is the number that its letters spell. Of a fault the result is
-// `-`; b of a conversion is the number of its to-type; a line that starts with `#` is a comment.
+// `-`, here none; b of a conversion is the number of its to-type; a line that starts with `#` is a comment, here no line.
 #[derive(Clone, Copy)]
 pub struct Line {
     pub field: u8,
@@ -10,9 +10,7 @@ pub struct Line {
     pub kind: u64,
     pub a: u64,
     pub b: u64,
-    pub result: u64,
-    pub fault: bool,
-    pub comment: bool,
+    pub result: Option<u64>,
 }
 
 pub fn fresh() -> Line {
@@ -22,9 +20,7 @@ pub fn fresh() -> Line {
         kind: 0,
         a: 0,
         b: 0,
-        result: 0,
-        fault: false,
-        comment: false,
+        result: Some(0),
     }
 }
 
@@ -55,29 +51,28 @@ fn hexadecimal(number: u64, c: u8) -> u64 {
 }
 
 // The line with one more character.
-pub fn longer(line: Line, c: u8) -> Line {
-    let mut l = line;
+pub fn longer(line: Option<Line>, c: u8) -> Option<Line> {
+    let mut l = line?;
     if c == b'#' {
-        l.comment = true;
-        return l;
+        return None;
     }
     let field = l.field;
     if c == b' ' {
         if field < 4 {
             l.field = field + 1;
         }
-        return l;
+        return Some(l);
     }
     if c == b'-' {
-        l.fault = true;
-        return l;
+        l.result = None;
+        return Some(l);
     }
     match field {
         0 => l.op = spelled(l.op, c),
         1 => l.kind = spelled(l.kind, c),
         2 => l.a = hexadecimal(l.a, c),
         3 => l.b = hexadecimal(l.b, c),
-        _ => l.result = hexadecimal(l.result, c),
+        _ => l.result = l.result.map(|r| hexadecimal(r, c)),
     }
-    l
+    Some(l)
 }
