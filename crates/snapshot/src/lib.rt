@@ -16,8 +16,8 @@ ghost use Rattle.snapshot.specs.Snapshot.{no_record, table_from, counted, table_
 use code::Profile;
 use protocol::Registers;
 use semaphore::Semaphore;
+use table_state::record_of;
 pub use table_state::{accepted, state_of, unchanged};
-use table_state::{record_of, registers_in};
 use verdict::Refusal;
 
 // A record of the core table: a core's registers and call stack, in 84 bytes of which each belongs to a field, so that what a call says of the
@@ -190,10 +190,10 @@ pub fn moves(r: Ring, k: u8, c: CoreRecord) -> bool
     ensures { result ≡ record_moves r k c }
 {
     if 4 <= k {
-        return table::can_move(0, r.semaphore, k, registers_in(c));
+        return table::can_move(0, r.semaphore, k, Registers::from(c));
     }
     let count = r.counts[k as usize];
-    table::can_move(count, r.semaphore, k, registers_in(c))
+    table::can_move(count, r.semaphore, k, Registers::from(c))
 }
 
 // The number of the core that moves next, where the call is not refused.

@@ -12,23 +12,25 @@ use states::Held;
 // ---- a table as a state, and back
 
 // The registers of a record.
-pub fn registers_in(c: CoreRecord) -> Registers
-    ensures { result ≡ registers_in c }
-{
-    Registers {
-        mode: c.mode,
-        counter: c.counter,
-        offset: c.offset,
-        depth: c.depth,
-        count: c.count,
-        exchange: c.exchange,
-        cycles: c.cycles,
-        flags: c.flags,
-        time: c.time,
+impl From<CoreRecord> for Registers {
+    ghost from_gives = { λ c r. r ≡ registers_in c };
+
+    fn from(c: CoreRecord) -> Registers {
+        Registers {
+            mode: c.mode,
+            counter: c.counter,
+            offset: c.offset,
+            depth: c.depth,
+            count: c.count,
+            exchange: c.exchange,
+            cycles: c.cycles,
+            flags: c.flags,
+            time: c.time,
+        }
     }
 }
 
-// A record of these registers and this call stack.
+// A record of these registers and this call stack: of three parts, so no `From`.
 pub fn record_of(r: Registers, places: [u16; 16], offsets: [u16; 16]) -> CoreRecord
     ensures { result ≡ record_with r places offsets }
 {
@@ -101,10 +103,10 @@ pub fn state_of(t: Table, semaphore: Semaphore) -> Held
 {
     let [a, b, c, d] = t.cores;
     let cores = [
-        registers_in(a),
-        registers_in(b),
-        registers_in(c),
-        registers_in(d),
+        Registers::from(a),
+        Registers::from(b),
+        Registers::from(c),
+        Registers::from(d),
     ];
     let places = table_places(t);
     let offsets = table_offsets(t);

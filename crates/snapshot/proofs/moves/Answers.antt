@@ -11,11 +11,11 @@ use Rattle.snapshot.proofs.moves.Goals as goal
 pub returns-then-k-ge4 : goal.returns-then-k-ge4
 returns-then-k-ge4 c = let a = c.args in
     c.can_move.ensures
-    ∙ ap (can_move (semaphore_of a.r.semaphore) a.k 0) c.registers_in.ensures
+    ∙ ap (can_move (semaphore_of a.r.semaphore) a.k 0) c.from.ensures
     ∙ ap (λ (n : ℕ). can_move (semaphore_of a.r.semaphore) a.k n (registers_in a.c)) (sym (pick-false _ _ _ (le-ltb a.k 4 c.if-k-ge4.true)))
 
 pub returns : goal.returns
 returns c = let a = c.args in
     c.can_move-2.ensures
-    ∙ ap (can_move (semaphore_of a.r.semaphore) a.k _) c.registers_in-2.ensures
+    ∙ ap (can_move (semaphore_of a.r.semaphore) a.k _) c.from-2.ensures
     ∙ ap (λ (n : ℕ). can_move (semaphore_of a.r.semaphore) a.k n (registers_in a.c)) (sym (pick_true _ _ _ (lt-ltb a.k 4 c.if-k-ge4.false)))

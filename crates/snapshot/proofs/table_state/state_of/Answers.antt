@@ -5,4 +5,4 @@ use Rattle.snapshot.proofs.table_state.state_of.Goals as goal
 
 pub returns : goal.returns
 unfolding held
-returns c = rw (c.registers_in.ensures, c.registers_in-2.ensures, c.registers_in-3.ensures, c.registers_in-4.ensures, c.table_places-places.ensures, c.table_offsets-offsets.ensures) refl
+returns c = rw (c.from.ensures, c.from-2.ensures, c.from-3.ensures, c.from-4.ensures, c.table_places-places.ensures, c.table_offsets-offsets.ensures) refl
