@@ -17,7 +17,7 @@ const ORDER: usize = console::MOST_ORDER + 1;
 // The descriptor of standard output.
 const OUTPUT: i32 = 1;
 
-// The text that was written. There always is one: TEXT bytes hold any.
+// The text that was written. There always is one: TEXT bytes hold any. By descriptor, since `print_cores` is lent the files alone and so has nothing that prints.
 fn print(written: Result<usize, Refusal>, out: &[u8]) {
     if let Ok(n) = written {
         if n <= out.len() {
