@@ -1,4 +1,6 @@
 // The converters between the forms of a file, with an output of bytes that hold 1.
+ghost use Rattle.std.specs.Prelude.{◌<◌};
+
 use super::printing::bytes;
 use std::io;
 use verdict::Refusal;
@@ -15,14 +17,18 @@ fn shown(
     println!(rt;)
 }
 
-// Into an output of N bytes.
-fn to_new<const N: usize>(rt: &impl Print, label: &str, file: &[u8]) -> io::Result<()> {
+// Into an output of N bytes, few enough that they are a part of memory.
+fn to_new<const N: usize>(rt: &impl Print, label: &str, file: &[u8]) -> io::Result<()>
+    requires { N < 64 }
+{
     let mut out = [1u8; N];
     let converted = forms::to_new(file, &mut out);
     shown(rt, label, converted, &out)
 }
 
-fn to_old<const N: usize>(rt: &impl Print, label: &str, file: &[u8]) -> io::Result<()> {
+fn to_old<const N: usize>(rt: &impl Print, label: &str, file: &[u8]) -> io::Result<()>
+    requires { N < 64 }
+{
     let mut out = [1u8; N];
     let converted = forms::to_old(file, &mut out);
     shown(rt, label, converted, &out)
