@@ -3,24 +3,20 @@
 #![tactic(auto)]
 
 ghost use Rattle.std.specs.Prelude.{◌≡◌};
-ghost use Rattle.commands.specs.Attempts.{attempt, attempted, OperandsGiven, ThreeOperands};
+ghost use Rattle.commands.specs.Attempts.{attempt, attempted, divided, Inside, OperandsGiven, ThreeOperands};
 
 use arithmetic::{Addition, Division, Multiplication, Remainder, Subtraction};
 use beyond::typed_beyond;
 use bitwise::{And, Or, RotateLeft, RotateRight, ShiftLeft, ShiftRight, Xor};
-use commands::{Operands, typed};
+use commands::{Operands, ZeroDivisor, typed};
 use comparisons::{Equal, Greater, GreaterOrEqual, Less, LessOrEqual, NotEqual};
 use verdict::Fault;
 
-// A typed command with three operands, by its code byte. What executes an instruction is compiled into a loop only where it has one caller, so the loop over one core's
-// instructions and the one over cores in turn have each their own; this one is the shorter text.
-pub fn typed_by_command(d: &mut [u8], op: u8, o: Operands) -> Result<(), Fault>
-    requires { ThreeOperands op × OperandsGiven op o }
-    ensures { attempt result d.new ≡ attempted op o d.old }
+// A typed command with three operands inside the data, by its code byte.
+fn typed_inside(d: &mut [u8], op: u8, o: Operands) -> Result<(), ZeroDivisor>
+    requires { ThreeOperands op × OperandsGiven op o × Inside op o d.old }
+    ensures { divided result d.new ≡ attempted op o d.old }
 {
-    if typed_beyond(d.len(), op, o) {
-        return Err(Fault::Address);
-    }
     let t = o.kind;
     match op {
         16 => typed::<Addition>(d, t, o),
@@ -42,4 +38,17 @@ pub fn typed_by_command(d: &mut [u8], op: u8, o: Operands) -> Result<(), Fault>
         36 => typed::<Less>(d, t, o),
         _ => typed::<NotEqual>(d, t, o),
     }
+}
+
+// The addresses are tried, then the divisor. What executes an instruction is compiled into a loop only where it has one caller, so the loop over one core's
+// instructions and the one over cores in turn have each their own; this one is the shorter text.
+pub fn typed_by_command(d: &mut [u8], op: u8, o: Operands) -> Result<(), Fault>
+    requires { ThreeOperands op × OperandsGiven op o }
+    ensures { attempt result d.new ≡ attempted op o d.old }
+{
+    if typed_beyond(d.len(), op, o) {
+        return Err(Fault::Address);
+    }
+    typed_inside(d, op, o)?;
+    Ok(())
 }

@@ -1,13 +1,15 @@
 -- What a typed command of an instruction answers, and the data after it: the addresses are tried first, then the divisor.
-use Rattle.std.specs.Prelude.{ℕ, ◌<◌, true, false, List, ◌≡◌, length, Result}
+use Rattle.std.specs.Prelude.{ℕ, ◌<◌, true, false, List, ◌≡◌, length, Result, Ok, Err}
 use Rattle.std.proofs.Math.Option.{Option, none, some}
 use Rattle.verdict.specs.Faults.{fault_bit}
+use Rattle.verdict.specs.Numbers.{divisor_bit}
 use Rattle.verdict.specs.declared.Fault.{Fault}
 use Rattle.verdict.specs.Verdict.{pick}
 use Rattle.memory.specs.Memory.{read_le}
 use Rattle.values.specs.Types.{takes}
 use Rattle.values.specs.Commands.{second_width, zero_divisor, typed_beyond, performed}
 use Rattle.commands.specs.declared.Operands.{Operands}
+use Rattle.commands.specs.declared.ZeroDivisor.{ZeroDivisor}
 
 -- ---- an answer, by its fault's bit of the flag byte, with the data afterwards
 
@@ -20,6 +22,11 @@ ending f m = record { fault = f; memory = m }
 
 abbrev pub attempt : {A : Type 0} → Result A Fault → List ℕ → Attempt
 attempt p m = ending (fault_bit p) m
+
+-- the same of a command whose operands lie inside the data, and which fails by its divisor alone
+abbrev pub divided : {A : Type 0} → Result A ZeroDivisor → List ℕ → Attempt
+divided (Ok a) m = ending none m
+divided (Err z) m = ending (some divisor_bit) m
 
 -- the command with this code byte on the data s
 unfoldable pub attempted : ℕ → Operands → List ℕ → Attempt

@@ -6,11 +6,10 @@ ghost use Rattle.values.specs.Width.{Width};
 ghost use Rattle.values.specs.Values.{typed};
 ghost use Rattle.values.specs.declared.Value.{Value};
 ghost use Rattle.values.specs.Commands.{result, result_width, second_width, command, zero_divisor};
-ghost use Rattle.commands.specs.Attempts.{attempt, attempted, Inside};
+ghost use Rattle.commands.specs.Attempts.{divided, attempted, Inside};
 
-use crate::{Operands, Source, store_pattern};
+use crate::{Operands, Source, ZeroDivisor, store_pattern};
 use values::{Value, pattern_of, read_value};
-use verdict::Fault;
 
 // A command of document 01's list that has a type byte.
 pub trait Command {
@@ -99,12 +98,12 @@ fn pattern<C: Command>(d: &[u8], t: u8, a: usize, b: usize) -> u64
 }
 
 // The command at type t on the data, none of whose operands is beyond it: the divisor is tried, and the result is stored.
-pub fn typed<C: Command>(d: &mut [u8], t: u8, o: Operands) -> Result<(), Fault>
+pub fn typed<C: Command>(d: &mut [u8], t: u8, o: Operands) -> Result<(), ZeroDivisor>
     requires { (o.kind ≡ t) × (takes C.CODE t ≡ true) × Inside C.CODE o d.old }
-    ensures { attempt result d.new ≡ attempted C.CODE o d.old }
+    ensures { divided result d.new ≡ attempted C.CODE o d.old }
 {
     if zero_divisor(C::CODE, t, d, o.second) {
-        return Err(Fault::Divisor);
+        return Err(ZeroDivisor);
     }
     store_pattern(
         d,

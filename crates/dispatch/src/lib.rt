@@ -3,12 +3,12 @@
 #![tactic(auto)]
 
 ghost use Rattle.std.specs.Prelude.{◌≡◌, ◌/◌, ◌%◌, ◌<◌};
-ghost use Rattle.commands.specs.Attempts.{attempt, attempted, OperandsGiven, ThreeOperands};
+ghost use Rattle.commands.specs.Attempts.{attempt, attempted, divided, Inside, OperandsGiven, ThreeOperands};
 
 use arithmetic::{Addition, Division, Multiplication, Remainder, Subtraction};
 use beyond::{single_beyond, typed_beyond};
 use bitwise::{And, Not, Or, RotateLeft, RotateRight, ShiftLeft, ShiftRight, Xor};
-use commands::{Operands, typed};
+use commands::{Operands, ZeroDivisor, typed};
 use comparisons::{Equal, Greater, GreaterOrEqual, Less, LessOrEqual, NotEqual};
 use verdict::Fault;
 
@@ -20,15 +20,12 @@ fn command_and_type(op: u8, kind: u8) -> usize
     op as usize * 16 + kind as usize
 }
 
-// A typed command with three operands, by its code byte. One jump leads to code for that command and that type alone: of two jumps, by the command and then by the type,
-// an order of mixed commands lets no processor foresee the second.
-pub fn typed_at(d: &mut [u8], op: u8, o: Operands) -> Result<(), Fault>
-    requires { ThreeOperands op × OperandsGiven op o }
-    ensures { attempt result d.new ≡ attempted op o d.old }
+// A typed command with three operands inside the data, by its code byte. One jump leads to code for that command and that type alone: of two jumps, by the command and then
+// by the type, an order of mixed commands lets no processor foresee the second.
+fn typed_inside(d: &mut [u8], op: u8, o: Operands) -> Result<(), ZeroDivisor>
+    requires { ThreeOperands op × OperandsGiven op o × Inside op o d.old }
+    ensures { divided result d.new ≡ attempted op o d.old }
 {
-    if typed_beyond(d.len(), op, o) {
-        return Err(Fault::Address);
-    }
     let number = command_and_type(op, o.kind);
     match number {
         // 16 ADD
@@ -205,7 +202,33 @@ pub fn typed_at(d: &mut [u8], op: u8, o: Operands) -> Result<(), Fault>
     }
 }
 
+// The addresses are tried, then the divisor.
+pub fn typed_at(d: &mut [u8], op: u8, o: Operands) -> Result<(), Fault>
+    requires { ThreeOperands op × OperandsGiven op o }
+    ensures { attempt result d.new ≡ attempted op o d.old }
+{
+    if typed_beyond(d.len(), op, o) {
+        return Err(Fault::Address);
+    }
+    typed_inside(d, op, o)?;
+    Ok(())
+}
+
 // NOT, which has one source.
+#[tactic(auto, unfolding(values::specs::Types::takes, values::specs::Commands::result_width, values::specs::Commands::result_type, values::specs::Commands::second_width, verdict::specs::Verdict::pick))]
+fn not_inside(d: &mut [u8], o: Operands) -> Result<(), ZeroDivisor>
+    requires { OperandsGiven 27 o × Inside 27 o d.old }
+    ensures { divided result d.new ≡ attempted 27 o d.old }
+{
+    match o.kind {
+        0 => typed::<Not>(d, 0, o),
+        2 => typed::<Not>(d, 2, o),
+        4 => typed::<Not>(d, 4, o),
+        6 => typed::<Not>(d, 6, o),
+        _ => typed::<Not>(d, 8, o),
+    }
+}
+
 #[tactic(auto, unfolding(values::specs::Types::takes, values::specs::Commands::result_width, values::specs::Commands::result_type, values::specs::Commands::second_width, verdict::specs::Verdict::pick))]
 pub fn not_at(d: &mut [u8], o: Operands) -> Result<(), Fault>
     requires { OperandsGiven 27 o }
@@ -214,12 +237,6 @@ pub fn not_at(d: &mut [u8], o: Operands) -> Result<(), Fault>
     if single_beyond(d.len(), o) {
         return Err(Fault::Address);
     }
-    let t = o.kind;
-    match t {
-        0 => typed::<Not>(d, 0, o),
-        2 => typed::<Not>(d, 2, o),
-        4 => typed::<Not>(d, 4, o),
-        6 => typed::<Not>(d, 6, o),
-        _ => typed::<Not>(d, 8, o),
-    }
+    not_inside(d, o)?;
+    Ok(())
 }
