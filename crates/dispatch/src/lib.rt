@@ -214,7 +214,7 @@ pub fn typed_at(d: &mut [u8], op: u8, o: Operands) -> Result<(), Fault>
     Ok(())
 }
 
-// NOT, which has one source.
+// NOT inside the data: it has one source.
 #[tactic(auto, unfolding(values::specs::Types::takes, values::specs::Commands::result_width, values::specs::Commands::result_type, values::specs::Commands::second_width, verdict::specs::Verdict::pick))]
 fn not_inside(d: &mut [u8], o: Operands) -> Result<(), ZeroDivisor>
     requires { OperandsGiven 27 o × Inside 27 o d.old }
@@ -229,6 +229,7 @@ fn not_inside(d: &mut [u8], o: Operands) -> Result<(), ZeroDivisor>
     }
 }
 
+// NOT: the addresses are tried first.
 #[tactic(auto, unfolding(values::specs::Types::takes, values::specs::Commands::result_width, values::specs::Commands::result_type, values::specs::Commands::second_width, verdict::specs::Verdict::pick))]
 pub fn not_at(d: &mut [u8], o: Operands) -> Result<(), Fault>
     requires { OperandsGiven 27 o }

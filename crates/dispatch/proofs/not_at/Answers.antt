@@ -1,4 +1,4 @@
--- `dispatch::not_at` meets its contract. The addresses are tried; then each arm is the command at its type. Assumes nothing.
+-- `dispatch::not_at` meets its contract. The addresses are tried before the command. Assumes nothing.
 use Rattle.std.proofs.Common.{rules}
 use Rattle.commands.proofs.Attempts.{given-type, was-beyond}
 use Rattle.verdict.specs.Verdict.{pick}
