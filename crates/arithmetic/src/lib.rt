@@ -136,7 +136,19 @@ impl Command for Division {
     ghost gives_is = { λ t p q. div_listed _ _ _ _ };
 }
 
-// MOD: with the dividend's sign; by 0 it is 0.
+// MOD: with the dividend's sign; by 0 it is 0. No width plays a part in it, so its function on values asks for none.
+pub fn modulo(a: Value, b: Value) -> Value
+    ensures { result ≡ MOD a b }
+{
+    match a {
+        Value::Bool(x) => Value::Bool(x),
+        Value::Signed(x) => Value::Signed(values::mod_signed(x, values::signed_in(b))),
+        Value::Unsigned(x) => Value::Unsigned(values::mod_unsigned(x, values::unsigned_in(b))),
+        Value::Real(x) => Value::Real(x),
+        Value::Lreal(x) => Value::Lreal(x),
+    }
+}
+
 pub struct Remainder;
 
 impl Command for Remainder {
@@ -149,13 +161,7 @@ impl Command for Remainder {
     ghost gives = { λ w. MOD };
 
     fn apply(_w: usize, a: Value, b: Value) -> Value {
-        match a {
-            Value::Bool(x) => Value::Bool(x),
-            Value::Signed(x) => Value::Signed(values::mod_signed(x, values::signed_in(b))),
-            Value::Unsigned(x) => Value::Unsigned(values::mod_unsigned(x, values::unsigned_in(b))),
-            Value::Real(x) => Value::Real(x),
-            Value::Lreal(x) => Value::Lreal(x),
-        }
+        modulo(a, b)
     }
 
     ghost second_is = { λ t. two_sources 20 t refl refl };

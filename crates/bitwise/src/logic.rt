@@ -5,6 +5,7 @@ ghost use Rattle.std.specs.Prelude.{refl};
 ghost use Rattle.values.specs.Commands.{AND, OR, XOR, NOT};
 ghost use Rattle.commands.proofs.Laws.{two_sources, no_second, and_listed, or_listed, xor_listed, not_listed};
 
+use super::logic_on_values::{and, or, xor};
 use commands::Command;
 use values::Value;
 
@@ -20,13 +21,7 @@ impl Command for And {
     ghost gives = { λ w. AND };
 
     fn apply(_w: usize, a: Value, b: Value) -> Value {
-        match a {
-            Value::Bool(x) => Value::Bool(x & values::truth_in(b)),
-            Value::Signed(x) => Value::Signed(x),
-            Value::Unsigned(x) => Value::Unsigned(x & values::unsigned_in(b)),
-            Value::Real(x) => Value::Real(x),
-            Value::Lreal(x) => Value::Lreal(x),
-        }
+        and(a, b)
     }
 
     ghost second_is = { λ t. two_sources 24 t refl refl };
@@ -48,13 +43,7 @@ impl Command for Or {
     ghost gives = { λ w. OR };
 
     fn apply(_w: usize, a: Value, b: Value) -> Value {
-        match a {
-            Value::Bool(x) => Value::Bool(x | values::truth_in(b)),
-            Value::Signed(x) => Value::Signed(x),
-            Value::Unsigned(x) => Value::Unsigned(x | values::unsigned_in(b)),
-            Value::Real(x) => Value::Real(x),
-            Value::Lreal(x) => Value::Lreal(x),
-        }
+        or(a, b)
     }
 
     ghost second_is = { λ t. two_sources 25 t refl refl };
@@ -76,13 +65,7 @@ impl Command for Xor {
     ghost gives = { λ w. XOR };
 
     fn apply(_w: usize, a: Value, b: Value) -> Value {
-        match a {
-            Value::Bool(x) => Value::Bool(x != values::truth_in(b)),
-            Value::Signed(x) => Value::Signed(x),
-            Value::Unsigned(x) => Value::Unsigned(x ^ values::unsigned_in(b)),
-            Value::Real(x) => Value::Real(x),
-            Value::Lreal(x) => Value::Lreal(x),
-        }
+        xor(a, b)
     }
 
     ghost second_is = { λ t. two_sources 26 t refl refl };

@@ -2,13 +2,25 @@
 // Not here: the other typed commands (crates `arithmetic` and `bitwise`); what all of them share (crate `commands`).
 #![tactic(auto, unfolding(values::specs::Commands::compared, values::specs::Commands::GT, values::specs::Commands::GE, values::specs::Commands::EQ, values::specs::Commands::Le, values::specs::Commands::Lt, values::specs::Commands::NE))]
 
-ghost use Rattle.std.specs.Prelude.{refl};
+ghost use Rattle.std.specs.Prelude.{◌≡◌, refl};
 ghost use Rattle.values.specs.Commands.{GT, GE, EQ, Le, Lt, NE};
 ghost use Rattle.values.specs.declared.Value.TheVariants.{Bool};
 ghost use Rattle.commands.proofs.Laws.{two_sources, gt_listed, ge_listed, eq_listed, le_listed, lt_listed, ne_listed};
 
 use commands::Command;
 use values::Value;
+
+pub fn gt(a: Value, b: Value) -> bool
+    ensures { result ≡ GT a b }
+{
+    match a {
+        Value::Bool(x) => x & !values::truth_in(b),
+        Value::Signed(x) => x > values::signed_in(b),
+        Value::Unsigned(x) => x > values::unsigned_in(b),
+        Value::Real(x) => x > values::real_in(b),
+        Value::Lreal(x) => x > values::lreal_in(b),
+    }
+}
 
 pub struct Greater;
 
@@ -22,13 +34,7 @@ impl Command for Greater {
     ghost gives = { λ w a b. Bool (GT a b) };
 
     fn apply(_w: usize, a: Value, b: Value) -> Value {
-        Value::Bool(match a {
-            Value::Bool(x) => x & !values::truth_in(b),
-            Value::Signed(x) => x > values::signed_in(b),
-            Value::Unsigned(x) => x > values::unsigned_in(b),
-            Value::Real(x) => x > values::real_in(b),
-            Value::Lreal(x) => x > values::lreal_in(b),
-        })
+        Value::Bool(gt(a, b))
     }
 
     ghost second_is = { λ t. two_sources 32 t refl refl };
@@ -36,6 +42,18 @@ impl Command for Greater {
     ghost can_be = { λ t p q taken whole. record {} };
 
     ghost gives_is = { λ t p q. gt_listed _ _ _ _ };
+}
+
+pub fn ge(a: Value, b: Value) -> bool
+    ensures { result ≡ GE a b }
+{
+    match a {
+        Value::Bool(x) => x | !values::truth_in(b),
+        Value::Signed(x) => x >= values::signed_in(b),
+        Value::Unsigned(x) => x >= values::unsigned_in(b),
+        Value::Real(x) => x >= values::real_in(b),
+        Value::Lreal(x) => x >= values::lreal_in(b),
+    }
 }
 
 pub struct GreaterOrEqual;
@@ -50,13 +68,7 @@ impl Command for GreaterOrEqual {
     ghost gives = { λ w a b. Bool (GE a b) };
 
     fn apply(_w: usize, a: Value, b: Value) -> Value {
-        Value::Bool(match a {
-            Value::Bool(x) => x | !values::truth_in(b),
-            Value::Signed(x) => x >= values::signed_in(b),
-            Value::Unsigned(x) => x >= values::unsigned_in(b),
-            Value::Real(x) => x >= values::real_in(b),
-            Value::Lreal(x) => x >= values::lreal_in(b),
-        })
+        Value::Bool(ge(a, b))
     }
 
     ghost second_is = { λ t. two_sources 33 t refl refl };
@@ -64,6 +76,18 @@ impl Command for GreaterOrEqual {
     ghost can_be = { λ t p q taken whole. record {} };
 
     ghost gives_is = { λ t p q. ge_listed _ _ _ _ };
+}
+
+pub fn eq(a: Value, b: Value) -> bool
+    ensures { result ≡ EQ a b }
+{
+    match a {
+        Value::Bool(x) => x == values::truth_in(b),
+        Value::Signed(x) => x == values::signed_in(b),
+        Value::Unsigned(x) => x == values::unsigned_in(b),
+        Value::Real(x) => x == values::real_in(b),
+        Value::Lreal(x) => x == values::lreal_in(b),
+    }
 }
 
 pub struct Equal;
@@ -78,13 +102,7 @@ impl Command for Equal {
     ghost gives = { λ w a b. Bool (EQ a b) };
 
     fn apply(_w: usize, a: Value, b: Value) -> Value {
-        Value::Bool(match a {
-            Value::Bool(x) => x == values::truth_in(b),
-            Value::Signed(x) => x == values::signed_in(b),
-            Value::Unsigned(x) => x == values::unsigned_in(b),
-            Value::Real(x) => x == values::real_in(b),
-            Value::Lreal(x) => x == values::lreal_in(b),
-        })
+        Value::Bool(eq(a, b))
     }
 
     ghost second_is = { λ t. two_sources 34 t refl refl };
@@ -92,6 +110,18 @@ impl Command for Equal {
     ghost can_be = { λ t p q taken whole. record {} };
 
     ghost gives_is = { λ t p q. eq_listed _ _ _ _ };
+}
+
+pub fn le(a: Value, b: Value) -> bool
+    ensures { result ≡ Le a b }
+{
+    match a {
+        Value::Bool(x) => !x | values::truth_in(b),
+        Value::Signed(x) => x <= values::signed_in(b),
+        Value::Unsigned(x) => x <= values::unsigned_in(b),
+        Value::Real(x) => x <= values::real_in(b),
+        Value::Lreal(x) => x <= values::lreal_in(b),
+    }
 }
 
 pub struct LessOrEqual;
@@ -106,13 +136,7 @@ impl Command for LessOrEqual {
     ghost gives = { λ w a b. Bool (Le a b) };
 
     fn apply(_w: usize, a: Value, b: Value) -> Value {
-        Value::Bool(match a {
-            Value::Bool(x) => !x | values::truth_in(b),
-            Value::Signed(x) => x <= values::signed_in(b),
-            Value::Unsigned(x) => x <= values::unsigned_in(b),
-            Value::Real(x) => x <= values::real_in(b),
-            Value::Lreal(x) => x <= values::lreal_in(b),
-        })
+        Value::Bool(le(a, b))
     }
 
     ghost second_is = { λ t. two_sources 35 t refl refl };
@@ -120,6 +144,18 @@ impl Command for LessOrEqual {
     ghost can_be = { λ t p q taken whole. record {} };
 
     ghost gives_is = { λ t p q. le_listed _ _ _ _ };
+}
+
+pub fn lt(a: Value, b: Value) -> bool
+    ensures { result ≡ Lt a b }
+{
+    match a {
+        Value::Bool(x) => !x & values::truth_in(b),
+        Value::Signed(x) => x < values::signed_in(b),
+        Value::Unsigned(x) => x < values::unsigned_in(b),
+        Value::Real(x) => x < values::real_in(b),
+        Value::Lreal(x) => x < values::lreal_in(b),
+    }
 }
 
 pub struct Less;
@@ -134,13 +170,7 @@ impl Command for Less {
     ghost gives = { λ w a b. Bool (Lt a b) };
 
     fn apply(_w: usize, a: Value, b: Value) -> Value {
-        Value::Bool(match a {
-            Value::Bool(x) => !x & values::truth_in(b),
-            Value::Signed(x) => x < values::signed_in(b),
-            Value::Unsigned(x) => x < values::unsigned_in(b),
-            Value::Real(x) => x < values::real_in(b),
-            Value::Lreal(x) => x < values::lreal_in(b),
-        })
+        Value::Bool(lt(a, b))
     }
 
     ghost second_is = { λ t. two_sources 36 t refl refl };
@@ -148,6 +178,18 @@ impl Command for Less {
     ghost can_be = { λ t p q taken whole. record {} };
 
     ghost gives_is = { λ t p q. lt_listed _ _ _ _ };
+}
+
+pub fn ne(a: Value, b: Value) -> bool
+    ensures { result ≡ NE a b }
+{
+    match a {
+        Value::Bool(x) => x != values::truth_in(b),
+        Value::Signed(x) => x != values::signed_in(b),
+        Value::Unsigned(x) => x != values::unsigned_in(b),
+        Value::Real(x) => x != values::real_in(b),
+        Value::Lreal(x) => x != values::lreal_in(b),
+    }
 }
 
 pub struct NotEqual;
@@ -162,13 +204,7 @@ impl Command for NotEqual {
     ghost gives = { λ w a b. Bool (NE a b) };
 
     fn apply(_w: usize, a: Value, b: Value) -> Value {
-        Value::Bool(match a {
-            Value::Bool(x) => x != values::truth_in(b),
-            Value::Signed(x) => x != values::signed_in(b),
-            Value::Unsigned(x) => x != values::unsigned_in(b),
-            Value::Real(x) => x != values::real_in(b),
-            Value::Lreal(x) => x != values::lreal_in(b),
-        })
+        Value::Bool(ne(a, b))
     }
 
     ghost second_is = { λ t. two_sources 37 t refl refl };
