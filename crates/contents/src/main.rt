@@ -3,6 +3,7 @@
 #![tactic(auto)]
 
 use input_files::read_file;
+use output::Output;
 use std::io;
 use taskset::Layout;
 
@@ -115,5 +116,5 @@ fn main(rt: HostRuntime) -> io::Result<()> {
     let f = read_file(&rt, "task.bin", &mut file);
     let t = read_file(&rt, "trace.bin", &mut trace);
     let o = read_file(&rt, "order.bin", &mut order);
-    run_files(&rt, &file[..f], &trace[..t], &order[..o])
+    run_files(&Output { to: &rt }, &file[..f], &trace[..t], &order[..o])
 }

@@ -19,6 +19,7 @@ use damaged_file::damaged;
 use judging::file;
 use largest_file::large;
 use layouts::layout;
+use output::Output;
 use refusal_samples::samples;
 use size_bounds::bounds;
 use std::io;
@@ -31,6 +32,7 @@ fn four_cores(rt: &impl Print, f: &[u8]) -> io::Result<()> {
 }
 
 fn main(rt: HostRuntime) -> io::Result<()> {
+    let rt = Output { to: &rt };
     samples(&rt)?;
     bounds(&rt)?;
     large(&rt)?;

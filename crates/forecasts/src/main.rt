@@ -13,10 +13,12 @@ mod refused_files;
 use accepted_files::accepted;
 use drawn_files::{drawn, more_drawn};
 use lent_outputs::outputs;
+use output::Output;
 use refused_files::{in_turn, refused};
 use std::io;
 
 fn main(rt: HostRuntime) -> io::Result<()> {
+    let rt = Output { to: &rt };
     accepted(&rt)?;
     refused(&rt)?;
     in_turn(&rt)?;

@@ -11,11 +11,13 @@ mod refusal_numbers;
 mod time_range;
 
 use held_records::windows;
+use output::Output;
 use refusal_numbers::{precedence, refusals};
 use std::io;
 use time_range::ends;
 
 fn main(rt: HostRuntime) -> io::Result<()> {
+    let rt = Output { to: &rt };
     refusals(&rt)?;
     precedence(&rt)?;
     windows(&rt)?;

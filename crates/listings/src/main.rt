@@ -2,6 +2,7 @@
 // steps, and JMP 0 with limit 1 among them.
 #![tactic(auto)]
 
+use output::Output;
 use std::io::{Result, Write, writer};
 
 // A label, and what `cores` prints of these three files: a text, or 21.
@@ -138,6 +139,7 @@ fn lengths(rt: &impl Print) -> Result<()> {
 }
 
 fn main(rt: HostRuntime) -> Result<()> {
+    let rt = Output { to: &rt };
     refusals(&rt)?;
     runs(&rt)?;
     lengths(&rt)?;

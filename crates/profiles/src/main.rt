@@ -20,12 +20,14 @@ use code::Profile;
 use conversion_rows::conversion_rows;
 use data_sizes::{sizes_about_1024, sizes_about_4096};
 use number_order::{types_and_3, types_and_6, types_and_7};
+use output::Output;
 use packed_rows::packed_rows;
 use std::io;
 use typed_rows::typed_rows;
 use untyped_instructions::{moves, others};
 
 fn main(rt: HostRuntime) -> io::Result<()> {
+    let rt = Output { to: &rt };
     sizes_about_1024(&rt)?;
     sizes_about_4096(&rt)?;
     typed_rows(&rt)?;

@@ -7,6 +7,7 @@ ghost use Rattle.std.specs.Prelude.{◌≡◌, ◌<◌, ◌≤◌, length};
 ghost use Rattle.code.specs.Code.{judge_code};
 
 use code::Profile;
+use output::Output;
 use protocol::{Outcome, Registers};
 use std::io::{Result, Write, writer};
 
@@ -170,5 +171,5 @@ fn lines(rt: &impl Print, text: &[u8]) -> Result<()> {
 fn main(rt: HostRuntime) -> Result<()> {
     let mut space = io::large_buffer();
     let n = io::read_full(0, &mut space);
-    lines(&rt, &space[..n])
+    lines(&Output { to: &rt }, &space[..n])
 }

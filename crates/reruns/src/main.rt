@@ -4,6 +4,7 @@
 // Two cores: core 0 has two records and publishes NOT of what it reads, core 1 has one record and is stopped by its limit of one instruction.
 #![tactic(auto)]
 
+use output::Output;
 use protocol::Registers;
 use runner::RunAnswer;
 use std::io;
@@ -146,6 +147,7 @@ fn blank(rt: &impl Print) -> io::Result<()> {
 }
 
 fn main(rt: HostRuntime) -> io::Result<()> {
+    let rt = Output { to: &rt };
     produced(&rt)?;
     unproduced(&rt)?;
     refused(&rt)?;

@@ -2,6 +2,7 @@
 // are (0 free, 1 two cores read each other, 2 a ring); that byte is 77 before the call, and stays where the file is refused.
 #![tactic(auto)]
 
+use output::Output;
 use std::io;
 
 fn case(rt: &impl Print, label: &str, file: &[u8]) -> io::Result<()> {
@@ -119,6 +120,7 @@ fn refused(rt: &impl Print) -> io::Result<()> {
 }
 
 fn main(rt: HostRuntime) -> io::Result<()> {
+    let rt = Output { to: &rt };
     free(&rt)?;
     rings(&rt)?;
     pairs(&rt)?;

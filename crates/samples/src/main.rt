@@ -13,6 +13,7 @@ mod state_words;
 ghost use Rattle.io.specs.Counts.{IsPrefixLen};
 
 use call_numbers::{fresh_says, next_says, run_says, step_says};
+use output::Output;
 use printing::{NO_ANSWER, as_given, named, show, told};
 use state_words::{GIVEN, byte_value, state_in_words};
 use std::io::Result;
@@ -114,5 +115,5 @@ fn lines(rt: &impl Print, text: &[u8]) -> Result<()> {
 fn main(rt: HostRuntime) -> Result<()> {
     let mut space = io::large_buffer();
     let n = io::read_full(0, &mut space);
-    lines(&rt, &space[..n])
+    lines(&Output { to: &rt }, &space[..n])
 }

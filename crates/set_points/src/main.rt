@@ -14,9 +14,11 @@ use converters::{news, not_made_new, not_made_old, olds};
 use file_numbers::{before_leftovers, before_the_cut, beyond, ends, numbers, rising};
 use first_readings::readings;
 use fresh_states::{starts, zeros};
+use output::Output;
 use std::io;
 
 fn main(rt: HostRuntime) -> io::Result<()> {
+    let rt = Output { to: &rt };
     numbers(&rt)?;
     beyond(&rt)?;
     rising(&rt)?;

@@ -2,6 +2,7 @@
 // cores: core 0 has three bytes of data, "abc", and RETURN; core 1 has five, "defgh", and the code 06 61 61 01 7A 00 hex, in which "aa" and "z" can be read.
 #![tactic(auto)]
 
+use output::Output;
 use std::io::{Result, Write, writer};
 use window::Shown;
 
@@ -217,6 +218,7 @@ fn new_form(rt: &impl Print) -> Result<()> {
 }
 
 fn main(rt: HostRuntime) -> Result<()> {
+    let rt = Output { to: &rt };
     windows(&rt)?;
     outside(&rt)?;
     lent(&rt)?;
