@@ -2,7 +2,8 @@
 // all but one, each way up and down, and stretches that leave the data. A line has the places and the count, the answer, and the data.
 #![tactic(auto)]
 
-use std::io;
+use output::Output;
+use std::{fmt, io};
 
 // The data before each copy: byte i is 3 i + 1.
 const DATA: [u8; 64] = [
@@ -39,17 +40,30 @@ const CASES: [(u8, u8, u8); 24] = [
     (0, 57, 8),
 ];
 
+// The data as hex digits. A row is one print: a print of its own for each byte would take a buffer each.
+#[derive(Clone, Copy)]
+struct Row {
+    bytes: [u8; 64],
+}
+
+impl fmt::Display for Row {
+    fn fmt<W: fmt::Write>(&self, f: &mut fmt::Formatter<W>) -> fmt::Result {
+        for b in self.bytes {
+            write!(f, "{b:02x}")?;
+        }
+        Ok(())
+    }
+}
+
 fn try_case(rt: &impl Print, to: u8, from: u8, count: u8) -> io::Result<()> {
     let mut d: [u8; 64] = DATA;
     let answer = copies::rikzord_copy_by_words(&mut d, to as usize, from as usize, count as usize);
-    print!(rt; "{to} {from} {count} {answer} ")?;
-    for b in d {
-        print!(rt; "{b:02x}")?;
-    }
-    println!(rt;)
+    let data = Row { bytes: d };
+    println!(rt; "{to} {from} {count} {answer} {data}")
 }
 
 fn main(rt: HostRuntime) -> io::Result<()> {
+    let rt = Output { to: &rt };
     for (to, from, count) in CASES {
         try_case(&rt, to, from, count)?;
     }

@@ -1,7 +1,7 @@
 // Vectors counted under the code byte of their command: how many were compared, and how many differed.
 use super::names::{code_of, name_of};
 use super::outcomes::agrees;
-use super::vector_line::{Line, fresh, longer};
+use super::vector_line::{Line, fresh, lengthen};
 use std::io;
 
 // Counts a whole line under its command's code byte.
@@ -28,8 +28,10 @@ pub fn count_lines(
                 count(l, compared, differed);
             }
             line = Some(fresh());
-        } else {
-            line = longer(line, *c);
+        } else if *c == b'#' {
+            line = None;
+        } else if let Some(l) = &mut line {
+            lengthen(l, *c);
         }
     }
     line

@@ -12,6 +12,7 @@ mod vector_line;
 ghost use Rattle.std.specs.Prelude.{◌<◌, ◌≤◌, length};
 
 use counts::{count_lines, print_counts};
+use output::Output;
 use std::fs::File;
 use std::io;
 use std::io::Read;
@@ -48,9 +49,10 @@ fn count_file(rt: &impl Print, file: &mut File) -> io::Result<()> {
 
 // The counts of a file; one that can't be opened is told on standard error.
 fn examine(rt: &HostRuntime, path: &str) -> io::Result<()> {
-    println!(rt; "{path}")?;
+    let out = Output { to: rt };
+    println!(out; "{path}")?;
     match File::open(rt, path) {
-        Ok(mut file) => count_file(rt, &mut file),
+        Ok(mut file) => count_file(&out, &mut file),
         Err(error) => {
             let _told = eprintln!(rt; "{path}: {error}");
             Ok(())

@@ -50,22 +50,18 @@ fn hexadecimal(number: u64, c: u8) -> u64 {
     number % 0x1000_0000_0000_0000 * 16 + digit(c)
 }
 
-// The line with one more character.
-pub fn longer(line: Option<Line>, c: u8) -> Option<Line> {
-    let mut l = line?;
-    if c == b'#' {
-        return None;
-    }
+// The line has one more character, which begins no comment.
+pub fn lengthen(l: &mut Line, c: u8) {
     let field = l.field;
     if c == b' ' {
         if field < 4 {
             l.field = field + 1;
         }
-        return Some(l);
+        return;
     }
     if c == b'-' {
         l.result = None;
-        return Some(l);
+        return;
     }
     match field {
         0 => l.op = spelled(l.op, c),
@@ -74,5 +70,4 @@ pub fn longer(line: Option<Line>, c: u8) -> Option<Line> {
         3 => l.b = hexadecimal(l.b, c),
         _ => l.result = l.result.map(|r| hexadecimal(r, c)),
     }
-    Some(l)
 }
