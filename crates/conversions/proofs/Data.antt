@@ -1,15 +1,16 @@
 -- Laws of how a conversion ends, over the types t of its destination and u of its source. In order: what the test of the addresses gives;
--- the ways that an instruction ends. Assumes nothing.
-use Rattle.std.proofs.Common.{◌≡◌, ℕ, ◌+◌, ◌≤◌, Bool, true, false, List, length, sym, ap, ◌∙◌}
+-- the ways that an instruction ends; the data keep their size. Assumes nothing.
+use Rattle.std.proofs.Common.{◌≡◌, ℕ, ◌+◌, ◌≤◌, Bool, true, false, List, length, sym, refl, ap, ◌∙◌}
 use Rattle.std.specs.Prelude.{Result as Answer, Err}
 use Rattle.verdict.specs.declared.Fault.{Fault}
 use Rattle.verdict.specs.declared.Fault.TheVariants.{Address}
-use Rattle.verdict.proofs.Verdict.{pick_true, pick-false}
+use Rattle.verdict.proofs.Verdict.{pick_true, pick-false, by-pick}
+use Rattle.memory.proofs.Laws.{length-splice}
 use Rattle.values.specs.Types.{width_of}
 use Rattle.values.specs.Commands.{beyond, any_beyond}
 use Rattle.commands.proofs.Attempts.{either-false, in-data}
-use Rattle.conversions.specs.Conversions.{Result}
-use Rattle.conversions.specs.Data.{ended, settled, tried}
+use Rattle.conversions.specs.Conversions.{Result, stores, not-held}
+use Rattle.conversions.specs.Data.{Ended, ended, settled, tried}
 
 -- ---- what the test of the addresses gives
 
@@ -33,3 +34,13 @@ module _ (s : List ℕ) (to n source m t u : ℕ) (r : Bool) (e : r ≡ any_beyo
   pub was-tried : r ≡ false → (p : Answer (Unit {0}) Fault) (z : List ℕ) → ended p z ≡ settled t s to x → ended p z ≡ tried t u s to source x
   unfolding tried
   was-tried f p z h = h ∙ sym (pick-false _ _ _ (sym (tested (length s) to n source m t u r e wide long) ∙ f))
+
+-- ---- the data keep their size
+
+settled-length : (t : ℕ) (s : List ℕ) (to : ℕ) (x : Result) → length (settled t s to x).memory ≡ length s
+settled-length t s to (stores p) = length-splice s to _
+settled-length t s to not-held = refl
+
+pub tried-length : (t u : ℕ) (s : List ℕ) (to source : ℕ) (x : Result) → length (tried t u s to source x).memory ≡ length s
+unfolding tried
+tried-length t u s to source x = by-pick (λ (e : Ended). length e.memory ≡ length s) _ _ _ (λ _. refl) (λ _. settled-length t s to x)

@@ -1,17 +1,38 @@
--- The last arm of the jump by command and type together: the one number that no arm before it has. Assumes nothing.
-use Prim.Native.Nat.{ℕ, zero, suc, ◌/◌, ◌%◌, ◌≤◌, ◌<◌}
+-- Laws of the jump by command and type together. In order: a command and its type out of their one number; what an arm asks, and what it
+-- answers; the last arm, which has the one number that no arm before it has. Assumes nothing.
+use Prim.Native.Nat.{ℕ, zero, suc, ◌+◌, ◌*◌, ◌/◌, ◌%◌, ◌≤◌, ◌<◌}
 use mathlib.Core.Bool.{Bool, true, false, not}
-use mathlib.Core.Path.{◌≡◌, refl, sym, ◌∙◌, ap}
+use mathlib.Core.List.{List}
+use mathlib.Core.Path.{◌≡◌, refl, sym, ◌∙◌, ap, subst}
 use native.Mathlib.Omega.{arith}
 use lib.Dec.{eqb}
 use borrow.Author.Tests.{ne_eqb}
 use Rattle.verdict.specs.Verdict.{pick, both}
 use Rattle.verdict.proofs.Verdict.{absurd-bool}
 use Rattle.values.specs.Types.{takes}
-use Rattle.commands.specs.Attempts.{OperandsGiven, ThreeOperands}
+use Rattle.commands.specs.Attempts.{Attempt, attempted, OperandsGiven, ThreeOperands, Inside}
 use Rattle.commands.specs.declared.Operands.{Operands}
 use Rattle.commands.proofs.Attempts.{given-type}
 use Rattle.commands.proofs.Results.{taken-command}
+
+-- ---- a command and its type out of their one number
+
+module _ {op : ℕ} {o : Operands} (g : OperandsGiven op o) (number : ℕ) (e : number ≡ op * 16 + o.kind) {m : ℕ} (key : number ≡ m) where
+  type-is : o.kind ≡ m % 16
+  type-is = let l : o.kind < 12 = given-type g in omega arith
+
+  command-is : op ≡ m / 16
+  command-is = let l : o.kind < 12 = given-type g in omega arith
+
+  -- ---- what the arm of the number m asks, and what it answers
+
+  pub arm-asks : (s : List ℕ) → Inside op o s → (o.kind ≡ m % 16) × OperandsGiven (m / 16) o × Inside (m / 16) o s
+  arm-asks s i = (type-is, subst (λ (c : ℕ). OperandsGiven c o) command-is g, subst (λ (c : ℕ). Inside c o s) command-is i)
+
+  pub arm-answers : (s : List ℕ) {a : Attempt} → a ≡ attempted (m / 16) o s → a ≡ attempted op o s
+  arm-answers s h = h ∙ ap (λ (c : ℕ). attempted c o s) (sym command-is)
+
+-- ---- the last arm
 
 -- n is none of the numbers below m of which the test holds, as a `match` hands it to its last arm
 unfoldable pub NoneOf : (ℕ → Bool) → ℕ → ℕ → Type 0

@@ -122,7 +122,7 @@ module _ (o : Profile) (f : List ℕ) (buffer shared : ℕ) (room : Bool) where
     unfolding lent_refusal
     lent-accepted = any-is-full o f (next-zero _ _ (sym z)).0
 
-    lent_fits_lem : lent_fits f buffer shared ≡ true
+    pub lent_fits_lem : lent_fits f buffer shared ≡ true
     unfolding lent_refusal
     lent_fits_lem = (both_true _ _ (unless-zero _ 20 (next-zero _ _ (sym z)).1)).0
 
