@@ -1,4 +1,4 @@
-// Output that no program's end hangs on: bytes that can't be written are lost, those after them are still tried, and whoever prints goes on as if all had been written.
+// Output that no program's end hangs on: what can't be written is lost, what later prints have is still tried, and whoever prints goes on as if all had been written.
 #![tactic(auto)]
 
 ghost use Rattle.std.specs.Prelude.{◌≡◌, Ok};
