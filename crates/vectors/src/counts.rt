@@ -14,27 +14,30 @@ fn count(l: Line, compared: &mut [u64; 64], differed: &mut [u64; 64]) {
     }
 }
 
-// Counts the lines that end in s; the answer is what s has of the next one.
+// Counts the lines that end in s; the answer is what s has of the next one. The line is taken out of its option once, and not for each character: of a comment, which
+// is no line, it goes on and is not counted.
 pub fn count_lines(
     s: &[u8],
     start: Option<Line>,
     compared: &mut [u64; 64],
     differed: &mut [u64; 64],
 ) -> Option<Line> {
-    let mut line = start;
+    let mut counts = start.is_some();
+    let mut line = start.unwrap_or(fresh());
     for c in s {
         if *c == b'\n' {
-            if let Some(l) = line {
-                count(l, compared, differed);
+            if counts {
+                count(line, compared, differed);
             }
-            line = Some(fresh());
+            counts = true;
+            line = fresh();
         } else if *c == b'#' {
-            line = None;
-        } else if let Some(l) = &mut line {
-            lengthen(l, *c);
+            counts = false;
+        } else {
+            lengthen(&mut line, *c);
         }
     }
-    line
+    if counts { Some(line) } else { None }
 }
 
 pub fn print_counts(rt: &impl Print, compared: &[u64; 64], differed: &[u64; 64]) -> io::Result<()> {
