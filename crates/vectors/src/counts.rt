@@ -14,8 +14,8 @@ fn count(l: Line, compared: &mut [u64; 64], differed: &mut [u64; 64]) {
     }
 }
 
-// Counts the lines that end in s; the answer is what s has of the next one. The line is taken out of its option once, and not for each character: of a comment, which
-// is no line, it goes on and is not counted.
+// Counts the lines that end in s; the answer is what s has of the next one. The line is taken out of its option once, and not for each character. A comment, which is no
+// line, is read to its end and not counted.
 pub fn count_lines(
     s: &[u8],
     start: Option<Line>,
