@@ -4,11 +4,11 @@
 #![tactic(auto)]
 
 ghost use Rattle.std.specs.Prelude.{◌≡◌, ◌<◌};
-ghost use Rattle.std.specs.Result.{IfOk};
-ghost use Rattle.verdict.specs.Refusals.{refusal_of};
+ghost use Rattle.verdict.specs.Refusals.{refusal_of, refused_number, known, where_accepted};
 ghost use Rattle.records.specs.File.{cores};
 ghost use Rattle.taskset.specs.Judge.{judge};
 ghost use Rattle.taskset.specs.Layout.{layout_of};
+ghost use Rattle.taskset.specs.Trace.{trace_refusal};
 ghost use Rattle.states.specs.Set.{AcceptedSet};
 ghost use Rattle.states.specs.Tasks.{core_task, tasks_of};
 ghost use Rattle.states.specs.Fit.{exchange_fit, cycles_fit, holder_fit, exchanges_fit, fit_at, may_wait, line_fit, state_refusal};
@@ -18,7 +18,7 @@ use execution_fitness::{execution_fit, freed_fit};
 use protocol::Registers;
 use states::{CoreTask, Held, core_tasks};
 use taskset::Layout;
-use verdict::Refusal;
+use verdict::{Refusal, Refused};
 
 const FLAGS: u8 = 128; // above the lawful flag bits: bit 7 alone is none
 
@@ -169,13 +169,23 @@ fn judge_state(
     Ok(())
 }
 
-// The tasks of the cores, where trace and state of an accepted file are sound.
-pub fn prepare(file: &[u8], trace: &[u8], layout: Layout, s: Held) -> Result<[CoreTask; 4], Refusal>
+// The tasks of the cores, where trace and state of an accepted file are sound. Those of a sound trace are known beside an unfit state too.
+pub fn prepare(
+    file: &[u8],
+    trace: &[u8],
+    layout: Layout,
+    s: Held,
+) -> Result<[CoreTask; 4], Refused<[CoreTask; 4]>>
     requires { (judge file.now ≡ 0) × (layout ≡ layout_of file.now) }
-    ensures { (refusal_of result ≡ held_refusal file.now trace.now s) × IfOk result (λ tasks. tasks ≡ tasks_of file.now trace.now) }
+    ensures { (refused_number result ≡ held_refusal file.now trace.now s) × (known result ≡ where_accepted (trace_refusal file.now trace.now) (tasks_of file.now trace.now)) }
 {
     let traces = traces::load_trace(file, trace)?;
     let tasks = core_tasks(file, trace, layout, traces);
-    judge_state(file, trace, tasks, layout.cores, s)?;
-    Ok(tasks)
+    match judge_state(file, trace, tasks, layout.cores, s) {
+        Ok(()) => Ok(tasks),
+        Err(refusal) => Err(Refused {
+            refusal,
+            known: Some(tasks),
+        }),
+    }
 }

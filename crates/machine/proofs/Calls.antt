@@ -11,12 +11,14 @@ use borrow.Author.Tests.{lt-ltb, le-ltb, eq-eqb, ne_eqb, ltb-true, eqb-true, le-
 use lib.Dec.{ltb, leb}
 use lib.ListN.{length, get_or, drop}
 use lib.Seq.{drop-cons, drop-length}
-use Rattle.std.specs.Prelude.{Result, Ok, Err}
-use Rattle.std.specs.Result.{IfOk}
+use Rattle.std.specs.Prelude.{Result, Ok, Err, Some, None}
+use Rattle.std.specs.Result.{IfOk, IfErr}
 use Rattle.verdict.specs.Verdict.{both, next, unless}
-use Rattle.verdict.specs.Refusals.{refusal_of}
+use Rattle.verdict.specs.Refusals.{number_of, refusal_of, refused_number, known, where_accepted}
 use Rattle.verdict.specs.declared.Refusal.{Refusal}
-use Rattle.verdict.proofs.Verdict.{skip, yes, no, pick_true, pick-false, next-none, next-zero, unless-zero, both_true, both-not, absurd-bool}
+use Rattle.verdict.specs.declared.Refused.{Refused}
+use Rattle.verdict.proofs.Verdict.{skip, stop, yes, no, pick_true, pick-false, next-none, next-zero, unless-zero, both_true, both-not, absurd-bool}
+use Rattle.verdict.proofs.Refusals.{refused, known-accepted}
 use Rattle.memory.specs.Memory.{total}
 use Rattle.records.specs.File.{cores}
 use Rattle.records.proofs.Laws.{both-alone}
@@ -32,11 +34,14 @@ use Rattle.taskset.proofs.Accepted.{length-buffer, length-shared}
 use Rattle.taskset.proofs.Loading.{file-judged, file-accepted, file-laid}
 use Rattle.taskset.proofs.Narrowed.{any-is-full}
 use Rattle.states.specs.declared.Held.{Held}
+use Rattle.states.specs.declared.CoreTask.{CoreTask}
 use Rattle.states.specs.Fit.{state_refusal}
 use Rattle.states.specs.Preparing.{held_refusal}
+use Rattle.states.specs.Tasks.{tasks_of}
 use Rattle.runner.specs.declared.RunAnswer.{RunAnswer}
 use Rattle.runner.specs.Runs.{all_below, Left, left_as, ran_call}
-use Rattle.machine.specs.Judging.{lent_refusal, LaidOut, LentTo, judged_number, first_run}
+use Rattle.machine.specs.declared.judging.Judgement.{Judgement}
+use Rattle.machine.specs.Judging.{lent_refusal, LaidOut, LentTo, judged_number, JudgedAs, first_run}
 use Rattle.machine.specs.Calls.{lent_fits, set_refusal, call_refusal, answer_of, table_of, fresh_refusal_for, fresh_refusal, fresh_call_for, fresh_call, run_refusal, run_call, fresh_left, next_refusal}
 
 -- ---- trace and state
@@ -46,6 +51,10 @@ module _ (f t : List ℕ) (h : Held) where
   pub held_none : held_refusal f t h ≡ 0 → (trace_refusal f t ≡ 0) × (state_refusal f t h ≡ 0)
   unfolding held_refusal
   held_none e = next-zero _ _ e
+
+  -- what is prepared where nothing is refused
+  pub prepared-tasks : (tasks : List CoreTask) → (0 ≡ held_refusal f t h) × (Some tasks ≡ where_accepted (trace_refusal f t) (tasks_of f t)) → tasks ≡ tasks_of f t
+  prepared-tasks tasks e = known-accepted _ _ tasks (held_none (sym e.0)).0 e.1
 
 -- ---- the order
 
@@ -118,21 +127,27 @@ module _ (o : Profile) (f : List ℕ) (buffer shared : ℕ) (room : Bool) where
 
   -- backward
   module _ (z : 0 ≡ lent_refusal o f buffer shared room) where
-    lent-accepted : judge f ≡ 0
+    lent-carried : judge_for o f ≡ 0
     unfolding lent_refusal
-    lent-accepted = any-is-full o f (next-zero _ _ (sym z)).0
+    lent-carried = (next-zero _ _ (sym z)).0
+
+    lent-accepted : judge f ≡ 0
+    lent-accepted = any-is-full o f lent-carried
 
     pub lent_fits_lem : lent_fits f buffer shared ≡ true
     unfolding lent_refusal
     lent_fits_lem = (both_true _ _ (unless-zero _ 20 (next-zero _ _ (sym z)).1)).0
 
-  pub lent_laid : (r : Result Layout Refusal) → (refusal_of r ≡ lent_refusal o f buffer shared room) × IfOk r (λ l. l ≡ layout_of f) → LaidOut f r
-  lent_laid (Ok l) e = (lent-accepted e.0, e.1)
+  pub lent_laid : (r : Result Layout (Refused Layout)) → (refused_number r ≡ lent_refusal o f buffer shared room) × (known r ≡ where_accepted (judge_for o f) (layout_of f)) → LaidOut f r
+  lent_laid (Ok l) e = (lent-accepted e.0, known-accepted _ _ l (lent-carried e.0) e.1)
   lent_laid (Err r) e = tt
 
-pub lent-to : (o : Profile) (f d sh : List ℕ) (room : Bool) (l : Layout) → (0 ≡ lent_refusal o f (length d) (length sh) room) × (l ≡ layout_of f) → LentTo f l d sh
-lent-to o f d sh room l e =
-    record { accepted = lent-accepted o f (length d) (length sh) room e.0; laid = e.1; fits = lent_fits_lem o f (length d) (length sh) room e.0 }
+pub lent-to : (o : Profile) (f d sh : List ℕ) (room : Bool) (l : Layout) → (0 ≡ lent_refusal o f (length d) (length sh) room) × (Some l ≡ where_accepted (judge_for o f) (layout_of f)) → LentTo f l d sh
+lent-to o f d sh room l e = record {
+  accepted = lent-accepted o f (length d) (length sh) room e.0;
+  laid = known-accepted _ _ l (lent-carried o f (length d) (length sh) room e.0) e.1;
+  fits = lent_fits_lem o f (length d) (length sh) room e.0;
+}
 
 -- a file that is loaded, and no memory lent
 pub loaded-laid : (f : List ℕ) (r : Result Layout Refusal) → loaded_as r ≡ load_of f → LaidOut f r
@@ -144,6 +159,33 @@ loaded-number f (Ok l) e = file-judged f _ e
 loaded-number f (Err r) e = file-judged f _ e
 
 -- ---- the call, after loading
+
+-- the number of an answer, by that of its error
+abbrev pub number_in : {A E : Type 0} → (E → ℕ) → Result A E → ℕ
+number_in number (Ok a) = 0
+number_in number (Err e) = number e
+
+-- Whatever numbers a caller's errors have, if what a refusal gives has the refusal's, and loading's error has one above 0: the call has the number that is
+-- judged.
+module _ {E : Type 0} (gives : Refusal → E → Type 0) (number : E → ℕ) (told : (r : Refusal) (e : E) → gives r e → number e ≡ number_of r) where
+  pub judged-number : (f t : List ℕ) (loaded : Result Layout E) (h : Held) (order : List ℕ) (x : Result Judgement E) → IfErr loaded (λ e. number e ≢ 0) → JudgedAs gives f t loaded h order x
+      → (number_in number x ≡ judged_number f t (number_in number loaded) h order) × IfOk x (λ j. (j.layout ≡ layout_of f) × (j.tasks ≡ tasks_of f t))
+  unfolding judged_number
+  judged-number f t (Ok l) h order (Ok j) some e = (e.granted.0, (e.granted.1, e.granted.2))
+  judged-number f t (Ok l) h order (Err y) some e = (told e.number.0 y e.number.2 ∙ e.number.1, tt)
+  judged-number f t (Err y) h order x some e = rw e.handed (stop _ refl some, tt)
+
+-- refusals as they are
+pub judged-refusal : (f t : List ℕ) (loaded : Result Layout Refusal) (h : Held) (order : List ℕ) (x : Result Judgement Refusal) → JudgedAs (λ r e. e ≡ r) f t loaded h order x
+    → (number_in number_of x ≡ judged_number f t (refusal_of loaded) h order) × IfOk x (λ j. (j.layout ≡ layout_of f) × (j.tasks ≡ tasks_of f t))
+judged-refusal f t (Ok l) h order x e = judged-number (λ r y. y ≡ r) number_of (λ r y p. ap number_of p) f t (Ok l) h order x tt e
+judged-refusal f t (Err r) h order x e = judged-number (λ r y. y ≡ r) number_of (λ r y p. ap number_of p) f t (Err r) h order x (refused r) e
+
+-- refusals with what is known beside them
+pub judged-refused : (f t : List ℕ) (loaded : Result Layout (Refused Layout)) (h : Held) (order : List ℕ) (x : Result Judgement (Refused Layout)) → JudgedAs (λ r e. e ≡ record { refusal = r; known = None }) f t loaded h order x
+    → (number_in (λ (e : Refused Layout). number_of e.refusal) x ≡ judged_number f t (refused_number loaded) h order) × IfOk x (λ j. (j.layout ≡ layout_of f) × (j.tasks ≡ tasks_of f t))
+judged-refused f t (Ok l) h order x e = judged-number (λ r y. y ≡ record { refusal = r; known = None }) (λ y. number_of y.refusal) (λ r y p. ap (λ (z : Refused Layout). number_of z.refusal) p) f t (Ok l) h order x tt e
+judged-refused f t (Err r) h order x e = judged-number (λ r y. y ≡ record { refusal = r; known = None }) (λ y. number_of y.refusal) (λ r y p. ap (λ (z : Refused Layout). number_of z.refusal) p) f t (Err r) h order x (refused r.refusal) e
 
 module _ (f t : List ℕ) (loaded : ℕ) (h : Held) (order : List ℕ) where
   abbrev number : ℕ

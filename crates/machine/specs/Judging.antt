@@ -1,10 +1,10 @@
 -- What the judging of a call answers, and what the inner functions of this crate are given. In order: file and lent memory; the call; a run from the fresh state.
 -- Not here: the refusal number of each public call (`Calls`).
-use Rattle.std.specs.Prelude.{◌≡◌, Bool, true, List, ℕ, length, Result}
-use Rattle.std.specs.Result.{IfOk}
+use Rattle.std.specs.Prelude.{◌≡◌, Bool, true, List, ℕ, length, Result, Err}
+use Rattle.std.specs.Result.{IfOk, IfErr, OnOk}
 use Rattle.verdict.specs.Numbers.{no_such_core, bad_lengths}
 use Rattle.verdict.specs.Verdict.{both, next, unless}
-use Rattle.verdict.specs.Refusals.{refusal_of}
+use Rattle.verdict.specs.Refusals.{number_of}
 use Rattle.verdict.specs.declared.Refusal.{Refusal}
 use Rattle.protocol.specs.Fresh.{fresh_flags}
 use Rattle.records.specs.File.{cores}
@@ -32,7 +32,7 @@ pub record LentTo (f : List ℕ) (layout : Layout) (d sh : List ℕ) : Type 0 wh
   pub fits : lent_fits f (length d) (length sh) ≡ true
 
 -- the layout is that of an accepted file where nothing is refused
-abbrev pub LaidOut : List ℕ → Result Layout Refusal → Type 0
+abbrev pub LaidOut : {E : Type 0} → List ℕ → Result Layout E → Type 0
 LaidOut f x = IfOk x (λ layout. (judge f ≡ 0) × (layout ≡ layout_of f))
 
 -- ---- the call, after what loading refused
@@ -40,9 +40,12 @@ LaidOut f x = IfOk x (λ layout. (judge f ≡ 0) × (layout ≡ layout_of f))
 unfoldable pub judged_number : List ℕ → List ℕ → ℕ → Held → List ℕ → ℕ
 judged_number f t loaded h order = next loaded (next (held_refusal f t h) (unless (all_below (cores f) order) no_such_core))
 
-abbrev pub JudgedAs : List ℕ → List ℕ → ℕ → Held → List ℕ → Result Judgement Refusal → Type 0
-JudgedAs f t loaded h order x =
-    (refusal_of x ≡ judged_number f t loaded h order) × IfOk x (λ j. (j.layout ≡ layout_of f) × (j.tasks ≡ tasks_of f t))
+pub record JudgedAs {E : Type 0} (gives : Refusal → E → Type 0) (f t : List ℕ) (loaded : Result Layout E) (h : Held) (order : List ℕ) (x : Result Judgement E) : Type 0 where
+  -- an error of loading is the call's
+  pub handed : IfErr loaded (λ e. x ≡ Err e)
+  -- any other is what `gives` makes of the refusal whose number is judged
+  pub number : OnOk loaded (IfErr x (λ e. (r : Refusal) × (number_of r ≡ judged_number f t 0 h order) × gives r e))
+  pub granted : OnOk loaded (IfOk x (λ j. (0 ≡ judged_number f t 0 h order) × (j.layout ≡ layout_of f) × (j.tasks ≡ tasks_of f t)))
 
 -- ---- a run from the fresh state of an accepted file, in memories of its sizes
 

@@ -73,7 +73,7 @@ pub fn fresh_for(profile: Profile, file: &[u8], buffer: &mut [u8], shared: &mut 
 {
     match load_lent(profile, file, buffer.len(), shared.len(), true) {
         Ok(layout) => fresh_judged(file, layout, buffer, shared),
-        Err(refusal) => answer(refusal.number(), idle_table(0, 0)),
+        Err(refused) => answer(refused.refusal.number(), idle_table(0, 0)),
     }
 }
 

@@ -1,8 +1,7 @@
 // The judging of a call, each thing once: the file, lent memory (21), trace and state (22, 23), the cores that it names (20).
 ghost use Rattle.std.specs.Prelude.{◌≡◌};
-ghost use Rattle.std.specs.Result.{IfOk};
-ghost use Rattle.verdict.specs.Refusals.{refusal_of};
-ghost use Rattle.taskset.specs.Judge.{judge};
+ghost use Rattle.verdict.specs.Refusals.{refused_number, known, where_accepted};
+ghost use Rattle.taskset.specs.Judge.{judge_for, judge};
 ghost use Rattle.taskset.specs.Layout.{layout_of};
 ghost use Rattle.runner.specs.Runs.{all_below};
 ghost use Rattle.machine.specs.Judging.{lent_refusal, LaidOut, JudgedAs};
@@ -12,7 +11,7 @@ use super::SHARED;
 use code::Profile;
 use states::{CoreTask, Held};
 use taskset::Layout;
-use verdict::Refusal;
+use verdict::{Refusal, Refused};
 
 // ---- file and lent memory
 
@@ -27,15 +26,16 @@ fn lent_fits(file: &[u8], layout: Layout, buffer: usize, shared: usize) -> bool
     false
 }
 
-// The file, under a profile, then lent memory of these sizes and whether the order list has room.
+// The file, under a profile, then lent memory of these sizes and whether the order list has room. The layout of an accepted file is known beside memory
+// that does not fit too.
 pub fn load_lent(
     profile: Profile,
     file: &[u8],
     buffer: usize,
     shared: usize,
     room: bool,
-) -> Result<Layout, Refusal>
-    ensures { (refusal_of result ≡ lent_refusal profile file.now buffer shared room) × IfOk result (λ layout. layout ≡ layout_of file.now) }
+) -> Result<Layout, Refused<Layout>>
+    ensures { (refused_number result ≡ lent_refusal profile file.now buffer shared room) × (known result ≡ where_accepted (judge_for profile file.now) (layout_of file.now)) }
 {
     let layout = file_loading::load_file_for(profile, file)?;
     if room {
@@ -43,7 +43,10 @@ pub fn load_lent(
             return Ok(layout);
         }
     }
-    Err(Refusal::BadLengths)
+    Err(Refused {
+        refusal: Refusal::BadLengths,
+        known: Some(layout),
+    })
 }
 
 // ---- the call, after what loading refused
@@ -69,21 +72,24 @@ fn all_below(order: &[u8], n: usize) -> bool
     (most as usize) < n
 }
 
-// What loading refused, or trace and state, then the cores that an order names.
-pub fn judge_call(
+// The error of loading, of whatever type the caller has, then what trace and state are refused for, then the cores that an order names.
+pub fn judge_call<E: Copy + From<Refusal>>(
     file: &[u8],
     trace: &[u8],
-    loaded: Result<Layout, Refusal>,
+    loaded: Result<Layout, E>,
     s: Held,
     order: &[u8],
-) -> Result<Judgement, Refusal>
+) -> Result<Judgement, E>
     requires { LaidOut file.now loaded }
-    ensures { JudgedAs file.now trace.now (refusal_of loaded) s order.now result }
+    ensures { JudgedAs E.from_gives file.now trace.now loaded s order.now result }
 {
     let layout = loaded?;
-    let tasks = fitness::prepare(file, trace, layout, s)?;
+    let tasks = match fitness::prepare(file, trace, layout, s) {
+        Ok(tasks) => tasks,
+        Err(refused) => return Err(E::from(refused.refusal)),
+    };
     if !all_below(order, layout.cores) {
-        return Err(Refusal::NoSuchCore);
+        return Err(E::from(Refusal::NoSuchCore));
     }
     Ok(Judgement { layout, tasks })
 }

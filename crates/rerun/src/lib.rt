@@ -293,7 +293,7 @@ pub fn rerun(
 {
     let layout = match machine::load_lent(Profile::Full, file, buffer.len(), shared.len(), true) {
         Ok(layout) => layout,
-        Err(refusal) => return without_table(refusal),
+        Err(refused) => return without_table(refused.refusal),
     };
     let traces = match traces::load_trace(file, trace) {
         Ok(traces) => traces,

@@ -16,6 +16,7 @@ use machine::{answer, fresh_judged, judge_call, load_lent};
 use runner::RunAnswer;
 use states::{CoreTask, Held};
 use taskset::Layout;
+use verdict::Refusal;
 
 // The place of the exchange under way in a fit state, if there is one.
 fn aim_of(
@@ -100,7 +101,7 @@ pub fn run(
             order,
             list,
         ),
-        Err(refusal) => answer(refusal.number(), s),
+        Err(refused) => answer(refused.refusal.number(), s),
     }
 }
 
@@ -118,7 +119,8 @@ pub fn first_run_judged(
     ensures { left_as result buffer.new shared.new list.new ≡ first_run file.now trace.now order.now list.old }
 {
     let start = fresh_judged(file, layout, buffer, shared);
-    match judge_call(file, trace, Ok(layout), start.state, order) {
+    let loaded: Result<Layout, Refusal> = Ok(layout);
+    match judge_call(file, trace, loaded, start.state, order) {
         Ok(judged) => run_judged(
             file,
             trace,

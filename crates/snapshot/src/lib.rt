@@ -142,7 +142,7 @@ pub fn ring_of(file: &[u8], trace: &[u8], t: Table, semaphore: Semaphore, given:
     };
     let tasks = match fitness::prepare(file, trace, layout, s) {
         Ok(tasks) => tasks,
-        Err(refusal) => return no_ring(refusal, given, semaphore),
+        Err(refused) => return no_ring(refused.refusal, given, semaphore),
     };
     if layout.cores <= given as usize {
         return no_ring(Refusal::NoSuchCore, given, semaphore);

@@ -1,15 +1,19 @@
 -- Laws of `specs/Refusals`: a refusal has a number above 0, so a chain of items stops at it and goes on behind an answer that has none; what `?` hands on.
 -- Assumes nothing.
-use mathlib.Core.Path.{◌≡◌}
+use mathlib.Core.Path.{◌≡◌, sym, ap, ◌∙◌}
+use mathlib.Core.Logic.{◌≢◌}
 use Prim.Native.Nat.{ℕ, ◌<◌, ◌-◌}
 use native.Mathlib.Omega.{arith}
-use Rattle.std.specs.Prelude.{Result, Ok, Err}
+use borrow.Author.Tests.{eq-eqb, ne_eqb}
+use Rattle.std.specs.Prelude.{Result, Ok, Err, Option, Some, None}
 use Rattle.std.specs.Result.{IsErrAnd, IfOk}
+use Rattle.std.specs.Option.{unwrap_or}
 use Rattle.verdict.specs.declared.Refusal.{Refusal}
+use Rattle.verdict.specs.declared.Refused.{Refused}
 use Rattle.verdict.specs.declared.Refusal.TheVariants.{CutFile, NoMark, BadCore, BadVariable, Overlapping, BadInstruction, BadTarget, NoSuchCore, BadLengths, BadTrace, UnfitState, LeftOver, NotAbove, OverCount, WideType, BadSpan, FewPlaces, BadRun, BadStart, HasStarts, NotProduced, OutsideWindow}
 use Rattle.verdict.specs.Verdict.{next, first}
-use Rattle.verdict.specs.Refusals.{number_of, refusal_of}
-use Rattle.verdict.proofs.Verdict.{stop, Going, going-stop}
+use Rattle.verdict.specs.Refusals.{number_of, refusal_of, refused_number, known, where_accepted}
+use Rattle.verdict.proofs.Verdict.{pick_true, pick-false, stop, Going, going-stop}
 
 pub number-above-zero : (r : Refusal) → 0 < number_of r
 number-above-zero CutFile = omega arith
@@ -62,3 +66,23 @@ handed_on (Err y) e h k = rw h k
 pub handed_none : {A : Type 0} (r : Result A Refusal) (e : Refusal) (P : A → Type 0) {n : ℕ} → IsErrAnd r (λ (y : Refusal). y ≡ e) → number_of e ≡ n → (refusal_of r ≡ n) × IfOk r P
 handed_none (Ok a) e P h k = absurd h
 handed_none (Err y) e P h k = (rw h k, tt)
+
+-- ---- what is known where an item is accepted or refused
+
+module _ {A : Type 0} (r : ℕ) (a : A) where
+  pub accepted-known : r ≡ 0 → Some a ≡ where_accepted r a
+  unfolding where_accepted
+  accepted-known e = sym (pick_true _ _ _ (eq-eqb r 0 e))
+
+  pub refused-unknown : r ≢ 0 → None ≡ where_accepted r a
+  unfolding where_accepted
+  refused-unknown n = sym (pick-false _ _ _ (ne_eqb r 0 n))
+
+  pub known-accepted : (x : A) → r ≡ 0 → Some x ≡ where_accepted r a → x ≡ a
+  known-accepted x z e = ap (λ (o : Option A). unwrap_or o x) (e ∙ sym (accepted-known z))
+
+-- the exit of a `?` where nothing is known but the refusal
+pub handed-unknown : {A : Type 0} (r : Result A (Refused A)) (e : Refusal) {n : ℕ} {k : Option A}
+    → IsErrAnd r (λ (y : Refused A). y ≡ record { refusal = e; known = None }) → number_of e ≡ n → None ≡ k → (refused_number r ≡ n) × (known r ≡ k)
+handed-unknown (Ok a) e h p q = absurd h
+handed-unknown (Err y) e h p q = rw h (p, q)

@@ -1,7 +1,9 @@
--- What is refused, by name, with its number in documents 01 and 02; the number of an answer.
-use Rattle.std.specs.Prelude.{ℕ, Result, Ok, Err}
+-- What is refused, by name, with its number in documents 01 and 02; the number of an answer; of one that knows more than that it is refused.
+use Rattle.std.specs.Prelude.{ℕ, eqb, Result, Ok, Err, Option, Some, None}
+use Rattle.verdict.specs.Verdict.{pick}
 use Rattle.verdict.specs.Numbers.{cut_file, no_mark, bad_core, bad_variable, overlapping, bad_instruction, bad_target, left_over, wide_type_code, bad_start, no_such_core, bad_lengths, bad_trace, unfit_state, not_above, over_count, bad_span, few_places, bad_run, has_starts, not_produced, outside_window}
 use Rattle.verdict.specs.declared.Refusal.{Refusal}
+use Rattle.verdict.specs.declared.Refused.{Refused}
 use Rattle.verdict.specs.declared.Refusal.TheVariants.{CutFile, NoMark, BadCore, BadVariable, Overlapping, BadInstruction, BadTarget, NoSuchCore, BadLengths, BadTrace, UnfitState, LeftOver, NotAbove, OverCount, WideType, BadSpan, FewPlaces, BadRun, BadStart, HasStarts, NotProduced, OutsideWindow}
 
 abbrev pub number_of : Refusal → ℕ
@@ -37,3 +39,18 @@ refusal_of (Err r) = number_of r
 abbrev pub numbered : {A : Type 0} → Result A Refusal → Result A ℕ
 numbered (Ok a) = Ok a
 numbered (Err r) = Err (number_of r)
+
+-- ---- an answer whose refusal has what is known beside it
+
+abbrev pub refused_number : {A : Type 0} → Result A (Refused A) → ℕ
+refused_number (Ok a) = 0
+refused_number (Err r) = number_of r.refusal
+
+-- what is asked for, as far as it is known
+abbrev pub known : {A : Type 0} → Result A (Refused A) → Option A
+known (Ok a) = Some a
+known (Err r) = r.known
+
+-- a, where an item's refusal number is 0, and nothing where it is refused
+unfoldable pub where_accepted : {A : Type 0} → ℕ → A → Option A
+where_accepted r a = pick (eqb r 0) (Some a) None

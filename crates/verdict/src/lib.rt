@@ -2,7 +2,7 @@
 
 #![tactic(auto)]
 
-ghost use Rattle.std.specs.Prelude.{◌≡◌, ◌<◌};
+ghost use Rattle.std.specs.Prelude.{◌≡◌, ◌<◌, None};
 ghost use Rattle.verdict.specs.Refusals.{number_of, refusal_of};
 ghost use Rattle.verdict.specs.Faults.{bit_of};
 
@@ -72,6 +72,25 @@ pub fn refusal_of<T: Copy>(answer: Result<T, Refusal>) -> u8
     match answer {
         Ok(_) => 0,
         Err(refusal) => refusal.number(),
+    }
+}
+
+// A refusal, and what is known all the same of what was asked for.
+#[derive(Clone, Copy)]
+pub struct Refused<T> {
+    pub refusal: Refusal,
+    pub known: Option<T>,
+}
+
+// Of which nothing is known.
+impl<T> From<Refusal> for Refused<T> {
+    ghost from_gives = { λ refusal r. r ≡ record { refusal = refusal; known = None } };
+
+    fn from(refusal: Refusal) -> Refused<T> {
+        Refused {
+            refusal,
+            known: None,
+        }
     }
 }
 

@@ -1,10 +1,11 @@
 -- `snapshot::ring_of` meets its contract: file, trace, state and the given core are judged in this order, as in the call by value. Assumes nothing.
-use mathlib.Core.Path.{refl, sym, ap, ◌∙◌}
+use mathlib.Core.Path.{refl, sym, ap}
 use native.Mathlib.Omega.{arith}
 use Rattle.verdict.proofs.Refusals.{refused}
 use Rattle.taskset.specs.declared.Layout.{Layout}
 use Rattle.taskset.proofs.Exact.{keeps-rules}
 use Rattle.taskset.proofs.Loading.{file-judged, file-accepted, file-laid}
+use Rattle.machine.proofs.Calls.{prepared-tasks}
 use Rattle.machine.proofs.Nexts.{next-file, next-held, next-named, next-free}
 use Rattle.snapshot.proofs.Asked.{ring-refused, ring-whole}
 use Rattle.snapshot.proofs.ring_of.Goals as goal
@@ -50,4 +51,4 @@ returns c = let a = c.args in
     let laid = ap (λ (l : Layout). l.cores) (file-laid a.file.now _ c.in-Ok.ensures refl) in
     ring-whole a.file.now a.trace.now a.t a.semaphore a.given s es
     (next-free a.file.now a.trace.now s a.given accepted (sym c.in-Ok-prepare.ensures.0) (omega (arith, laid, c.if-layout-given.false)))
-    _ _ laid c.in-Ok-prepare.ensures.1
+    _ _ laid (prepared-tasks a.file.now a.trace.now s _ c.in-Ok-prepare.ensures)
