@@ -185,8 +185,13 @@ module _ (f : List ℕ) where
       unfolding answer pick
       told_free k = sym (accepted-is e ∙ (λ z. told true (one_told z) ((sym (not-not none) ∙ ap not (sym k)) z)))
 
--- ---- the number of an answer
+-- ---- the numbers of an answer
 
 pub told-number : (r : Result Lines Refusal) → refusal_of r ≡ lines_refusal (numbered r)
 told-number (Ok l) = refl
 told-number (Err x) = refl
+
+-- its byte is the same, whether the refusal is told by name or by number
+pub told-byte : (x : ℕ) (r : Result Lines Refusal) → lines_byte x r ≡ lines_byte x (numbered r)
+told-byte x (Ok l) = refl
+told-byte x (Err e) = refl

@@ -26,8 +26,8 @@ lines_refusal (Ok l) = 0
 lines_refusal (Err n) = n
 
 -- the byte that says which, where x stood in it; a refused call leaves it
-abbrev pub lines_byte : ℕ → Result Lines ℕ → ℕ
-lines_byte x (Err n) = x
+abbrev pub lines_byte : {E : Type 0} → ℕ → Result Lines E → ℕ
+lines_byte x (Err e) = x
 lines_byte x (Ok Free) = 0
 lines_byte x (Ok EachOther) = 1
 lines_byte x (Ok Ringed) = 2

@@ -162,9 +162,9 @@ pub fn check_cycles(file: &[u8]) -> Result<Lines, Refusal>
 
 // ---- its byte
 
-// The byte that says which, where `before` stood in it: 0 free, 1 cores that read each other, 2 a ring. A refusal leaves it.
-pub fn lines_byte(before: u8, lines: Result<Lines, Refusal>) -> u8
-    ensures { result ≡ lines_byte before (numbered lines) }
+// The byte that says which, where `before` stood in it: 0 free, 1 cores that read each other, 2 a ring. A refusal leaves it, whatever tells it.
+pub fn lines_byte<E: Copy>(before: u8, lines: Result<Lines, E>) -> u8
+    ensures { result ≡ lines_byte before lines }
 {
     match lines {
         Err(_) => before,
