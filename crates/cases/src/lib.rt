@@ -133,10 +133,9 @@ pub fn number(line: &[u8], k: usize) -> usize
 
 // ---- numbers behind words
 
-// How far a line was read for a number behind a word: the semicolons before, the last word, the blanks behind it, and the number with its digits so far.
+// How far a field was read for a number behind a word: the last word, the blanks behind it, and the number with its digits so far.
 #[derive(Clone, Copy)]
 struct Spelling {
-    field: usize,
     word: u64,
     blanks: usize,
     digits: usize,
@@ -163,26 +162,18 @@ fn lettered(r: Spelling, c: u8) -> Spelling {
     t
 }
 
-// No word stands in two fields.
-fn parted(r: Spelling, c: u8) -> Spelling {
-    let mut t = r;
-    if c == SEMICOLON {
-        t.word = 0;
-    }
-    t.field = passed(r.field, c);
-    t.blanks = r.blanks % 256 + 1;
-    t
-}
-
-// One character of the line, where the nth number behind a word in field k is wanted.
-fn spell(r: Spelling, c: u8, k: usize, word: u64, nth: usize) -> Spelling {
-    if c == SEMICOLON || c == BLANK {
-        return parted(r, c);
+// One character of the field, where the nth number behind a word is wanted.
+fn spell(r: Spelling, c: u8, word: u64, nth: usize) -> Spelling {
+    if c == BLANK {
+        return Spelling {
+            blanks: r.blanks % 256 + 1,
+            ..r
+        };
     }
     if 97 <= c && c <= 122 {
         return lettered(r, c);
     }
-    if r.field != k || r.word != word || r.blanks != nth {
+    if r.word != word || r.blanks != nth {
         return r;
     }
     let Some(d) = decimal_digit(c) else {
@@ -195,23 +186,38 @@ fn spell(r: Spelling, c: u8, k: usize, word: u64, nth: usize) -> Spelling {
     }
 }
 
-fn unread() -> Spelling {
+// At the start of a field: no word stands in two.
+fn entered(r: Spelling) -> Spelling {
     Spelling {
-        field: 0,
         word: 0,
         blanks: 1,
+        ..r
+    }
+}
+
+fn unread() -> Spelling {
+    Spelling {
+        word: 0,
+        blanks: 0,
         digits: 0,
         number: 0,
     }
 }
 
-// The nth number behind a word of at most eight letters in field k, below 65,536; another where the word has none. One blank stands before each number; what
+// The nth number behind a word of one to eight letters in field k, below 65,536; another where the word has none. One blank stands before each number; what
 // is no number, as a dash, holds its place.
 pub fn behind(line: &[u8], k: usize, word: &[u8], nth: usize, other: u16) -> u16 {
     let wanted = whole(word);
     let mut r = unread();
-    for c in line {
-        r = spell(r, *c, k, wanted, nth);
+    let mut field: usize = 0;
+    for part in line.split(|c| *c == SEMICOLON) {
+        if field == k {
+            r = entered(r);
+            for c in part {
+                r = spell(r, *c, wanted, nth);
+            }
+        }
+        field = passed(field, SEMICOLON);
     }
     if r.digits == 0 {
         return other;
@@ -237,11 +243,18 @@ fn lists(words: &[u8], word: u64) -> bool {
 // Whether each number in field k stands behind one of these words, so that no misspelt one is passed over.
 pub fn knows(line: &[u8], k: usize, words: &[u8]) -> bool {
     let mut r = unread();
-    for c in line {
-        r = spell(r, *c, k, 0, 0);
-        if r.field == k && decimal_digit(*c).is_some() && !lists(words, r.word) {
-            return false;
+    let mut field: usize = 0;
+    for part in line.split(|c| *c == SEMICOLON) {
+        if field == k {
+            r = entered(r);
+            for c in part {
+                r = spell(r, *c, 0, 0);
+                if decimal_digit(*c).is_some() && !lists(words, r.word) {
+                    return false;
+                }
+            }
         }
+        field = passed(field, SEMICOLON);
     }
     true
 }
