@@ -14,6 +14,8 @@ const HASH: u8 = 35;
 
 const NEW_LINE: u8 = 10;
 
+const NO_WORD: u64 = u64::MAX; // no letters spell it
+
 // ---- one field of a line
 
 // The value of a hex digit, written with capitals.
@@ -186,11 +188,11 @@ fn spell(r: Spelling, c: u8, word: u64, nth: usize) -> Spelling {
     }
 }
 
-// At the start of a field: no word stands in two.
+// At the start of a field: no word stands in two, and the semicolon counts as a blank.
 fn entered(r: Spelling) -> Spelling {
     Spelling {
         word: 0,
-        blanks: 1,
+        blanks: r.blanks % 256 + 1,
         ..r
     }
 }
@@ -204,8 +206,8 @@ fn unread() -> Spelling {
     }
 }
 
-// The nth number behind a word of one to eight letters in field k, below 65,536; another where the word has none. One blank stands before each number; what
-// is no number, as a dash, holds its place.
+// The nth number behind a word of at most eight letters in field k, below 65,536; another where the word has none. One blank stands before each number; what
+// is no number, as a dash, holds its place. Behind no word at all the blanks are counted from the last letter of the line, in fields before too.
 pub fn behind(line: &[u8], k: usize, word: &[u8], nth: usize, other: u16) -> u16 {
     let wanted = whole(word);
     let mut r = unread();
@@ -215,6 +217,11 @@ pub fn behind(line: &[u8], k: usize, word: &[u8], nth: usize, other: u16) -> u16
             r = entered(r);
             for c in part {
                 r = spell(r, *c, wanted, nth);
+            }
+        } else if wanted == 0 {
+            r = entered(r);
+            for c in part {
+                r = spell(r, *c, NO_WORD, nth);
             }
         }
         field = passed(field, SEMICOLON);
@@ -294,3 +301,6 @@ pub fn is_case(line: &[u8]) -> bool {
         None => false,
     }
 }
+
+#[cfg(test)]
+mod tests;
