@@ -138,16 +138,21 @@ module _ (o : Profile) (f : List ℕ) (buffer shared : ℕ) (room : Bool) where
     unfolding lent_refusal
     lent_fits_lem = (both_true _ _ (unless-zero _ 20 (next-zero _ _ (sym z)).1)).0
 
-  pub lent_laid : (r : Result Layout (Refused Layout)) → (refused_number r ≡ lent_refusal o f buffer shared room) × (known r ≡ where_accepted (judge_for o f) (layout_of f)) → LaidOut f r
-  lent_laid (Ok l) e = (lent-accepted e.0, known-accepted _ _ l (lent-carried e.0) e.1)
+  pub lent_laid : (r : Result Layout Refusal) → (refusal_of r ≡ lent_refusal o f buffer shared room) × IfOk r (λ l. l ≡ layout_of f) → LaidOut f r
+  lent_laid (Ok l) e = (lent-accepted e.0, e.1)
   lent_laid (Err r) e = tt
 
-pub lent-to : (o : Profile) (f d sh : List ℕ) (room : Bool) (l : Layout) → (0 ≡ lent_refusal o f (length d) (length sh) room) × (Some l ≡ where_accepted (judge_for o f) (layout_of f)) → LentTo f l d sh
-lent-to o f d sh room l e = record {
-  accepted = lent-accepted o f (length d) (length sh) room e.0;
-  laid = known-accepted _ _ l (lent-carried o f (length d) (length sh) room e.0) e.1;
-  fits = lent_fits_lem o f (length d) (length sh) room e.0;
-}
+  -- of an answer whose refusal has what is known beside it
+  pub lent_laid-known : (r : Result Layout (Refused Layout)) → (refused_number r ≡ lent_refusal o f buffer shared room) × (known r ≡ where_accepted (judge_for o f) (layout_of f)) → LaidOut f r
+  lent_laid-known (Ok l) e = lent_laid (Ok l) (e.0, known-accepted _ _ l (lent-carried e.0) e.1)
+  lent_laid-known (Err r) e = tt
+
+pub lent-to : (o : Profile) (f d sh : List ℕ) (room : Bool) (l : Layout) → (0 ≡ lent_refusal o f (length d) (length sh) room) × (l ≡ layout_of f) → LentTo f l d sh
+lent-to o f d sh room l e =
+    record { accepted = lent-accepted o f (length d) (length sh) room e.0; laid = e.1; fits = lent_fits_lem o f (length d) (length sh) room e.0 }
+
+pub lent-to-known : (o : Profile) (f d sh : List ℕ) (room : Bool) (l : Layout) → (0 ≡ lent_refusal o f (length d) (length sh) room) × (Some l ≡ where_accepted (judge_for o f) (layout_of f)) → LentTo f l d sh
+lent-to-known o f d sh room l e = lent-to o f d sh room l (e.0, known-accepted _ _ l (lent-carried o f (length d) (length sh) room e.0) e.1)
 
 -- a file that is loaded, and no memory lent
 pub loaded-laid : (f : List ℕ) (r : Result Layout Refusal) → loaded_as r ≡ load_of f → LaidOut f r

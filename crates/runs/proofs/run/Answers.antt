@@ -2,12 +2,12 @@
 use mathlib.Core.Path.{sym, ◌∙◌}
 use Rattle.verdict.proofs.Refusals.{refused}
 use Rattle.code.specs.declared.Profile.TheVariants.{Full}
-use Rattle.machine.proofs.Calls.{lent_laid, judged-refused, run-number, run-refused, run-granted}
+use Rattle.machine.proofs.Calls.{lent_laid-known, judged-refused, run-number, run-refused, run-granted}
 use Rattle.runs.proofs.run.Goals as goal
 
 pub judge_call-requires : goal.judge_call-requires
 judge_call-requires c = let a = c.args in
-    lent_laid Full a.file.now _ _ _ _ c.load_lent-loaded.ensures
+    lent_laid-known Full a.file.now _ _ _ _ c.load_lent-loaded.ensures
 
 pub run_judged-requires : goal.run_judged-requires
 run_judged-requires c = let a = c.args in

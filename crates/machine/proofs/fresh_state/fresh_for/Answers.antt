@@ -1,16 +1,16 @@
 -- `machine::fresh_for` meets its contract: the file is judged, then the lent memory, which is filled. Assumes nothing.
 use mathlib.Core.Path.{sym, ◌∙◌}
 use Rattle.verdict.proofs.Refusals.{refused}
-use Rattle.machine.proofs.Calls.{lent-to, fresh-number, fresh-refused-for, fresh-any}
+use Rattle.machine.proofs.Calls.{lent-to-known, fresh-number, fresh-refused-for, fresh-any}
 use Rattle.machine.proofs.fresh_state.fresh_for.Goals as goal
 
 pub fresh_judged-requires : goal.fresh_judged-requires
 fresh_judged-requires c = let a = c.args in
-    lent-to a.profile a.file.now a.buffer.now a.shared.now _ _ c.in-Ok.ensures
+    lent-to-known a.profile a.file.now a.buffer.now a.shared.now _ _ c.in-Ok.ensures
 
 pub returns-in-Ok : goal.returns-in-Ok
 returns-in-Ok c = let a = c.args in
-    let lent = lent-to a.profile a.file.now a.buffer.now a.shared.now _ _ c.in-Ok.ensures in
+    let lent = lent-to-known a.profile a.file.now a.buffer.now a.shared.now _ _ c.in-Ok.ensures in
     c.fresh_judged.ensures
     ∙ fresh-any a.profile a.file.now a.buffer.now a.shared.now lent.accepted lent.fits
     (sym (fresh-number a.profile a.file.now a.buffer.now a.shared.now _ c.in-Ok.ensures.0))
