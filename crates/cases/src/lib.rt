@@ -207,7 +207,8 @@ fn unread() -> Spelling {
 }
 
 // The nth number behind a word of at most eight letters in field k, below 65,536; another where the word has none. One blank stands before each number; what
-// is no number, as a dash, holds its place. Behind no word at all the blanks are counted from the last letter of the line, in fields before too.
+// is no number, as a dash, holds its place. With no word it is a number in front of the field's first word: blanks and semicolons are counted from the last
+// letter before it, whatever field has that letter, and from 1 where the line has none before.
 pub fn behind(line: &[u8], k: usize, word: &[u8], nth: usize, other: u16) -> u16 {
     let wanted = whole(word);
     let mut r = unread();
